@@ -1,0 +1,81 @@
+-- The translation of addresses (document 01, "The disc and its addresses"; 004, section 3). Each translation has
+-- its refusals as one list of tests, in the checking order of 01, "Why a call is turned down", and then its value.
+use Prim.Native.Nat.{ℕ, _+_}
+use mathlib.Core.Bool.{not}
+use mathlib.Core.List.{List, [], _∷_, _++_}
+use lib.ListN.{length, getD}
+use lib.Dec.{eqb, ltb, leb}
+use Rattle.refusal.specs.declared.Refusal.the-variants.{SpanOutside, NumberOutside, UnusedEntry}
+use Rattle.refusal.specs.declared.Verdict.{Verdict}
+use Rattle.refusal.specs.declared.Verdict.the-variants.{Go, Stop}
+use Rattle.refusal.specs.Tests.{Test, test, first}
+use Rattle.address.specs.declared.VirtualAddress.{VirtualAddress}
+use Rattle.address.specs.declared.LogicalAddress.{LogicalAddress}
+use Rattle.address.specs.declared.PhysicalAddress.{PhysicalAddress}
+use Rattle.address.specs.declared.MediaBlockAddress.{MediaBlockAddress}
+use Rattle.address.specs.declared.Span.{Span}
+use Rattle.address.specs.declared.ToLogical.{ToLogical}
+use Rattle.address.specs.declared.ToPhysical.{ToPhysical}
+
+-- the entry of a virtual address that is unused (01, "The VAT and its ICB")
+abbrev pub none : ℕ
+none = 4294967295
+
+-- the most sectors that a disc has (01, "The disc and its addresses")
+abbrev pub mostSectors : ℕ
+mostSectors = 1048576
+
+-- a logical address, or the refusal of the first test that does not hold (01, "Why a call is turned down")
+abbrev pub unlessLogical : Verdict → LogicalAddress → ToLogical
+unlessLogical Go a = ToLogical.At a
+unlessLogical (Stop why) a = ToLogical.Refused why
+
+-- a physical address, or the refusal of the first test that does not hold (01, "Why a call is turned down")
+abbrev pub unlessPhysical : Verdict → PhysicalAddress → ToPhysical
+unlessPhysical Go a = ToPhysical.At a
+unlessPhysical (Stop why) a = ToPhysical.Refused why
+
+-- line 2, as far as it can be tested with no disc lent: what every disc breaks (01, "Why a call is turned down")
+abbrev pub spanTests : Span → List Test
+spanTests s =
+    test (not (eqb (s .length) 0)) SpanOutside ∷
+    test (leb (s .start + s .length) mostSectors) SpanOutside ∷
+    []
+
+-- line 12 for v, and line 13: there is such an entry, and it is used (01, "Why a call is turned down")
+abbrev pub entryTests : List ℕ → VirtualAddress → List Test
+entryTests entries v =
+    test (ltb (v .0) (length entries)) NumberOutside ∷
+    test (not (eqb (getD entries (v .0) 0) none)) UnusedEntry ∷
+    []
+
+-- line 12 for b: the partition has such a block (01, "Why a call is turned down")
+abbrev pub blockTests : Span → LogicalAddress → List Test
+blockTests s b = test (ltb (b .0) (s .length)) NumberOutside ∷ []
+
+-- the logical address that the VAT gives for a virtual one (01, "The disc and its addresses": place in the VAT)
+abbrev pub entryOf : List ℕ → VirtualAddress → LogicalAddress
+entryOf entries v = record { 0 = getD entries (v .0) 0 }
+
+-- logical b is physical S + b (01, "The disc and its addresses")
+abbrev pub sectorOf : Span → LogicalAddress → PhysicalAddress
+sectorOf s b = record { 0 = s .start + b .0 }
+
+-- a virtual address, by the entries of a VAT (01, "The disc and its addresses")
+unfoldable pub logicalOf : List ℕ → VirtualAddress → ToLogical
+logicalOf entries v = unlessLogical (first (entryTests entries v)) (entryOf entries v)
+
+-- a logical address, on the disc (01, "The disc and its addresses")
+unfoldable pub physicalOf : Span → LogicalAddress → ToPhysical
+physicalOf s b = unlessPhysical (first (spanTests s ++ blockTests s b)) (sectorOf s b)
+
+-- a media block address, on the disc: lent bytes are mapped by no device (01, "The disc and its addresses")
+abbrev pub physicalOfMedia : MediaBlockAddress → PhysicalAddress
+physicalOfMedia m = record { 0 = m .0 }
+
+-- a virtual address, on the disc: by the VAT, then by the partition (01, "The disc and its addresses")
+unfoldable pub physicalOfVirtual : Span → List ℕ → VirtualAddress → ToPhysical
+physicalOfVirtual s entries v =
+    unlessPhysical
+    (first (spanTests s ++ entryTests entries v ++ blockTests s (entryOf entries v)))
+    (sectorOf s (entryOf entries v))

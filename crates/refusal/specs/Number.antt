@@ -1,0 +1,28 @@
+-- The number of each refusal: its line in document 01, "Why a call is turned down".
+use Prim.Native.Nat.{ℕ}
+use Rattle.refusal.specs.declared.Refusal.{Refusal}
+use Rattle.refusal.specs.declared.Refusal.the-variants.{DiscShape, SpanOutside, LentLength, MapCut, NeitherKind, Misaligned, OtherKind, NoTable, TooManyEntries, CopiesDiffer, StaleRecord, NumberOutside, UnusedEntry, NotRecorded, PassesAsIcb, NoRoom, OneTable, AlreadySpared, NoSpare, LastSequence, NotBlank}
+
+-- the line of 01 by which a call is turned down
+abbrev pub numberOf : Refusal → ℕ
+numberOf DiscShape = 1
+numberOf SpanOutside = 2
+numberOf LentLength = 3
+numberOf MapCut = 4
+numberOf NeitherKind = 5
+numberOf Misaligned = 6
+numberOf OtherKind = 7
+numberOf NoTable = 8
+numberOf TooManyEntries = 9
+numberOf CopiesDiffer = 10
+numberOf StaleRecord = 11
+numberOf NumberOutside = 12
+numberOf UnusedEntry = 13
+numberOf NotRecorded = 14
+numberOf PassesAsIcb = 15
+numberOf NoRoom = 16
+numberOf OneTable = 17
+numberOf AlreadySpared = 18
+numberOf NoSpare = 19
+numberOf LastSequence = 20
+numberOf NotBlank = 21
