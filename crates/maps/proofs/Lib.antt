@@ -1,0 +1,6 @@
+pub mod Tests
+pub mod Walk
+pub mod Tables
+pub mod Reading
+pub mod Writing
+pub mod Laws

@@ -1,0 +1,4 @@
+pub mod Walk
+pub mod Kinds
+pub mod Written
+pub mod Told

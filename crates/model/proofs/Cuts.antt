@@ -1,0 +1,60 @@
+-- When a write of a call that was cut is whole. Assumes nothing.
+use Prim.Native.Nat.{ℕ, _≤_}
+use mathlib.Core.Bool.{true, false, _&&_, false≢true}
+use mathlib.Core.Logic.{_≢_}
+use mathlib.Core.Path.{_≡_, refl, sym, _∙_}
+use native.Mathlib.Omega.{arith}
+use lib.Dec.{ltb, eqb}
+use borrow.Author.Tests.{ltb-true, eqb-true, lt-ltb, eq-eqb}
+use Rattle.model.specs.declared.Cut.{Cut}
+use Rattle.model.specs.declared.Effect.{Effect}
+use Rattle.model.specs.declared.Landing.{Landing}
+use Rattle.model.specs.Writes.{onEffect, landing}
+use Rattle.model.specs.Store.{isWhole, wholeAt}
+use Rattle.model.proofs.Basics.{by-bool, by-lt, by-eq, and-true, both, or-cases, or-left, or-right, differ}
+use Rattle.model.proofs.Sectors.{landing-before, landing-at, landing-after}
+
+-- a write of a cut call is whole exactly if it lands as done
+whole-effect : (f : Effect) → isWhole f ≡ true → onEffect f ≡ Landing.Done
+unfolding isWhole onEffect
+whole-effect Effect.Old q = absurd (false≢true q)
+whole-effect Effect.Unreadable q = absurd (false≢true q)
+whole-effect Effect.Whole q = refl
+
+pub whole-lands : (n : ℕ) (c : Cut) → 1 ≤ n → wholeAt n c ≡ true → landing n c ≡ Landing.Done
+unfolding wholeAt
+whole-lands n c h q =
+    or-cases (ltb n (c .at)) _ q
+    (λ w. landing-before n c (ltb-true _ _ w))
+    (λ w.
+    let p = and-true (eqb n (c .at)) _ w in
+    landing-at n c (sym (eqb-true _ _ (p .0))) h ∙ whole-effect (c .effect) (p .1))
+
+unreadable-differs : Landing.Unreadable ≡ Landing.Done → ⊥
+unreadable-differs q = let z : _≡_ {A = ℕ} 0 1 = cc in omega arith
+
+old-differs : Landing.Old ≡ Landing.Done → ⊥
+old-differs q = let z : _≡_ {A = ℕ} 0 1 = cc in omega arith
+
+untouched-differs : Landing.Untouched ≡ Landing.Done → ⊥
+untouched-differs q = let z : _≡_ {A = ℕ} 0 1 = cc in omega arith
+
+broken-effect : (f : Effect) → isWhole f ≡ false → onEffect f ≢ Landing.Done
+unfolding isWhole onEffect
+broken-effect Effect.Old q = old-differs
+broken-effect Effect.Unreadable q = unreadable-differs
+broken-effect Effect.Whole q = absurd (false≢true (sym q))
+
+-- and where it is not whole it lands otherwise
+pub broken-lands : (n : ℕ) (c : Cut) → 1 ≤ n → 1 ≤ c .at → wholeAt n c ≡ false → landing n c ≢ Landing.Done
+unfolding wholeAt
+broken-lands n c h k q w =
+    by-lt n (c .at)
+    (λ u. differ (or-left (eqb n (c .at) && isWhole (c .effect)) (lt-ltb n (c .at) u)) q)
+    (λ u.
+    by-eq (c .at) n
+    (λ v.
+    by-bool (isWhole (c .effect))
+    (λ x. differ (or-right (ltb n (c .at)) (both (eq-eqb n (c .at) (sym v)) x)) q)
+    (λ x. broken-effect (c .effect) x (sym (landing-at n c v h) ∙ w)))
+    (λ v. untouched-differs (sym (landing-after n c k (omega arith)) ∙ w)))

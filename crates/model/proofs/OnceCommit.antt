@@ -1,0 +1,283 @@
+-- A commit on a write-once disc keeps the invariant, wherever it is cut: its VAT is found again exactly if its ICB is whole. Assumes nothing.
+use Prim.Native.Nat.{ℕ, _+_, _-_, _*_, _≤_, _<_}
+use mathlib.Core.Bool.{true, false}
+use mathlib.Core.Logic.{_≢_}
+use mathlib.Core.Path.{_≡_, refl, sym, ap, _∙_, subst}
+use mathlib.Core.List.{List, [], _∷_, _++_}
+use native.Mathlib.Omega.{arith}
+use lib.Dec.{leb, eqb}
+use lib.ListN.{length, take, length-append}
+use lib.Seq.{length-take-le}
+use borrow.Author.Tests.{leb-true, lt-ltb}
+use Rattle.refusal.specs.declared.Verdict.the-variants.{Go}
+use Rattle.fields.proofs.Laws.{part-all}
+use Rattle.model.specs.declared.Cut.{Cut}
+use Rattle.model.specs.declared.Landing.{Landing}
+use Rattle.model.specs.declared.Record.{Record}
+use Rattle.model.specs.Disc.{Disc, mark, recordedRun, joined, nwa}
+use Rattle.model.specs.Writes.{Write, landing, landed, writes, upward, struck}
+use Rattle.model.specs.Vat.{allBelow, belowOrNone, passes, vatIcb, vatFile, entriesOf, previousOf, fileOf}
+use Rattle.model.specs.VatWritten.{dataSectors, writtenFile, writtenData, writtenIcb}
+use Rattle.model.specs.Examine.{Setting, lentTable}
+use Rattle.model.specs.Once.{nextOn, entriesHeld, nextHeld, lastHeld, onceVerdict, roomToCommit, commitTests, icbBlock, commitWrites, commitPlan}
+use Rattle.model.specs.Calls.{commit, State, step}
+use Rattle.model.specs.Store.{Slot, entrySlots, Store, Shape, cutIn, writesIn, wholeAt, taken}
+use Rattle.model.proofs.Basics.{by-bool, by-lt, and-true, both, or-right}
+use Rattle.model.proofs.Agree.{Agree, agree-less, agree-trans}
+use Rattle.model.proofs.Scan.{below-mono, not-recorded, slots-agree}
+use Rattle.model.proofs.Sectors.{Made, shapely-made, shapely-most, inside-fits, landed-shapely, landed-inside, sector-done, mark-done, recorded-done, writes-append, writes-one, landing-uncut, landing-done-before, nwa-is}
+use Rattle.model.proofs.SectorsRuns.{joined-agree, recordedRun-agree, length-upward, upward-joined, upward-recordedRun}
+use Rattle.model.proofs.WrittenVat.{length-data, length-icb, file-count, file-entries, file-previous, icb-file, icb-passes, data-never}
+use Rattle.model.proofs.Once.{Kept, BlankFrom, Ran, on-disc, agree-landed, blank-landed, kept-write, kept-run}
+use Rattle.model.proofs.OnceRead.{onceHeld, Live, live-blank, live-last, live-length}
+use Rattle.model.proofs.Cuts.{whole-lands, broken-lands}
+use Rattle.model.proofs.OnceSave.{OnceOk, once-tells}
+use Rattle.model.proofs.Steps.{Sound, sound-plan, sound-carried}
+
+-- a commit of the first n entries of t, from block i₀ on, naming the ICB at `last`
+module _ (s l : ℕ) (d : Disc) (c : Cut) (t : List ℕ) (i₀ last : ℕ) {a : ℕ} {old : List Slot} (κ : Kept s l d a old) (z : BlankFrom s l d i₀)
+    (few : length t ≤ 4096) (fresh : allBelow i₀ t ≡ true) (before : last < i₀) (room : i₀ + dataSectors (length t) + 1 ≤ l) where
+  -- the number of data sectors, the block of the ICB, the data and the ICB
+  abbrev D : ℕ
+  D = dataSectors (length t)
+
+  abbrev k : ℕ
+  k = i₀ + D
+
+  abbrev body : List ℕ
+  body = writtenData t last
+
+  abbrev icb : List ℕ
+  icb = writtenIcb k t last
+
+  -- the disc once the data are written, and then the ICB
+  abbrev d₁ : Disc
+  d₁ = writes 1 c (upward D (s + i₀) body 0) d
+
+  abbrev d₂ : Disc
+  d₂ = landed (landing (1 + D) c) (s + k) icb d₁
+
+  small : k < 1048576
+  small = omega (arith, inside-fits d s l (κ .within) .1, shapely-most d (κ .shape))
+
+  below-k : allBelow k t ≡ true
+  below-k = below-mono i₀ k t (omega arith) fresh
+
+  before-k : belowOrNone k last ≡ true
+  unfolding belowOrNone
+  before-k = or-right (eqb last _) (lt-ltb last k (omega arith))
+
+  enough : 2048 * D ≤ length body
+  enough = by-lt 0 D (λ h. omega (arith, length-data t last h)) (λ h. omega arith)
+
+  ran : Ran s l i₀ D d₁ d a old
+  ran = kept-run D 1 c s l i₀ body 0 d κ (omega arith) z (omega (arith, enough)) (λ j h q. let w : 0 + 2048 * j ≡ 2048 * j = omega arith in rw w (data-never t last k below-k before-k small j q))
+
+  on-k : s + k < length (d₁ .marks)
+  on-k = on-disc s l d₁ k (ran .kept .within) (omega arith)
+
+  made₁ : Made d₁
+  made₁ = shapely-made d₁ (ran .kept .shape)
+
+  long-icb : length icb ≡ 2048
+  long-icb = length-icb t last k
+
+  -- where the ICB is not whole the VAT before it is kept
+  pub torn-kept : landing (1 + D) c ≢ Landing.Done → Kept s l d₂ a old
+  torn-kept broken = kept-write (landing (1 + D) c) s l k icb d₁ (ran .kept) (omega arith) (ran .blank) long-icb (λ q. absurd (broken q))
+
+  -- where it is whole the new VAT is found
+  module _ (whole : landing (1 + D) c ≡ Landing.Done) where
+    abbrev d₃ : Disc
+    d₃ = landed Landing.Done (s + k) icb d₁
+
+    all-done : (i : ℕ) → i < D → landing (1 + i) c ≡ Landing.Done
+    all-done i h = landing-done-before (1 + D) (1 + i) c whole (omega arith) (omega arith)
+
+    agree₁ : Agree s k d₃ d₁
+    agree₁ = agree-landed Landing.Done s k icb d₁ long-icb on-k made₁
+
+    agree₀ : Agree s i₀ d₃ d
+    agree₀ = agree-trans (agree-less i₀ (omega arith) agree₁) (ran .agree)
+
+    back : s + (k - D) ≡ s + i₀
+    back = omega arith
+
+    fits : s + i₀ + D ≤ length (d .marks)
+    fits = omega (arith, inside-fits d s l (κ .within) .1)
+
+    held : 1 ≤ D → joined d₃ (s + (k - D)) D ≡ body
+    held h =
+        ap (λ (p : ℕ). joined d₃ p D) back
+        ∙ joined-agree d₃ d₁ (s + i₀) D
+        (λ i q. let w : s + i₀ + i ≡ s + (i₀ + i) = omega arith in rw w (agree₁ .sectors (i₀ + i) (omega arith)))
+        ∙ upward-joined D 1 c (s + i₀) body 0 d (shapely-made d (κ .shape)) fits (omega (arith, enough)) all-done
+        ∙ part-all body (2048 * D) (omega (arith, length-data t last h))
+
+    run : recordedRun d₃ (s + (k - D)) D ≡ true
+    run =
+        ap (λ (p : ℕ). recordedRun d₃ p D) back
+        ∙ recordedRun-agree d₃ d₁ (s + i₀) D
+        (λ i q. let w : s + i₀ + i ≡ s + (i₀ + i) = omega arith in rw w (agree₁ .marks (i₀ + i) (omega arith)))
+        ∙ upward-recordedRun D 1 c (s + i₀) body 0 d fits all-done
+
+    here : vatIcb d₃ s k ≡ true
+    unfolding vatIcb
+    here =
+        both (recorded-done (s + k) icb d₁ on-k)
+        (ap (passes d₃ s k) (sector-done (s + k) icb d₁ long-icb on-k made₁)
+        ∙ icb-passes t last k few below-k before-k small d₃ s (omega arith) run held)
+
+    -- the file of the new ICB is the one that was written, and so it names the ICB before it
+    file : vatFile d₃ s k ≡ writtenFile t last
+    unfolding vatFile
+    file =
+        ap (fileOf d₃ s) (sector-done (s + k) icb d₁ long-icb on-k made₁)
+        ∙ icb-file t last k few small d₃ s held
+
+    blank₃ : BlankFrom s l d₃ (k + 1)
+    blank₃ = blank-landed Landing.Done s l k icb d₁ (ran .blank)
+
+    kept₃ : Kept s l d₃ k (entrySlots d s t)
+    kept₃ =
+        record {
+          shape = landed-shapely Landing.Done (s + k) icb d₁ long-icb on-k (ran .kept .shape);
+          within = sym (landed-inside Landing.Done (s + k) icb d₁ s l) ∙ ran .kept .within;
+          newest = record {
+            here = here;
+            below = omega arith;
+            above = λ j u v. not-recorded d₃ s j 0 (blank₃ .blank j (omega arith) v) (omega arith);
+          };
+          few = rw (file, file-count t last) few;
+          same =
+              ap (λ (f : List ℕ). entrySlots d₃ s (entriesOf f)) file
+              ∙ ap (entrySlots d₃ s) (file-entries t last k below-k small)
+              ∙ slots-agree t agree₀ fresh;
+        }
+
+    is-whole : d₂ ≡ d₃
+    is-whole = ap (λ (x : Landing). landed x (s + k) icb d₁) whole
+
+    pub whole-kept : Kept s l d₂ k (entrySlots d s t)
+    whole-kept = rw is-whole kept₃
+
+    pub whole-agree : Agree s i₀ d₂ d
+    whole-agree = rw is-whole agree₀
+
+    pub whole-next : k + 1 ≡ nwa d₂ s l
+    whole-next =
+        rw is-whole
+        (sym (nwa-is d₃ s l (k + 1) (omega arith) (blank₃ .blank)
+        (λ _ q. let w : s + (k + 1 - 1) ≡ s + k = omega arith in
+        omega (arith, ap (mark d₃) (sym w) ∙ q, mark-done (s + k) icb d₁ on-k))))
+
+    -- the new ICB names the one before it
+    pub whole-previous : previousOf (vatFile d₂ s k) ≡ last
+    whole-previous = rw is-whole (ap previousOf file ∙ file-previous t last k before-k small)
+
+-- the writes of a commit, by the number of the entries
+commit-writes : (e : Setting) (t : List ℕ) (held : Record) → entriesHeld held ≡ length t
+    → commitWrites e t held
+    ≡ upward (dataSectors (length t)) (e .start + nextHeld held) (writtenData t (lastHeld held)) 0
+    ++ (record { place = e .start + (nextHeld held + dataSectors (length t)); bytes = writtenIcb (nextHeld held + dataSectors (length t)) t (lastHeld held) } ∷ [])
+unfolding commitWrites icbBlock
+commit-writes e t held q = rw q
+
+-- the disc after them
+commit-disc : (c : Cut) (D p : ℕ) (body : List ℕ) (w : Write) (d : Disc)
+    → writes 1 c (upward D p body 0 ++ (w ∷ [])) d ≡ landed (landing (1 + D) c) (w .place) (w .bytes) (writes 1 c (upward D p body 0) d)
+commit-disc c D p body w d =
+    writes-append 1 c (upward D p body 0) (w ∷ []) d
+    ∙ ap (λ (n : ℕ). writes (1 + n) c (w ∷ []) (writes 1 c (upward D p body 0) d)) (length-upward D p body 0)
+    ∙ writes-one (1 + D) c (w .place) (w .bytes) (writes 1 c (upward D p body 0) d)
+
+module _ (e : Setting) (h : Shape) (st : State) (σ : Store) (i : Live e st σ) (c : Cut)
+    (g : onceVerdict e (st .disc) (st .table) (lentTable (st .table)) (st .held) (commitTests e (st .held)) ≡ Go) where
+  abbrev t′ : List ℕ
+  t′ = take (entriesHeld (st .held)) (st .table)
+
+  abbrev D′ : ℕ
+  D′ = dataSectors (length t′)
+
+  abbrev ws : List Write
+  ws = commitWrites e t′ (st .held)
+
+  count : length t′ ≡ entriesHeld (st .held)
+  count = length-take-le (entriesHeld (st .held)) (st .table) (omega (arith, i .few, i .lent))
+
+  space : nextHeld (st .held) + D′ + 1 ≤ e .span
+  unfolding commitTests roomToCommit
+  space =
+      let p = once-tells e (st .disc) (st .table) _ (st .held) (commitTests e (st .held)) g in
+      let r : nextHeld (st .held) + dataSectors (entriesHeld (st .held)) + 1 ≤ e .span = leb-true _ _ (p .1 .0) in
+      omega (arith, ap dataSectors count)
+
+  few′ : length t′ ≤ 4096
+  few′ = omega (arith, count, i .few)
+
+  is-disc : writes 1 c ws (st .disc) ≡ d₂ (e .start) (e .span) (st .disc) c t′ (nextHeld (st .held)) (lastHeld (st .held)) (i .kept) (live-blank e st σ i) few′ (i .fresh) (live-last e st σ i) space
+  is-disc =
+      ap (λ (x : List Write). writes 1 c x (st .disc)) (commit-writes e t′ (st .held) (sym count))
+      ∙ commit-disc c D′ (e .start + nextHeld (st .held)) (writtenData t′ (lastHeld (st .held))) _ (st .disc)
+
+  number : length ws ≡ D′ + 1
+  number =
+      ap length (commit-writes e t′ (st .held) (sym count))
+      ∙ length-append (upward D′ (e .start + nextHeld (st .held)) (writtenData t′ (lastHeld (st .held))) 0) _
+      ∙ ap (λ (n : ℕ). n + 1) (length-upward D′ (e .start + nextHeld (st .held)) (writtenData t′ (lastHeld (st .held))) 0)
+
+  told : writesIn h σ (commit c) ≡ D′ + 1
+  unfolding writesIn
+  told = ap (λ (n : ℕ). dataSectors n + 1) (live-length e st σ i ∙ sym count)
+
+  whole-commit : landing (1 + D′) c ≡ Landing.Done → Kept (e .start) (e .span) (writes 1 c ws (st .disc)) (nextHeld (st .held) + D′) (σ .blocks)
+  whole-commit q =
+      rw (is-disc, ← i .now)
+      (whole-kept (e .start) (e .span) (st .disc) c t′ (nextHeld (st .held)) (lastHeld (st .held)) (i .kept) (live-blank e st σ i) few′ (i .fresh) (live-last e st σ i) space q)
+
+  torn-commit : landing (1 + D′) c ≢ Landing.Done → Kept (e .start) (e .span) (writes 1 c ws (st .disc)) (lastHeld (st .held)) (σ .copy)
+  torn-commit q =
+      rw is-disc
+      (torn-kept (e .start) (e .span) (st .disc) c t′ (nextHeld (st .held)) (lastHeld (st .held)) (i .kept) (live-blank e st σ i) few′ (i .fresh) (live-last e st σ i) space q)
+
+  cut-commit : struck c (length ws) ≡ true
+      → OnceOk e true (record { disc = writes 1 c ws (st .disc); table = st .table; held = st .held }) (taken h σ (commit c) true)
+  unfolding OnceOk taken struck
+  cut-commit q =
+      let p = and-true (leb 1 (c .at)) _ q in
+      by-bool (wholeAt (D′ + 1) c)
+      (λ w.
+      let v : 1 + D′ ≡ D′ + 1 = omega arith in
+      rw (told, w) (nextHeld (st .held) + D′, whole-commit (rw v (whole-lands (D′ + 1) c (omega arith) w)), i .lent))
+      (λ w.
+      let v : 1 + D′ ≡ D′ + 1 = omega arith in
+      rw (told, w) (lastHeld (st .held), torn-commit (rw v (broken-lands (D′ + 1) c (omega arith) (leb-true _ _ (p .0)) w)), i .lent))
+
+  done-commit : struck c (length ws) ≡ false
+      → Live e (record { disc = writes 1 c ws (st .disc); table = st .table; held = Record.WriteOnce (entriesHeld (st .held)) (icbBlock (st .held) + 1) (icbBlock (st .held)) })
+      (record { blocks = σ .blocks; copy = σ .blocks })
+  unfolding onceHeld entriesHeld nextHeld lastHeld icbBlock nextOn
+  done-commit q =
+      let w : landing (1 + D′) c ≡ Landing.Done = landing-uncut (1 + D′) (length ws) c q (omega arith) (omega (arith, number)) in
+      let n = nextHeld (st .held) in
+      let a = whole-agree (e .start) (e .span) (st .disc) c t′ n (lastHeld (st .held)) (i .kept) (live-blank e st σ i) few′ (i .fresh) (live-last e st σ i) space w in
+      let m = whole-next (e .start) (e .span) (st .disc) c t′ n (lastHeld (st .held)) (i .kept) (live-blank e st σ i) few′ (i .fresh) (live-last e st σ i) space w in
+      let k′ : n + D′ ≡ n + dataSectors (entriesHeld (st .held)) = ap (λ (x : ℕ). n + dataSectors x) count in
+      record {
+        once = refl;
+        kept = subst (λ (x : ℕ). Kept (e .start) (e .span) (writes 1 c ws (st .disc)) x (σ .blocks)) k′ (whole-commit w);
+        top = ap (λ (x : ℕ). x + 1) (sym k′) ∙ m ∙ ap (λ (x : Disc). nwa x (e .start) (e .span)) (sym is-disc);
+        fresh = below-mono n _ t′ (omega arith) (i .fresh);
+        few = i .few;
+        lent = i .lent;
+        now = ap (λ (x : Disc). entrySlots x (e .start) t′) is-disc ∙ slots-agree t′ a (i .fresh) ∙ i .now;
+      }
+
+-- a commit, refused, cut or carried out
+pub sound-commit : (e : Setting) (h : Shape) (st : State) (σ : Store) → Live e st σ → (c : Cut) → Sound (OnceOk e) h σ (commit c) (step e st (commit c))
+unfolding step commitPlan OnceOk cutIn taken
+sound-commit e h st σ i c =
+    sound-plan (OnceOk e) h σ (commit c) c st _ _ _ _ i λ g.
+    sound-carried (OnceOk e) h σ (commit c) c st _ _ _ refl (told e h st σ i c g ∙ sym (number e h st σ i c g))
+    (cut-commit e h st σ i c g)
+    (done-commit e h st σ i c g)

@@ -1,0 +1,88 @@
+-- Demand 3 on a write-once disc. Assumes nothing.
+use Prim.Native.Nat.{ℕ}
+use mathlib.Core.Bool.{Bool, true, false, not, false≢true}
+use mathlib.Core.Path.{_≡_, refl, sym, subst}
+use mathlib.Core.List.{List, _∷_, _++_}
+use Rattle.refusal.specs.declared.Refusal.the-variants.{OtherKind, StaleRecord}
+use Rattle.refusal.specs.declared.Verdict.the-variants.{Go}
+use Rattle.refusal.specs.Tests.{Test, test}
+use Rattle.refusal.proofs.Laws.{passed}
+use Rattle.maps.specs.Kinds.{readMaps}
+use Rattle.model.specs.declared.Record.{Record}
+use Rattle.model.specs.Disc.{Disc}
+use Rattle.model.specs.Examine.{Setting, writeOnce, examined}
+use Rattle.model.specs.Once.{lastHeld}
+use Rattle.model.specs.Rewrite.{copyTests, heldCurrent, rewritableVerdict, saveBlockPlan, savePacketPlan, sparePlan}
+use Rattle.model.specs.Both.{opening, openedBy, openVerdict}
+use Rattle.model.specs.Calls.{Call, saveVirtual, freeVirtual, commit, saveBlock, savePacket, sparePacket, openDisc, State, step, answers, answerOfOpening, isOpened, Proper}
+use Rattle.model.specs.Store.{Store, Shape, shapeOf, start}
+use Rattle.model.specs.Demand.{afterOpening, Kept}
+use Rattle.model.proofs.Verdicts.{by-verdict, then-go, examined-tells}
+use Rattle.model.proofs.Once as once-kept
+use Rattle.model.proofs.OnceRead.{Live, read-once}
+use Rattle.model.proofs.OnceSave.{OnceOk, sound-save, sound-free}
+use Rattle.model.proofs.OnceOpen.{reopened, first-live}
+use Rattle.model.proofs.OnceCommit.{sound-commit}
+use Rattle.model.proofs.Steps.{Sound, sound-plan, list-opens, list-ends}
+
+-- an opening that was accepted went on
+pub accepted-goes : (e : Setting) (d : Disc) (t : List ℕ) → isOpened (answerOfOpening (opening e d t)) ≡ true → openVerdict e d t ≡ Go
+unfolding opening openedBy answerOfOpening isOpened
+accepted-goes e d t h = by-verdict (openVerdict e d t) (λ q. q) (λ why q. absurd (false≢true (rw q at h)))
+
+-- a call for rewritable discs never goes on
+other-kind : {P : Type 0} (e : Setting) (d : Disc) (t : List ℕ) (lent : Bool) (r : Record) (own : List Test) → writeOnce e ≡ true → rewritableVerdict e d t lent r own ≡ Go → P
+unfolding rewritableVerdict
+other-kind e d t lent r own one g =
+    let p = then-go (examined e d lent) _ g in
+    let q = passed (test (not (writeOnce e)) OtherKind ∷ (copyTests e d ++ (test (heldCurrent e d t r) StaleRecord ∷ own))) (p .1) in
+    absurd (false≢true (rw one at (q .0)))
+
+module _ (e : Setting) (one : writeOnce e ≡ true) (maps-go : readMaps (e .maps) .verdict ≡ Go) where
+  abbrev h : Shape
+  h = shapeOf e
+
+  shape-once : h .once ≡ true
+  unfolding shapeOf
+  shape-once = one
+
+  sound-live : (st : State) (σ : Store) (c : Call) → Live e st σ → Sound (OnceOk e) h σ c (step e st c)
+  unfolding step saveBlockPlan savePacketPlan sparePlan OnceOk
+  sound-live st σ (saveVirtual v b c) i = sound-save e h st σ i v b c
+  sound-live st σ (freeVirtual v) i = sound-free e h st σ i v
+  sound-live st σ (commit c) i = sound-commit e h st σ i c
+  sound-live st σ (saveBlock b x c) i = sound-plan (OnceOk e) h σ (saveBlock b x c) c st _ _ _ _ i λ g. other-kind e _ _ _ _ _ one g
+  sound-live st σ (savePacket b x c) i = sound-plan (OnceOk e) h σ (savePacket b x c) c st _ _ _ _ i λ g. other-kind e _ _ _ _ _ one g
+  sound-live st σ (sparePacket b x c) i = sound-plan (OnceOk e) h σ (sparePacket b x c) c st _ _ _ _ i λ g. other-kind e _ _ _ _ _ one g
+  sound-live st σ openDisc i = reopened e one maps-go h shape-once st σ (lastHeld (st .held)) (i .kept) (i .lent) .sound
+
+  sound-any : (down : Bool) (st : State) (σ : Store) (c : Call) → OnceOk e down st σ → (down ≡ true → c ≡ openDisc) → Sound (OnceOk e) h σ c (step e st c)
+  unfolding OnceOk
+  sound-any true st σ c o q =
+      subst (λ (x : Call). Sound (OnceOk e) h σ x (step e st x)) (sym (q refl)) (reopened e one maps-go h shape-once st σ (o .0) (o .1) (o .2) .sound)
+  sound-any false st σ c o q = sound-live st σ c o
+
+  opens-any : (down : Bool) (st : State) (σ : Store) → OnceOk e down st σ → isOpened (step e st openDisc .answer) ≡ true
+  unfolding OnceOk
+  opens-any true st σ o = reopened e one maps-go h shape-once st σ (o .0) (o .1) (o .2) .accepts
+  opens-any false st σ o = reopened e one maps-go h shape-once st σ (lastHeld (st .held)) (o .kept) (o .lent) .accepts
+
+  -- every list of calls
+  once-lists : (d : Disc) (t : List ℕ) → openVerdict e d t ≡ Go → (cs : List Call) → Proper false cs (answers e (afterOpening e d t) cs) → Kept e d t cs
+  unfolding OnceOk
+  once-lists d t g cs p =
+      let i : OnceOk e false (afterOpening e d t) (start e d) = first-live e one maps-go d t g in
+      record {
+        opens = list-opens (OnceOk e) h e sound-any opens-any cs (afterOpening e d t) (start e d) i p;
+        reads = λ q v out long.
+            read-once e one maps-go _ _ (list-ends (OnceOk e) h e sound-any opens-any cs (afterOpening e d t) (start e d) i p q) v out long;
+      }
+
+-- on a write-once disc that opening accepts
+pub once-demand : (e : Setting) (d : Disc) (t : List ℕ) → writeOnce e ≡ true → isOpened (answerOfOpening (opening e d t)) ≡ true
+    → (cs : List Call) → Proper false cs (answers e (afterOpening e d t) cs) → Kept e d t cs
+unfolding openVerdict
+once-demand e d t one a cs p =
+    let g = accepted-goes e d t a in
+    let m = examined-tells e d _ (then-go (examined e d _) _ g .0) .maps in
+    once-lists e one m d t g cs p

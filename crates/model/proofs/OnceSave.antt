@@ -1,0 +1,205 @@
+-- Saving and freeing on a write-once disc keep the invariant. Assumes nothing.
+use Prim.Native.Nat.{ℕ, _+_, _-_, _≤_, _<_}
+use mathlib.Core.Bool.{Bool, true, false, false≢true}
+use mathlib.Core.Path.{_≡_, refl, sym, ap, ap₂, _∙_}
+use mathlib.Core.List.{List, [], _∷_, _++_}
+use native.Mathlib.Omega.{arith}
+use native.Mathlib.Numerals.{add-one}
+use lib.Dec.{leb, eqb}
+use lib.ListN.{length, set, take, length-set}
+use lib.Seq.{take-suc-set, take-set-lt}
+use borrow.Author.Tests.{ltb-true, leb-true, eqb-true, lt-ltb, le-ltb, eq-eqb, ne-eqb, not-true}
+use Rattle.refusal.specs.declared.Refusal.the-variants.{OtherKind, StaleRecord}
+use Rattle.refusal.specs.declared.Verdict.the-variants.{Go}
+use Rattle.refusal.specs.Tests.{Test, test}
+use Rattle.refusal.proofs.Laws.{All, passed}
+use Rattle.model.specs.declared.Cut.{Cut}
+use Rattle.model.specs.declared.Landing.{Landing}
+use Rattle.model.specs.declared.Record.{Record}
+use Rattle.model.specs.Disc.{Disc, mark}
+use Rattle.model.specs.Writes.{landing, landed, write, writes, struck, noCut}
+use Rattle.model.specs.Vat.{none, allBelow, passes}
+use Rattle.model.specs.VatWritten.{dataSectors}
+use Rattle.model.specs.Examine.{Setting, writeOnce, examined, lentTable}
+use Rattle.model.specs.Once.{nextOn, entriesHeld, nextHeld, lastHeld, heldFits, onceVerdict, countAfter, roomToSave, saveTests, saveLent, savePlan, entryTests, freePlan}
+use Rattle.model.specs.Calls.{saveVirtual, freeVirtual, State, step}
+use Rattle.model.specs.Store.{Slot, holds, entrySlot, entrySlots, slotAt, Store, Shape, cutIn, writesIn, put, taken}
+use Rattle.model.proofs.Basics.{by-eq, and-true}
+use Rattle.model.proofs.Verdicts.{Examined, examined-tells, then-go}
+use Rattle.model.proofs.Agree.{Agree}
+use Rattle.model.proofs.Scan.{below-mono, below-set, below-snoc, below-own, below-none, slots-agree, slot-none, slots-set, slots-snoc}
+use Rattle.model.proofs.Sectors.{Made, shapely-made, shapely-most, sector-done, mark-done, recorded-done, landing-uncut, nwa-is}
+use Rattle.model.proofs.Once.{Kept, on-disc, agree-landed, blank-landed, kept-write}
+use Rattle.model.proofs.OnceRead.{onceHeld, Live, live-blank, live-length}
+use Rattle.model.proofs.Steps.{Sound, sound-plan, sound-carried}
+
+-- N and NWA of a state
+abbrev N : State → ℕ
+N st = entriesHeld (st .held)
+
+abbrev W : State → ℕ
+W st = nextHeld (st .held)
+
+-- after a cut: a VAT on the disc whose blocks are the store's copy, and the lent table long enough; else what holds between calls
+unfoldable pub OnceOk : Setting → Bool → State → Store → Type 0
+OnceOk e true st σ = (a : ℕ) × Kept (e .start) (e .span) (st .disc) a (σ .copy) × (4096 ≤ length (st .table))
+OnceOk e false st σ = Live e st σ
+
+-- what the tests of a call on a write-once disc tell
+pub once-tells : (e : Setting) (d : Disc) (t : List ℕ) (lent : Bool) (r : Record) (own : List Test) → onceVerdict e d t lent r own ≡ Go → Examined e d lent × All own
+unfolding onceVerdict
+once-tells e d t lent r own g =
+    let p = then-go (examined e d lent) _ g in
+    (examined-tells e d lent (p .0), passed (test (writeOnce e) OtherKind ∷ test (heldFits e d t r) StaleRecord ∷ own) (p .1) .1 .1)
+
+-- the first entries of a table that grew
+take-grown : (n x : ℕ) (t : List ℕ) → n < length t → take (n + 1) (set t n x) ≡ take n t ++ (x ∷ [])
+take-grown n x t h = rw add-one (take-suc-set t n x h)
+
+-- the first entries after a save
+table-grown : (n v x : ℕ) (t : List ℕ) → n < length t → v ≡ n → take (countAfter n v) (set t v x) ≡ take n t ++ (x ∷ [])
+unfolding countAfter
+table-grown n v x t h q = rw (q, eq-eqb n n refl) (take-grown n x t h)
+
+table-set : (n v x : ℕ) (t : List ℕ) → v < n → take (countAfter n v) (set t v x) ≡ set (take n t) v x
+unfolding countAfter
+table-set n v x t h = rw (ne-eqb v n (λ q. omega arith)) (take-set-lt n t v x h)
+
+module _ (e : Setting) (h : Shape) (st : State) (σ : Store) (i : Live e st σ) where
+  -- ---- save v
+  module _ (v : ℕ) (b : List ℕ) (c : Cut) (g : onceVerdict e (st .disc) (st .table) (saveLent (st .table) b) (st .held) (saveTests e (st .disc) (st .held) v b) ≡ Go) where
+    record Facts : Type 0 where
+      long : length b ≡ 2048
+      most : v ≤ N st
+      small : v < 4096
+      plain : passes (st .disc) (e .start) (W st) b ≡ false
+      room : W st + 1 + dataSectors (countAfter (N st) v) + 1 ≤ e .span
+
+    facts : Facts
+    unfolding saveTests roomToSave saveLent
+    facts =
+        let p = once-tells e (st .disc) (st .table) _ (st .held) (saveTests e (st .disc) (st .held) v b) g in
+        let q = and-true (lentTable (st .table)) _ (p .0 .lengths) in
+        let w = and-true (leb v (entriesHeld (st .held))) _ (p .1 .0) in
+        record {
+          long = eqb-true _ _ (q .1);
+          most = leb-true _ _ (w .0);
+          small = ltb-true _ _ (w .1);
+          plain = not-true _ (p .1 .1 .0);
+          room = leb-true _ _ (p .1 .1 .1 .0);
+        }
+
+    kept-saved : Kept (e .start) (e .span) (writes 1 c (record { place = e .start + W st; bytes = b } ∷ []) (st .disc)) (lastHeld (st .held)) (σ .copy)
+    unfolding writes write
+    kept-saved =
+        kept-write (landing 1 c) (e .start) (e .span) (W st) b (st .disc) (i .kept) (omega (arith, facts .room)) (live-blank e st σ i) (facts .long) (λ _. facts .plain)
+
+    -- uncut, the sector is written
+    module _ (uncut : struck c 1 ≡ false) where
+      d′ : Disc
+      d′ = landed Landing.Done (e .start + W st) b (st .disc)
+
+      on : e .start + W st < length (st .disc .marks)
+      on = on-disc (e .start) (e .span) (st .disc) (W st) (i .kept .within) (omega (arith, facts .room))
+
+      made : Made (st .disc)
+      made = shapely-made (st .disc) (i .kept .shape)
+
+      is-done : writes 1 c (record { place = e .start + W st; bytes = b } ∷ []) (st .disc) ≡ d′
+      unfolding writes write d′
+      is-done = ap (λ (g : Landing). landed g (e .start + W st) b (st .disc)) (landing-uncut 1 1 c uncut (omega arith) (omega arith))
+
+      next-nwa : W st + 1 ≡ nextOn e d′
+      unfolding nextOn d′
+      next-nwa =
+          sym (nwa-is d′ (e .start) (e .span) (W st + 1) (omega (arith, facts .room))
+          (blank-landed Landing.Done (e .start) (e .span) (W st) b (st .disc) (live-blank e st σ i) .blank)
+          (λ _ q. let w : e .start + (W st + 1 - 1) ≡ e .start + W st = omega arith in
+          omega (arith, ap (mark d′) (sym w) ∙ q, mark-done (e .start + W st) b (st .disc) on)))
+
+      agree : Agree (e .start) (W st) d′ (st .disc)
+      unfolding d′
+      agree = agree-landed Landing.Done (e .start) (W st) b (st .disc) (facts .long) on made
+
+      slot-new : entrySlot d′ (e .start) (W st) ≡ holds b
+      unfolding entrySlot slotAt d′ none
+      slot-new =
+          let w : eqb (W st) 0xffffffff ≡ false = ne-eqb (W st) 0xffffffff (λ q. omega (arith, on, shapely-most (st .disc) (i .kept .shape))) in
+          rw (w, recorded-done (e .start + W st) b (st .disc) on, sector-done (e .start + W st) b (st .disc) (facts .long) on made)
+
+      slots-old : entrySlots d′ (e .start) (take (N st) (st .table)) ≡ σ .blocks
+      slots-old = slots-agree (take (N st) (st .table)) agree (i .fresh) ∙ i .now
+
+      fresh-new : allBelow (W st + 1) (take (countAfter (N st) v) (set (st .table) v (W st))) ≡ true
+      fresh-new =
+          let old : allBelow (W st + 1) (take (N st) (st .table)) ≡ true = below-mono (W st) (W st + 1) (take (N st) (st .table)) (omega arith) (i .fresh) in
+          by-eq v (N st)
+          (λ q. rw (table-grown (N st) v (W st) (st .table) (omega (arith, facts .small, i .lent)) q) (below-snoc (W st + 1) (take (N st) (st .table)) (W st) (below-own (W st)) old))
+          (λ q. rw (table-set (N st) v (W st) (st .table) (omega (arith, facts .most))) (below-set (W st + 1) (take (N st) (st .table)) v (W st) (below-own (W st)) old))
+
+      slots-new : entrySlots d′ (e .start) (take (countAfter (N st) v) (set (st .table) v (W st))) ≡ put (σ .blocks) v (holds b)
+      unfolding put
+      slots-new =
+          let ln : length (σ .blocks) ≡ N st = live-length e st σ i in
+          by-eq v (N st)
+          (λ q.
+          ap (entrySlots d′ (e .start)) (table-grown (N st) v (W st) (st .table) (omega (arith, facts .small, i .lent)) q)
+          ∙ slots-snoc d′ (e .start) (take (N st) (st .table)) (W st)
+          ∙ ap₂ (λ (l : List Slot) (x : Slot). l ++ (x ∷ [])) slots-old slot-new
+          ∙ sym (rw (ln, le-ltb v (N st) (omega arith))))
+          (λ q.
+          ap (entrySlots d′ (e .start)) (table-set (N st) v (W st) (st .table) (omega (arith, facts .most)))
+          ∙ slots-set d′ (e .start) (take (N st) (st .table)) v (W st)
+          ∙ ap₂ (λ (l : List Slot) (x : Slot). set l v x) slots-old slot-new
+          ∙ sym (rw (ln, lt-ltb v (N st) (omega (arith, facts .most)))))
+
+      few-new : countAfter (N st) v ≤ 4096
+      unfolding countAfter
+      few-new = by-eq v (N st) (λ q. rw (eq-eqb v (N st) q) (omega (arith, facts .small))) (λ q. rw (ne-eqb v (N st) q) (i .few))
+
+      live-saved : Live e
+          (record { disc = writes 1 c (record { place = e .start + W st; bytes = b } ∷ []) (st .disc); table = set (st .table) v (W st); held = Record.WriteOnce (countAfter (N st) v) (W st + 1) (lastHeld (st .held)) })
+          (record { blocks = put (σ .blocks) v (holds b); copy = σ .copy })
+      unfolding onceHeld nextHeld entriesHeld lastHeld
+      live-saved =
+          record {
+            once = refl;
+            kept = kept-saved;
+            top = next-nwa ∙ ap (nextOn e) (sym is-done);
+            fresh = fresh-new;
+            few = few-new;
+            lent = rw length-set (i .lent);
+            now = ap (λ (x : Disc). entrySlots x (e .start) (take (countAfter (N st) v) (set (st .table) v (W st)))) is-done ∙ slots-new;
+          }
+
+  pub sound-save : (v : ℕ) (b : List ℕ) (c : Cut) → Sound (OnceOk e) h σ (saveVirtual v b c) (step e st (saveVirtual v b c))
+  unfolding step savePlan OnceOk cutIn writesIn taken
+  sound-save v b c =
+      sound-plan (OnceOk e) h σ (saveVirtual v b c) c st _ _ _ _ i λ g.
+      sound-carried (OnceOk e) h σ (saveVirtual v b c) c st _ _ _ refl refl
+      (λ q. (lastHeld (st .held), kept-saved v b c g, i .lent))
+      (λ q. live-saved v b c g q)
+
+  -- ---- free v
+  pub sound-free : (v : ℕ) → Sound (OnceOk e) h σ (freeVirtual v) (step e st (freeVirtual v))
+  unfolding step freePlan OnceOk cutIn writesIn taken writes struck noCut entryTests
+  sound-free v =
+      sound-plan (OnceOk e) h σ (freeVirtual v) noCut st _ _ _ _ i λ g.
+      sound-carried (OnceOk e) h σ (freeVirtual v) noCut st _ _ _ refl refl
+      (λ q. absurd (false≢true q))
+      (λ q.
+      let p = once-tells e (st .disc) (st .table) _ (st .held) (entryTests (st .table) (st .held) v) g in
+      let few : v < N st = ltb-true _ _ (p .1 .0) in
+      let w : take (N st) (set (st .table) v none) ≡ set (take (N st) (st .table)) v none = take-set-lt (N st) (st .table) v none few in
+      record {
+        once = i .once;
+        kept = i .kept;
+        top = i .top;
+        fresh = rw w (below-set (W st) (take (N st) (st .table)) v none (below-none (W st)) (i .fresh));
+        few = i .few;
+        lent = rw length-set (i .lent);
+        now =
+            ap (entrySlots (st .disc) (e .start)) w
+            ∙ slots-set (st .disc) (e .start) (take (N st) (st .table)) v none
+            ∙ ap₂ (λ (l : List Slot) (x : Slot). set l v x) (i .now) (slot-none (st .disc) (e .start));
+      })

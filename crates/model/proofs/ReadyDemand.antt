@@ -1,0 +1,87 @@
+-- Demand 3 on a rewritable disc. Assumes nothing.
+use Prim.Native.Nat.{ℕ}
+use mathlib.Core.Bool.{Bool, true, false, false≢true}
+use mathlib.Core.Path.{_≡_, refl, sym, _∙_, subst}
+use mathlib.Core.List.{List, _∷_}
+use lib.ListN.{length}
+use Rattle.refusal.specs.declared.Refusal.the-variants.{OtherKind, StaleRecord}
+use Rattle.refusal.specs.declared.Verdict.the-variants.{Go}
+use Rattle.refusal.specs.Tests.{Test, test}
+use Rattle.refusal.proofs.Laws.{passed}
+use Rattle.maps.specs.Kinds.{readMaps}
+use Rattle.model.specs.declared.Record.{Record}
+use Rattle.model.specs.Disc.{Disc}
+use Rattle.model.specs.Writes.{noCut}
+use Rattle.model.specs.Sparing.{Geometry}
+use Rattle.model.specs.Examine.{Setting, writeOnce, examined, geometry}
+use Rattle.model.specs.Once.{heldFits, onceVerdict, savePlan, freePlan, commitPlan}
+use Rattle.model.specs.Both.{opening, openVerdict}
+use Rattle.model.specs.Calls.{Call, saveVirtual, freeVirtual, commit, saveBlock, savePacket, sparePacket, openDisc, State, step, answers, answerOfOpening, isOpened, Proper}
+use Rattle.model.specs.Store.{Store, Shape, shapeOf, start}
+use Rattle.model.specs.Demand.{Below, afterOpening, Kept}
+use Rattle.model.proofs.Verdicts.{then-go, examined-tells}
+use Rattle.model.proofs.Ground.{Ground}
+use Rattle.model.proofs.Ready.{LiveAgain, read-again}
+use Rattle.model.proofs.ReadyOpen.{AgainOk, reopened-again, first-ground, first-again}
+use Rattle.model.proofs.ReadyCalls.{sound-packet, sound-block}
+use Rattle.model.proofs.ReadySpare.{sound-spare}
+use Rattle.model.proofs.OnceDemand.{accepted-goes}
+use Rattle.model.proofs.Steps.{Sound, sound-plan, list-opens, list-ends}
+
+-- a call for write-once discs never goes on
+other-kind : {P : Type 0} (e : Setting) (d : Disc) (t : List ℕ) (lent : Bool) (r : Record) (own : List Test) → writeOnce e ≡ false → onceVerdict e d t lent r own ≡ Go → P
+unfolding onceVerdict
+other-kind e d t lent r own again g =
+    let p = then-go (examined e d lent) _ g in
+    let q = passed (test (writeOnce e) OtherKind ∷ test (heldFits e d t r) StaleRecord ∷ own) (p .1) in
+    absurd (false≢true (sym again ∙ q .0))
+
+module _ (e : Setting) (again : writeOnce e ≡ false) (maps-go : readMaps (e .maps) .verdict ≡ Go) (g : Geometry) (γ : Ground e g)
+    (tables : shapeOf e .tables ≡ length (g .tables)) where
+  abbrev h : Shape
+  h = shapeOf e
+
+  shape-again : h .once ≡ false
+  unfolding shapeOf
+  shape-again = again
+
+  sound-live : (st : State) (σ : Store) (c : Call) (n : ℕ) (l : List ℕ) → LiveAgain e g st n l σ → Sound (AgainOk e g) h σ c (step e st c)
+  unfolding step savePlan freePlan commitPlan AgainOk
+  sound-live st σ (saveVirtual v b c) n l i = sound-plan (AgainOk e g) h σ (saveVirtual v b c) c st _ _ _ _ (n, l, i) λ go. other-kind e _ _ _ _ _ again go
+  sound-live st σ (freeVirtual v) n l i = sound-plan (AgainOk e g) h σ (freeVirtual v) noCut st _ _ _ _ (n, l, i) λ go. other-kind e _ _ _ _ _ again go
+  sound-live st σ (commit c) n l i = sound-plan (AgainOk e g) h σ (commit c) c st _ _ _ _ (n, l, i) λ go. other-kind e _ _ _ _ _ again go
+  sound-live st σ (saveBlock b x c) n l i = sound-block e g γ h st σ n l i b x c
+  sound-live st σ (savePacket b x c) n l i = sound-packet e g γ h st σ n l i b x c
+  sound-live st σ (sparePacket b x c) n l i = sound-spare e g γ h tables st σ n l i b x c
+  sound-live st σ openDisc n l i = reopened-again e g again γ maps-go h shape-again st σ n l (i .ready) (i .lent) .sound
+
+  sound-any : (down : Bool) (st : State) (σ : Store) (c : Call) → AgainOk e g down st σ → (down ≡ true → c ≡ openDisc) → Sound (AgainOk e g) h σ c (step e st c)
+  unfolding AgainOk
+  sound-any true st σ c o q =
+      subst (λ (x : Call). Sound (AgainOk e g) h σ x (step e st x)) (sym (q refl)) (reopened-again e g again γ maps-go h shape-again st σ (o .0) (o .1) (o .2) (o .3) .sound)
+  sound-any false st σ c o q = sound-live st σ c (o .0) (o .1) (o .2)
+
+  opens-any : (down : Bool) (st : State) (σ : Store) → AgainOk e g down st σ → isOpened (step e st openDisc .answer) ≡ true
+  unfolding AgainOk
+  opens-any true st σ o = reopened-again e g again γ maps-go h shape-again st σ (o .0) (o .1) (o .2) (o .3) .accepts
+  opens-any false st σ o = reopened-again e g again γ maps-go h shape-again st σ (o .0) (o .1) (o .2 .ready) (o .2 .lent) .accepts
+
+  -- every list of calls
+  again-lists : (d : Disc) (t : List ℕ) → AgainOk e g false (afterOpening e d t) (start e d) → (cs : List Call) → Proper false cs (answers e (afterOpening e d t) cs) → Kept e d t cs
+  unfolding AgainOk
+  again-lists d t i cs p =
+      record {
+        opens = list-opens (AgainOk e g) h e sound-any opens-any cs (afterOpening e d t) (start e d) i p;
+        reads = λ q v out long.
+            let o = list-ends (AgainOk e g) h e sound-any opens-any cs (afterOpening e d t) (start e d) i p q in
+            read-again e g again γ maps-go _ (o .0) (o .1) _ (o .2) v out long;
+      }
+
+-- on a rewritable disc that opening accepts
+pub again-demand : (e : Setting) (d : Disc) (t : List ℕ) → Below 256 (d .bytes) → writeOnce e ≡ false → isOpened (answerOfOpening (opening e d t)) ≡ true
+    → (cs : List Call) → Proper false cs (answers e (afterOpening e d t) cs) → Kept e d t cs
+unfolding openVerdict AgainOk shapeOf geometry
+again-demand e d t low again a cs p =
+    let go = accepted-goes e d t a in
+    let m = examined-tells e d _ (then-go (examined e d _) _ go .0) .maps in
+    again-lists e again m (geometry e d) (first-ground e again d t low go) refl d t (first-again e again d t low go) cs p

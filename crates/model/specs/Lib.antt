@@ -1,0 +1,13 @@
+pub mod Disc
+pub mod Writes
+pub mod Vat
+pub mod VatWritten
+pub mod Sparing
+pub mod Plan
+pub mod Examine
+pub mod Once
+pub mod Rewrite
+pub mod Both
+pub mod Calls
+pub mod Store
+pub mod Demand

@@ -1,0 +1,233 @@
+-- The sparing table (document 01, "The sparing table"; 004, table 6). A table is the list of its numbers, original and mapped by turns, as
+-- in the lent table.
+use Prim.Native.Nat.{ℕ, _+_, _-_, _*_, _/_, _%_}
+use mathlib.Core.Bool.{Bool, true, cond, _&&_, _||_}
+use mathlib.Core.List.{List, [], _∷_, _++_}
+use lib.ListN.{length, replicate}
+use lib.Dec.{eqb, leb, ltb}
+use Rattle.fields.specs.Bytes.{same, join}
+use Rattle.fields.specs.Number.{field, words, digits, quads}
+use Rattle.fields.specs.Regid.{hasRegid, regid}
+use Rattle.maps.specs.Kinds.{absent}
+use Rattle.model.specs.Disc.{Disc, sector, recorded}
+use Rattle.model.specs.Vat.{none}
+use Rattle.model.specs.VatWritten.{filled}
+
+-- "*OSTA UDF Sparing Table"
+unfoldable pub sparingName : List ℕ
+sparingName = 42 ∷ 79 ∷ 83 ∷ 84 ∷ 65 ∷ 32 ∷ 85 ∷ 68 ∷ 70 ∷ 32 ∷ 83 ∷ 112 ∷ 97 ∷ 114 ∷ 105 ∷ 110 ∷ 103 ∷ 32 ∷ 84 ∷ 97 ∷ 98 ∷ 108 ∷ 101 ∷ []
+
+-- what a rewritable volume lies in: the partition's start and length, the sectors of the disc, the table sectors, and the bytes of each table
+pub record Geometry : Type 0 where
+  pub start : ℕ
+  pub span : ℕ
+  pub sectors : ℕ
+  pub tables : List ℕ
+  pub size : ℕ
+
+-- ---- entries
+
+-- original is the logical address of a packet's first block, or none for a free spare; mapped is physical
+pub record Entry : Type 0 where
+  pub original : ℕ
+  pub mapped : ℕ
+
+-- the entries of a table
+unfoldable pub entries : List ℕ → List Entry
+entries [] = []
+entries (o ∷ []) = []
+entries (o ∷ m ∷ l) = record { original = o; mapped = m } ∷ entries l
+
+-- the numbers of a list of entries
+unfoldable pub flat : List Entry → List ℕ
+flat [] = []
+flat (e ∷ l) = e .original ∷ e .mapped ∷ flat l
+
+-- a free spare
+unfoldable pub isFree : Entry → Bool
+isFree e = eqb (e .original) none
+
+-- the entries that are used, in their order
+unfoldable pub usedOf : List Entry → List Entry
+usedOf [] = []
+usedOf (e ∷ l) = cond (isFree e) (usedOf l) (e ∷ usedOf l)
+
+-- the entries that are free, in their order
+unfoldable pub freeOf : List Entry → List Entry
+freeOf [] = []
+freeOf (e ∷ l) = cond (isFree e) (e ∷ freeOf l) (freeOf l)
+
+-- ---- the copy rule over the entries
+
+-- used originals are multiples of 32 below L
+unfoldable pub originalsFit : ℕ → List Entry → Bool
+originalsFit l [] = true
+originalsFit l (e ∷ es) = (isFree e || (eqb (e .original % 32) 0 && ltb (e .original) l)) && originalsFit l es
+
+-- and strictly ascending, free entries after them
+unfoldable pub ascending : List Entry → Bool
+ascending [] = true
+ascending (e ∷ []) = true
+ascending (e ∷ f ∷ l) = (isFree f || ltb (e .original) (f .original)) && ascending (f ∷ l)
+
+-- two packets that begin at a and b have no sector in common
+unfoldable pub apart : ℕ → ℕ → Bool
+apart a b = leb (a + 32) b || leb (b + 32) a
+
+-- a packet that begins at m is apart from those that begin at each of l
+unfoldable pub apartFrom : ℕ → List ℕ → Bool
+apartFrom m [] = true
+apartFrom m (x ∷ l) = apart m x && apartFrom m l
+
+-- a packet that begins at m is a whole packet of the disc, outside the partition
+unfoldable pub outside : Geometry → ℕ → Bool
+outside g m =
+    eqb (m % 32) 0 && (leb (m + 32) (g .sectors) && (leb (m + 32) (g .start) || leb (g .start + g .span) m))
+
+-- the mapped starts
+unfoldable pub mappedOf : List Entry → List ℕ
+mappedOf [] = []
+mappedOf (e ∷ l) = e .mapped ∷ mappedOf l
+
+-- mapped starts are distinct multiples of 32, whole packets on the disc, outside the partition and every table's packet
+unfoldable pub mappedFit : Geometry → List Entry → Bool
+mappedFit g [] = true
+mappedFit g (e ∷ es) =
+    outside g (e .mapped) && (apartFrom (e .mapped) (g .tables) && (absent (e .mapped) (mappedOf es) && mappedFit g es))
+
+-- the copy rule: R entries fit the map's size, and originals and mapped starts are as above
+unfoldable pub entriesFit : Geometry → List Entry → Bool
+entriesFit g es =
+    leb (56 + 8 * length es) (g .size) && (originalsFit (g .span) es && (ascending es && mappedFit g es))
+
+-- ---- a copy
+
+-- the number R of entries at 48, the sequence at 52, and from 56 the entries
+unfoldable pub countIn : List ℕ → ℕ
+countIn b = field b 48 2
+
+-- the sequence
+unfoldable pub sequenceIn : List ℕ → ℕ
+sequenceIn b = field b 52 4
+
+-- the table
+unfoldable pub tableIn : List ℕ → List ℕ
+tableIn b = words b 56 (2 * countIn b)
+
+-- bytes 0 and 1 are 0, the regid at 16, and the entries fit
+unfoldable pub copyFits : Geometry → List ℕ → Bool
+copyFits g b =
+    eqb (field b 0 2) 0
+    && (hasRegid b 16 sparingName && entriesFit g (entries (tableIn b)))
+
+-- a copy counts
+unfoldable pub counts : Disc → Geometry → ℕ → Bool
+counts d g t = recorded d t && copyFits g (sector d t)
+
+-- the copies among ts that count, in map order
+unfoldable pub countingOf : Disc → Geometry → List ℕ → List ℕ
+countingOf d g [] = []
+countingOf d g (t ∷ ts) = cond (counts d g t) (t ∷ countingOf d g ts) (countingOf d g ts)
+
+-- the copies that count
+unfoldable pub counting : Disc → Geometry → List ℕ
+counting d g = countingOf d g (g .tables)
+
+-- the sequence of the copy at t
+unfoldable pub sequenceAt : Disc → ℕ → ℕ
+sequenceAt d t = sequenceIn (sector d t)
+
+-- the table of the copy at t
+unfoldable pub tableAt : Disc → ℕ → List ℕ
+tableAt d t = tableIn (sector d t)
+
+-- the highest sequence among the copies ts
+unfoldable pub highest : Disc → List ℕ → ℕ
+highest d [] = 0
+highest d (t ∷ ts) = cond (ltb (sequenceAt d t) (highest d ts)) (highest d ts) (sequenceAt d t)
+
+-- the copies among ts of sequence n
+unfoldable pub withSequence : Disc → ℕ → List ℕ → List ℕ
+withSequence d n [] = []
+withSequence d n (t ∷ ts) = cond (eqb (sequenceAt d t) n) (t ∷ withSequence d n ts) (withSequence d n ts)
+
+-- the highest sequence among counting copies
+unfoldable pub currentSequence : Disc → Geometry → ℕ
+currentSequence d g = highest d (counting d g)
+
+-- the current copies
+unfoldable pub current : Disc → Geometry → List ℕ
+current d g = withSequence d (currentSequence d g) (counting d g)
+
+-- the table of the first of some copies; none where there is no copy
+unfoldable pub firstTable : Disc → List ℕ → List ℕ
+firstTable d [] = []
+firstTable d (t ∷ ts) = tableAt d t
+
+-- the current table
+unfoldable pub currentTable : Disc → Geometry → List ℕ
+currentTable d g = firstTable d (current d g)
+
+-- line 10: the copies ts all have the table l
+unfoldable pub agree : Disc → List ℕ → List ℕ → Bool
+agree d l [] = true
+agree d l (t ∷ ts) = same (tableAt d t) l && agree d l ts
+
+-- ---- where a block is
+
+-- the mapped start of the packet that begins at p, if it has an entry
+pub data Spot : Type 0 where
+  mappedTo : ℕ → Spot
+  inPlace : Spot
+
+-- the entry of a packet
+unfoldable pub spotOf : List Entry → ℕ → Spot
+spotOf [] p = inPlace
+spotOf (e ∷ l) p = cond (eqb (e .original) p) (mappedTo (e .mapped)) (spotOf l p)
+
+-- the first block of the packet of block b
+unfoldable pub packetOf : ℕ → ℕ
+packetOf b = b - b % 32
+
+-- the sector at which a packet that begins at p is read
+unfoldable pub startAt : Spot → ℕ → ℕ → ℕ
+startAt (mappedTo m) s p = m
+startAt inPlace s p = s + p
+
+-- a packet with an entry is read at mapped + (b modulo 32), otherwise at S + b
+unfoldable pub locate : ℕ → List Entry → ℕ → ℕ
+locate s es b = startAt (spotOf es (packetOf b)) s (packetOf b) + b % 32
+
+-- ---- sparing, and the table as it is written
+
+-- an entry in its place among used ones
+unfoldable pub inserted : Entry → List Entry → List Entry
+inserted x [] = x ∷ []
+inserted x (e ∷ l) = cond (ltb (x .original) (e .original)) (x ∷ e ∷ l) (e ∷ inserted x l)
+
+-- the mapped start of the free entry of lowest index
+unfoldable pub firstFree : List Entry → ℕ
+firstFree [] = 0
+firstFree (e ∷ l) = e .mapped
+
+-- all but the first
+unfoldable pub rest : List Entry → List Entry
+rest [] = []
+rest (e ∷ l) = l
+
+-- the entries resorted once packet p took the free entry of lowest index
+unfoldable pub resorted : List Entry → ℕ → List Entry
+resorted es p = inserted (record { original = p; mapped = firstFree (freeOf es) }) (usedOf es) ++ rest (freeOf es)
+
+-- the sector of a table, field by field
+unfoldable pub writtenTable : ℕ → List ℕ → List ℕ
+writtenTable sequence l =
+    filled 2048
+    (join
+    (replicate 16 0
+    ∷ regid sparingName
+    ∷ digits 2 (length l / 2)
+    ∷ replicate 2 0
+    ∷ digits 4 sequence
+    ∷ quads l
+    ∷ []))
