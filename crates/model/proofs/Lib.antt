@@ -32,3 +32,10 @@ pub mod Cuts
 pub mod ReadySpare
 pub mod ReadyDemand
 pub mod Demand
+pub mod OnceLives
+pub mod OnceLivesExample
+pub mod Examples
+pub mod ReadyLivesMade
+pub mod ReadyLivesCalls
+pub mod ReadyLives
+pub mod ReadyLivesSome

@@ -66,7 +66,7 @@ module _ (e : Setting) (g : Geometry) (again : writeOnce e ≡ false) (γ : Grou
 -- ---- the disc that opening accepts at first
 
 -- the blocks of a rewritable disc, one by one
-place-slot : (e : Setting) (d : Disc) (b n i : ℕ) → i < n → getD (placeSlots e d b n) i unused ≡ slotAt d (placeOf e d (b + i))
+pub place-slot : (e : Setting) (d : Disc) (b n i : ℕ) → i < n → getD (placeSlots e d b n) i unused ≡ slotAt d (placeOf e d (b + i))
 unfolding placeSlots
 place-slot e d b zero i h = absurd (omega arith)
 place-slot e d b (suc n) zero h = let q : b ≡ b + 0 = omega arith in ap (λ (x : ℕ). slotAt d (placeOf e d x)) q
@@ -74,7 +74,7 @@ place-slot e d b (suc n) (suc i) h =
     let q : b + 1 + i ≡ b + suc i = omega arith in
     place-slot e d (b + 1) n i (omega arith) ∙ ap (λ (x : ℕ). slotAt d (placeOf e d x)) q
 
-length-places : (e : Setting) (d : Disc) (b n : ℕ) → length (placeSlots e d b n) ≡ n
+pub length-places : (e : Setting) (d : Disc) (b n : ℕ) → length (placeSlots e d b n) ≡ n
 unfolding placeSlots
 length-places e d b zero = refl
 length-places e d b (suc n) = ap suc (length-places e d (b + 1) n)

@@ -82,12 +82,12 @@ untouched (w ∷ ws) n c d h =
     ∙ untouched ws (n + 1) c d (λ j k. h j (omega arith))
 
 -- copies stand in table sectors
-placed-copies : (n : ℕ) (ts : List ℕ) (x : List ℕ) → length x ≡ 2048 → ((y : ℕ) → In y ts → y < n) → Placed n (copiesTo ts x)
+pub placed-copies : (n : ℕ) (ts : List ℕ) (x : List ℕ) → length x ≡ 2048 → ((y : ℕ) → In y ts → y < n) → Placed n (copiesTo ts x)
 unfolding Placed copiesTo
 placed-copies n [] x e on = tt
 placed-copies n (y ∷ ts) x e on = (on y (inl refl), e, placed-copies n ts x e (λ z i. on z (inr i)))
 
-elsewhere-copies : (q : ℕ) (ts : List ℕ) (x : List ℕ) → ((y : ℕ) → In y ts → q ≢ y) → Elsewhere q (copiesTo ts x)
+pub elsewhere-copies : (q : ℕ) (ts : List ℕ) (x : List ℕ) → ((y : ℕ) → In y ts → q ≢ y) → Elsewhere q (copiesTo ts x)
 unfolding Elsewhere copiesTo
 elsewhere-copies q [] x h = tt
 elsewhere-copies q (y ∷ ts) x h = (h y (inl refl), elsewhere-copies q ts x (λ z i. h z (inr i)))

@@ -11,3 +11,6 @@ pub mod Both
 pub mod Calls
 pub mod Store
 pub mod Demand
+pub mod Lives
+pub mod Examples
+pub mod LivesAgain

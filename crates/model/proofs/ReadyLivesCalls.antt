@@ -1,0 +1,228 @@
+-- When the calls on a rewritable disc are carried out, and what they then answer and leave. Assumes nothing.
+use Prim.Native.Nat.{ℕ, _+_, _-_, _*_, _%_, _≤_, _<_}
+use mathlib.Core.Bool.{Bool, true, false, not}
+use mathlib.Core.Logic.{_≢_}
+use mathlib.Core.Path.{_≡_, sym, ap, ap₂, _∙_}
+use mathlib.Core.List.{List}
+use native.Mathlib.Omega.{arith}
+use lib.Dec.{eqb}
+use lib.ListN.{length, getD, set, take}
+use borrow.Author.Tests.{lt-ltb, le-leb, eq-eqb, ne-eqb, eqb-true}
+use Rattle.refusal.specs.declared.Verdict.{Verdict}
+use Rattle.refusal.specs.declared.Verdict.the-variants.{Go}
+use Rattle.refusal.specs.Tests.{Test, first, need}
+use Rattle.maps.specs.Kinds.{readMaps}
+use Rattle.model.specs.declared.Record.{Record}
+use Rattle.model.specs.Disc.{Disc, mark, recorded}
+use Rattle.model.specs.Writes.{Write, writes, struck, noCut}
+use Rattle.model.specs.Sparing.{Geometry, Entry, entries, freeOf, spotOf, inPlace, packetOf, locate}
+use Rattle.model.specs.Examine.{Setting, writeOnce, lentTable}
+use Rattle.model.specs.Plan.{carry, unless, replyOf, discAfter, tableAfter}
+use Rattle.model.specs.Rewrite.{isSpared, noEntry, tableOn, copyTests, currentRecord, rewritableVerdict, othersRecorded, blockTest, saveBlockTests, blockLent, saveBlockPlan, packetTests, packetLent, spareTests, sparePlan}
+use Rattle.model.specs.Both.{openVerdict, recordOn, passedOn, openedBy, opening}
+use Rattle.model.specs.Calls.{Call, saveBlock, sparePacket, openDisc, done, opened, State, Result, answerOf, heldAfter, carried, answerOfOpening, step, accepted, isCut}
+use Rattle.model.specs.Store.{Slot, holds, unused, unreadable, slotAt, puts, blocksIn, Store, store, Shape, cutIn, writesIn, wasCut, taken, next}
+use Rattle.model.proofs.Basics.{by-bool, both}
+use Rattle.model.proofs.Verdicts.{go-then}
+use Rattle.model.proofs.Ground.{Ground}
+use Rattle.model.proofs.SectorsRuns.{recordedRun-all}
+use Rattle.model.proofs.SparingLaws.{packet-multiple, packet-less, packet-inside, settled-some, settled-table, settled-agree}
+use Rattle.model.proofs.Ready.{Ready, Holds, LiveAgain, ready-entries, ready-count, ready-sequence, ready-place, examined-again, copies-go, held-current}
+use Rattle.model.proofs.ReadyOpen.{AgainOk, reopened-again}
+use Rattle.model.proofs.ReadySave.{at-place}
+use Rattle.model.proofs.ReadyCalls.{sound-block}
+use Rattle.model.proofs.ReadySpare.{sound-spare}
+use Rattle.model.proofs.Steps.{Sound}
+
+-- ---- a call that no test stops, and that is not cut
+
+-- it answers with its record, and leaves its disc, table and record
+carried-out : (v : Verdict) (ws : List Write) (t : List ℕ) (r : Record) (st : State) → v ≡ Go
+    → carried (unless v (carry ws t r)) noCut st
+    ≡ record { answer = done r; state = record { disc = writes 1 noCut ws (st .disc); table = t; held = r } }
+unfolding carried unless replyOf discAfter tableAfter answerOf heldAfter struck noCut
+carried-out v ws t r st h = rw h
+
+-- an invariant that a call keeps holds of the plain store as an uncut call leaves it
+sound-done : (Ok : Bool → State → Store → Type 0) (h : Shape) (σ : Store) (c : Call) (r : Result) (held : Record)
+    → r .answer ≡ done held → Sound Ok h σ c r → Ok false (r .state) (taken h σ c (wasCut h σ c))
+unfolding accepted isCut next
+sound-done Ok h σ c r held q s = rw q at s
+
+sound-opened : (Ok : Bool → State → Store → Type 0) (h : Shape) (σ : Store) (c : Call) (r : Result) (held : Record) (n : ℕ)
+    → r .answer ≡ opened held n → Sound Ok h σ c r → Ok false (r .state) (taken h σ c (wasCut h σ c))
+unfolding accepted isCut next
+sound-opened Ok h σ c r held n q s = rw q at s
+
+-- a sector that is a block of bytes is recorded
+unread-differs : (x : List ℕ) → unreadable ≡ holds x → ⊥
+unread-differs x h = let z : _≡_ {A = ℕ} 0 1 = cc in omega arith
+
+holds-recorded : (d : Disc) (p : ℕ) (x : List ℕ) → slotAt d p ≡ holds x → mark d p ≡ 1
+unfolding slotAt recorded
+holds-recorded d p x h =
+    by-bool (eqb (mark d p) 1) (eqb-true _ _) (λ q. absurd (unread-differs x (rw q at h)))
+
+-- a store whose blocks below n all hold bytes
+pub record Whole (n : ℕ) (bs : List Slot) : Type 0 where
+  pub bytes : ℕ → List ℕ
+  pub block : (v : ℕ) → v < n → getD bs v unused ≡ holds (bytes v)
+
+-- a packet that is not spared
+not-spared : (es : List Entry) (p : ℕ) → spotOf es p ≡ inPlace → not (isSpared (spotOf es p)) ≡ true
+unfolding isSpared
+not-spared es p h = rw h
+
+-- a record has one R and one sequence
+held-both : (r : Record) {a n a′ n′ : ℕ} → Holds r a n → Holds r a′ n′ → (a ≡ a′) × (n ≡ n′)
+unfolding Holds
+held-both (Record.WriteOnce a next last) p q = absurd p
+held-both (Record.Rewritable a s) p q = (sym (p .0) ∙ q .0, sym (p .1) ∙ q .1)
+
+-- a state with the same table and record is of the same sequence and entries
+live-same : (e : Setting) (g : Geometry) (st st′ : State) (n : ℕ) (l : List ℕ) (σ σ′ : Store) → LiveAgain e g st n l σ
+    → (n′ : ℕ) (l′ : List ℕ) → LiveAgain e g st′ n′ l′ σ′ → st′ .held ≡ st .held → st′ .table ≡ st .table → LiveAgain e g st′ n l σ′
+live-same e g st st′ n l σ σ′ i n′ l′ j same-held same-table =
+    let q = held-both (st .held) (i .held) (rw same-held at (j .held)) in
+    let w : l ≡ l′ = sym (i .front) ∙ ap₂ (λ (y : ℕ) (t : List ℕ). take (2 * y) t) (q .0) (sym same-table) ∙ j .front in
+    rw (q .1, w) j
+
+-- ---- the calls
+module _ (e : Setting) (g : Geometry) (again : writeOnce e ≡ false) (γ : Ground e g) (maps-go : readMaps (e .maps) .verdict ≡ Go) where
+  -- opening goes on
+  pub open-goes : (d : Disc) (t : List ℕ) {n : ℕ} {l : List ℕ} {bs : List Slot} → Ready e g d n l bs → 4096 ≤ length t → openVerdict e d t ≡ Go
+  unfolding openVerdict lentTable
+  open-goes d t r long =
+      go-then _ (examined-again e g again γ maps-go d _ r (le-leb _ _ long)) ∙ rw again (copies-go e g again γ maps-go d r)
+
+  -- with R and the sequence of the table
+  pub record-again : (d : Disc) {n : ℕ} {l : List ℕ} {bs : List Slot} → Ready e g d n l bs → recordOn e d ≡ Record.Rewritable (length (entries l)) n
+  unfolding recordOn currentRecord
+  record-again d r = rw (again, ready-count r, ready-sequence r)
+
+  -- what is left of the tests of a call are its own
+  own-tests : (st : State) (lent : Bool) (own : List Test) {n : ℕ} {l : List ℕ} {σ : Store} → LiveAgain e g st n l σ → lent ≡ true
+      → rewritableVerdict e (st .disc) (st .table) lent (st .held) own ≡ first own
+  unfolding rewritableVerdict need copyTests tableOn
+  own-tests st lent own {n} {l} i c =
+      go-then _ (examined-again e g again γ maps-go (st .disc) lent (i .ready) c)
+      ∙ rw (again, i .ready .geo, settled-some (st .disc) g n l (i .ready .settled), settled-table (st .disc) g n l (i .ready .settled), settled-agree (st .disc) g n l (i .ready .settled), held-current e g again γ maps-go st i)
+
+  module _ (h : Shape) (st : State) (n : ℕ) (l : List ℕ) (σ : Store) (i : LiveAgain e g st n l σ) where
+    -- a record with the table's R and sequence
+    held-is : (r : Record) → Holds r (length (entries l)) n → r ≡ Record.Rewritable (length (entries l)) n
+    unfolding Holds
+    held-is (Record.WriteOnce a next last) q = absurd q
+    held-is (Record.Rewritable a s) q = ap₂ (λ (x y : ℕ). Record.Rewritable x y) (q .0) (q .1)
+
+    -- ---- save b
+    module _ (b : ℕ) (x : List ℕ) (below : b < g .span) (long : length x ≡ 2048) (whole : Whole (g .span) (σ .blocks)) where
+      abbrev p : ℕ
+      p = packetOf b
+
+      abbrev start : ℕ
+      start = locate (g .start) (entries l) p
+
+      -- the packet is recorded
+      each-recorded : (j : ℕ) → j < 32 → mark (st .disc) (start + j) ≡ 1
+      each-recorded j u =
+          let v : p + j < g .span = omega (arith, packet-inside b (g .span) (γ .span-32) below) in
+          holds-recorded (st .disc) (start + j) (whole .bytes (p + j))
+          (ap (slotAt (st .disc)) (sym (at-place e g γ (st .disc) n l (σ .blocks) (i .ready) p (packet-multiple b) (packet-less b (g .span) below) j u))
+          ∙ sym (i .ready .same (p + j) v)
+          ∙ whole .block (p + j) v)
+
+      others : othersRecorded (st .disc) start (b % 32) ≡ true
+      unfolding othersRecorded
+      others =
+          let k : ℕ = b % 32 in
+          both
+          (recordedRun-all (st .disc) start k (λ j u. each-recorded j (omega arith)))
+          (recordedRun-all (st .disc) (start + k + 1) (31 - k)
+          (λ j u.
+          let z : start + k + 1 + j ≡ start + (k + 1 + j) = omega arith in
+          rw z (each-recorded (k + 1 + j) (omega arith))))
+
+      save-goes : rewritableVerdict e (st .disc) (st .table) (blockLent (st .table) x) (st .held) (saveBlockTests e (st .disc) b) ≡ Go
+      unfolding saveBlockTests blockTest blockLent lentTable need
+      save-goes =
+          own-tests st _ (saveBlockTests e (st .disc) b) i (both (le-leb _ _ (i .lent)) (eq-eqb _ _ long))
+          ∙ rw (ready-place γ (i .ready) (packetOf b), others, γ .span-is, lt-ltb b (g .span) below)
+
+      -- it answers with the record as it was
+      pub save-answer : step e st (saveBlock b x noCut) .answer ≡ done (Record.Rewritable (length (entries l)) n)
+      unfolding step saveBlockPlan
+      save-answer = ap (λ (r : Result). r .answer) (carried-out _ _ _ _ st save-goes) ∙ ap done (held-is (st .held) (i .held))
+
+      save-held : step e st (saveBlock b x noCut) .state .held ≡ st .held
+      unfolding step saveBlockPlan
+      save-held = ap (λ (r : Result). r .state .held) (carried-out _ _ _ _ st save-goes)
+
+      save-table : step e st (saveBlock b x noCut) .state .table ≡ st .table
+      unfolding step saveBlockPlan
+      save-table = ap (λ (r : Result). r .state .table) (carried-out _ _ _ _ st save-goes)
+
+      save-any : (n′ : ℕ) × (l′ : List ℕ) × LiveAgain e g (step e st (saveBlock b x noCut) .state) n′ l′ (store (set (σ .blocks) b (holds x)) (σ .copy))
+      unfolding AgainOk taken wasCut cutIn writesIn struck noCut
+      save-any = sound-done (AgainOk e g) h σ (saveBlock b x noCut) (step e st (saveBlock b x noCut)) _ save-answer (sound-block e g γ h st σ n l i b x noCut)
+
+      -- the table is as it was, and block b has its bytes
+      pub save-live : LiveAgain e g (step e st (saveBlock b x noCut) .state) n l (store (set (σ .blocks) b (holds x)) (σ .copy))
+      save-live = live-same e g st _ n l σ _ i (save-any .0) (save-any .1) (save-any .2) save-held save-table
+
+    -- ---- spare p
+    module _ (p : ℕ) (y : List ℕ) (multiple : p % 32 ≡ 0) (below : p < g .span) (long : length y ≡ 65536) (copies : h .tables ≡ length (g .tables)) (two : 2 ≤ length (g .tables))
+        (unspared : spotOf (entries l) p ≡ inPlace) (some : noEntry (freeOf (entries l)) ≡ false) (more : n ≢ 4294967295) where
+      spare-goes : rewritableVerdict e (st .disc) (st .table) (packetLent (st .table) y) (st .held) (spareTests e (st .disc) p) ≡ Go
+      unfolding spareTests packetTests packetLent lentTable need
+      spare-goes =
+          own-tests st _ (spareTests e (st .disc) p) i (both (le-leb _ _ (i .lent)) (eq-eqb _ _ long))
+          ∙ rw (ready-entries (i .ready), ready-sequence (i .ready), i .ready .geo, eq-eqb (p % 32) 0 multiple, le-leb 2 (length (g .tables)) two, not-spared (entries l) p unspared, some, ne-eqb n 4294967295 more, γ .span-is, lt-ltb p (g .span) below)
+
+      -- it answers with the next sequence
+      pub spare-answer : step e st (sparePacket p y noCut) .answer ≡ done (Record.Rewritable (length (entries l)) (n + 1))
+      unfolding step sparePlan
+      spare-answer =
+          ap (λ (r : Result). r .answer) (carried-out _ _ _ _ st spare-goes)
+          ∙ ap₂ (λ (a s : ℕ). done (Record.Rewritable a (s + 1))) (ready-count (i .ready)) (ready-sequence (i .ready))
+
+      spare-held : step e st (sparePacket p y noCut) .state .held ≡ Record.Rewritable (length (entries l)) (n + 1)
+      unfolding step sparePlan
+      spare-held =
+          ap (λ (r : Result). r .state .held) (carried-out _ _ _ _ st spare-goes)
+          ∙ ap₂ (λ (a s : ℕ). Record.Rewritable a (s + 1)) (ready-count (i .ready)) (ready-sequence (i .ready))
+
+      spare-any : (n′ : ℕ) × (l′ : List ℕ) × LiveAgain e g (step e st (sparePacket p y noCut) .state) n′ l′ (store (puts (σ .blocks) p (blocksIn 32 y 0)) (σ .copy))
+      unfolding AgainOk taken wasCut cutIn writesIn struck noCut
+      spare-any =
+          sound-done (AgainOk e g) h σ (sparePacket p y noCut) (step e st (sparePacket p y noCut)) _ spare-answer (sound-spare e g γ h copies st σ n l i p y noCut)
+
+      -- the packet has its bytes, in a table of as many entries
+      pub record Spared : Type 0 where
+        pub table : List ℕ
+        pub live : LiveAgain e g (step e st (sparePacket p y noCut) .state) (n + 1) table (store (puts (σ .blocks) p (blocksIn 32 y 0)) (σ .copy))
+        pub count : length (entries table) ≡ length (entries l)
+
+      pub spare-live : Spared
+      unfolding Holds
+      spare-live =
+          let j = spare-any .2 in
+          let k : Holds (Record.Rewritable (length (entries l)) (n + 1)) (length (entries (spare-any .1))) (spare-any .0) = rw spare-held at (j .held) in
+          record {
+            table = spare-any .1;
+            live = rw (k .1) j;
+            count = sym (k .0);
+          }
+
+    -- ---- opening again
+    pub reopen-answer : step e st openDisc .answer ≡ opened (Record.Rewritable (length (entries l)) n) 0
+    unfolding step opening openedBy answerOfOpening passedOn
+    reopen-answer = rw (open-goes (st .disc) (st .table) (i .ready) (i .lent), record-again (st .disc) (i .ready), again)
+
+    -- no block changes
+    pub reopen-live : h .once ≡ false → (n′ : ℕ) × (l′ : List ℕ) × LiveAgain e g (step e st openDisc .state) n′ l′ σ
+    unfolding AgainOk taken wasCut cutIn writesIn struck noCut
+    reopen-live one =
+        rw one at
+        (sound-opened (AgainOk e g) h σ openDisc (step e st openDisc) _ _ reopen-answer
+        (reopened-again e g again γ maps-go h one st σ n l (i .ready) (i .lent) .sound))

@@ -1,0 +1,116 @@
+-- What the calls do for a rewritable disc (document 01, "The buyer's note"): a call that always refuses would meet demand 3 (Demand.antt) too. A
+-- disc that was made is opened, empty; then a block can be saved and a packet spared, and after another opening both read back.
+use Prim.Native.Nat.{ℕ, _*_, _%_, _≤_, _<_}
+use mathlib.Core.Path.{_≡_}
+use mathlib.Core.Bool.{true, false}
+use mathlib.Core.Logic.{_≢_}
+use mathlib.Core.List.{List, [], _∷_}
+use lib.ListN.{length, getD, replicate}
+use Rattle.refusal.specs.declared.Refusal.the-variants.{NumberOutside}
+use Rattle.refusal.specs.declared.Verdict.the-variants.{Go}
+use Rattle.fields.specs.Bytes.{part}
+use Rattle.maps.specs.declared.Kind.the-variants.{Rewritable}
+use Rattle.maps.specs.Kinds.{tablesOf}
+use Rattle.maps.specs.Written.{mapsOf}
+use Rattle.model.specs.declared.Record.{Record}
+use Rattle.model.specs.declared.Opened.{Opened}
+use Rattle.model.specs.Disc.{Disc, shapely}
+use Rattle.model.specs.Writes.{noCut}
+use Rattle.model.specs.Sparing.{flat, packetOf}
+use Rattle.model.specs.Examine.{Setting, setting, volume, writeOnce}
+use Rattle.model.specs.Once.{filledFrom}
+use Rattle.model.specs.Rewrite.{tableOn}
+use Rattle.model.specs.Both.{openVerdict, recordOn, opening, openedTable, spareEntries, makeVerdict, made}
+use Rattle.model.specs.Calls.{Call, saveBlock, sparePacket, openDisc, Answer, done, opened, State, answers, final}
+use Rattle.model.specs.Store.{holds, unused, blocksOn, bytes, turned}
+use Rattle.model.specs.Demand.{afterOpening, seen}
+
+-- 2,048 zeros: a block as making leaves it ("Calls and their sector writes")
+unfoldable pub zeroBlock : List ℕ
+zeroBlock = replicate 2048 0
+
+-- ---- a made disc opens
+
+-- what opening finds on the disc d, which was made with a list of spares, when it is lent the table t ("Calls and their sector writes")
+pub record OpensEmpty (e : Setting) (d : Disc) (spares t : List ℕ) : Type 0 where
+  -- no line turns it down
+  pub goes : openVerdict e d t ≡ Go
+  -- it answers with as many entries as there are spares, sequence 0, and 0 sectors passed over
+  pub answer : opening e d t ≡ Opened.Open (Record.Rewritable (length spares) 0) 0
+  pub handed : recordOn e d ≡ Record.Rewritable (length spares) 0
+  -- all entries are free, and the lent table is filled with them from its start
+  pub free : tableOn e d ≡ flat (spareEntries spares)
+  pub filled : openedTable e d t ≡ filledFrom (flat (spareEntries spares)) t
+  -- the plain store begins with L blocks, each of zeros ("The plain store")
+  pub count : length (blocksOn e d) ≡ e .span
+  pub zeros : (b : ℕ) → b < e .span → getD (blocksOn e d) b unused ≡ holds zeroBlock
+
+-- every rewritable disc whose making is accepted is opened, and is empty ("The buyer's note": opening that never accepts)
+unfoldable pub RewritableMadeOpens : Type 0
+RewritableMadeOpens =
+    (e : Setting) (d : Disc) (spares t : List ℕ)
+    → writeOnce e ≡ false
+    → makeVerdict e d spares ≡ Go
+    → 4096 ≤ length t
+    → OpensEmpty e (made e d spares) spares t
+
+-- ---- what is saved and spared there reads back
+
+-- block b is saved, the packet that begins at p spared, and the disc opened again; none is cut ("Calls and their sector writes")
+unfoldable pub usualCalls : ℕ → List ℕ → ℕ → List ℕ → List Call
+usualCalls b x p y = saveBlock b x noCut ∷ sparePacket p y noCut ∷ openDisc ∷ []
+
+-- each is carried out: R stays, the sequence goes from 0 to 1, and opening passes over 0 sectors ("Calls and their sector writes")
+unfoldable pub usualAnswers : ℕ → List Answer
+usualAnswers r = done (Record.Rewritable r 0) ∷ done (Record.Rewritable r 1) ∷ opened (Record.Rewritable r 1) 0 ∷ []
+
+-- what is claimed of these calls from the state st on, with r entries in the table, and of reading any block v after them ("The plain store")
+pub record ReadsBack (e : Setting) (st : State) (r b : ℕ) (x : List ℕ) (p : ℕ) (y : List ℕ) : Type 0 where
+  pub answered : answers e st (usualCalls b x p y) ≡ usualAnswers r
+  -- a block of the spared packet reads as its part of the lent bytes
+  pub spared :
+      (v : ℕ) (out : List ℕ) → length out ≡ 2048 → packetOf v ≡ p
+      → seen e (final e st (usualCalls b x p y)) v out ≡ bytes (part y (2048 * (v % 32)) 2048)
+  -- the saved block, if it is in another packet, as it was saved
+  pub saved :
+      (v : ℕ) (out : List ℕ) → length out ≡ 2048 → v ≡ b → packetOf v ≢ p
+      → seen e (final e st (usualCalls b x p y)) v out ≡ bytes x
+  -- every other block of the partition as zeros
+  pub zeros :
+      (v : ℕ) (out : List ℕ) → length out ≡ 2048 → v ≢ b → packetOf v ≢ p → v < e .span
+      → seen e (final e st (usualCalls b x p y)) v out ≡ bytes zeroBlock
+  -- and from L upward there is none
+  pub beyond :
+      (v : ℕ) (out : List ℕ) → length out ≡ 2048 → e .span ≤ v
+      → seen e (final e st (usualCalls b x p y)) v out ≡ turned NumberOutside
+
+-- so it is on every made rewritable disc with two tables or more and a spare, for every block and every packet of the partition ("The buyer's
+-- note": a save that writes nothing, reading that always gives zeros, "no spare" on an unused disc)
+unfoldable pub RewritableLives : Type 0
+RewritableLives =
+    (e : Setting) (d : Disc) (spares t : List ℕ)
+    → writeOnce e ≡ false
+    → makeVerdict e d spares ≡ Go
+    → 4096 ≤ length t
+    → 2 ≤ length (tablesOf (volume e))
+    → 1 ≤ length spares
+    → (b : ℕ) (x : List ℕ) → b < e .span → length x ≡ 2048
+    → (p : ℕ) (y : List ℕ) → p % 32 ≡ 0 → p < e .span → length y ≡ 65536
+    → ReadsBack e (afterOpening e (made e d spares) t) (length spares) b x p y
+
+-- ---- these claims speak of some disc
+
+-- a volume with tables at sectors 0 and 32 and a partition of one packet from sector 96 on; its spare is to be at 64 ("The disc and its
+-- addresses")
+unfoldable pub smallVolume : Setting
+smallVolume = setting (mapsOf (Rewritable 0 2 64) (0 ∷ 32 ∷ 0 ∷ 0 ∷ [])) 96 32
+
+-- it is made on every disc of 128 sectors or more that meets line 1 ("Why a call is turned down"), whatever is recorded there
+unfoldable pub RewritableMakes : Type 0
+RewritableMakes =
+    (d : Disc)
+    → shapely d ≡ true
+    → 128 ≤ length (d .marks)
+    → (writeOnce smallVolume ≡ false)
+    × (2 ≤ length (tablesOf (volume smallVolume)))
+    × (makeVerdict smallVolume d (64 ∷ []) ≡ Go)
