@@ -39,3 +39,6 @@ pub mod ReadyLivesMade
 pub mod ReadyLivesCalls
 pub mod ReadyLives
 pub mod ReadyLivesSome
+pub mod ConsequencesLists
+pub mod ConsequencesLooks
+pub mod Consequences

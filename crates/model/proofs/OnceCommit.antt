@@ -32,7 +32,7 @@ use Rattle.model.proofs.Once.{Kept, BlankFrom, Ran, on-disc, agree-land
 use Rattle.model.proofs.OnceRead.{onceHeld, Live, live-blank, live-last, live-length}
 use Rattle.model.proofs.Cuts.{whole-lands, broken-lands}
 use Rattle.model.proofs.OnceSave.{OnceOk, once-tells}
-use Rattle.model.proofs.Steps.{Sound, sound-plan, sound-carried}
+use Rattle.model.proofs.Steps.{Told, told-plan, Sound, sound-plan, sound-carried}
 
 -- a commit of the first n entries of t, from block i₀ on, naming the ICB at `last`
 module _ (s l : ℕ) (d : Disc) (c : Cut) (t : List ℕ) (i₀ last : ℕ) {a : ℕ} {old : List Slot} (κ : Kept s l d a old) (z : BlankFrom s l d i₀)
@@ -230,6 +230,10 @@ module _ (e : Setting) (h : Shape) (st : State) (σ : Store) (i : Live e st σ) 
   unfolding writesIn
   told = ap (λ (n : ℕ). dataSectors n + 1) (live-length e st σ i ∙ sym count)
 
+  -- the plain store counts the writes of a commit
+  commit-count : writesIn h σ (commit c) ≡ length ws
+  commit-count = told ∙ sym number
+
   whole-commit : landing (1 + D′) c ≡ Landing.Done → Kept (e .start) (e .span) (writes 1 c ws (st .disc)) (nextHeld (st .held) + D′) (σ .blocks)
   whole-commit q =
       rw (is-disc, ← i .now)
@@ -278,6 +282,11 @@ pub sound-commit : (e : Setting) (h : Shape) (st : State) (σ : Store) → Live 
 unfolding step commitPlan OnceOk cutIn taken
 sound-commit e h st σ i c =
     sound-plan (OnceOk e) h σ (commit c) c st _ _ _ _ i λ g.
-    sound-carried (OnceOk e) h σ (commit c) c st _ _ _ refl (told e h st σ i c g ∙ sym (number e h st σ i c g))
+    sound-carried (OnceOk e) h σ (commit c) c st _ _ _ refl (commit-count e h st σ i c g)
     (cut-commit e h st σ i c g)
     (done-commit e h st σ i c g)
+
+-- its answer says that it was cut exactly if the plain store knows it
+pub told-commit : (e : Setting) (h : Shape) (st : State) (σ : Store) → Live e st σ → (c : Cut) → Told h σ (commit c) (step e st (commit c) .answer)
+unfolding step commitPlan cutIn
+told-commit e h st σ i c = told-plan h σ (commit c) c st _ _ _ _ refl (commit-count e h st σ i c)

@@ -1,8 +1,9 @@
 -- Demand 3 on a write-once disc. Assumes nothing.
-use Prim.Native.Nat.{ℕ}
+use Prim.Native.Nat.{ℕ, _<_}
 use mathlib.Core.Bool.{Bool, true, false, not, false≢true}
 use mathlib.Core.Path.{_≡_, refl, sym, subst}
 use mathlib.Core.List.{List, _∷_, _++_}
+use lib.ListN.{length, getD, take}
 use Rattle.refusal.specs.declared.Refusal.the-variants.{OtherKind, StaleRecord}
 use Rattle.refusal.specs.declared.Verdict.the-variants.{Go}
 use Rattle.refusal.specs.Tests.{Test, test}
@@ -11,19 +12,19 @@ use Rattle.maps.specs.Kinds.{readMaps}
 use Rattle.model.specs.declared.Record.{Record}
 use Rattle.model.specs.Disc.{Disc}
 use Rattle.model.specs.Examine.{Setting, writeOnce, examined}
-use Rattle.model.specs.Once.{lastHeld}
+use Rattle.model.specs.Once.{entriesHeld, lastHeld}
 use Rattle.model.specs.Rewrite.{copyTests, heldCurrent, rewritableVerdict, saveBlockPlan, savePacketPlan, sparePlan}
 use Rattle.model.specs.Both.{opening, openedBy, openVerdict}
-use Rattle.model.specs.Calls.{Call, saveVirtual, freeVirtual, commit, saveBlock, savePacket, sparePacket, openDisc, State, step, answers, answerOfOpening, isOpened, Proper}
-use Rattle.model.specs.Store.{Store, Shape, shapeOf, start}
-use Rattle.model.specs.Demand.{afterOpening, Kept}
+use Rattle.model.specs.Calls.{Call, saveVirtual, freeVirtual, commit, saveBlock, savePacket, sparePacket, openDisc, cut, State, step, answers, final, answerOfOpening, isOpened, Proper, endsCut}
+use Rattle.model.specs.Store.{Store, Shape, shapeOf, start, cutIn}
+use Rattle.model.specs.Demand.{afterOpening, followed, Kept}
 use Rattle.model.proofs.Verdicts.{by-verdict, then-go, examined-tells}
 use Rattle.model.proofs.Once as once-kept
-use Rattle.model.proofs.OnceRead.{Live, read-once}
-use Rattle.model.proofs.OnceSave.{OnceOk, sound-save, sound-free}
+use Rattle.model.proofs.OnceRead.{Live, live-length, read-once}
+use Rattle.model.proofs.OnceSave.{OnceOk, sound-save, sound-free, told-save, told-free}
 use Rattle.model.proofs.OnceOpen.{reopened, first-live}
-use Rattle.model.proofs.OnceCommit.{sound-commit}
-use Rattle.model.proofs.Steps.{Sound, sound-plan, list-opens, list-ends}
+use Rattle.model.proofs.OnceCommit.{sound-commit, told-commit}
+use Rattle.model.proofs.Steps.{Told, told-plan, told-opening, list-told, Sound, sound-plan, list-opens, list-ends}
 
 -- an opening that was accepted went on
 pub accepted-goes : (e : Setting) (d : Disc) (t : List ℕ) → isOpened (answerOfOpening (opening e d t)) ≡ true → openVerdict e d t ≡ Go
@@ -67,6 +68,22 @@ module _ (e : Setting) (one : writeOnce e ≡ true) (maps-go : readMaps (e .maps
   opens-any true st σ o = reopened e one maps-go h shape-once st σ (o .0) (o .1) (o .2) .accepts
   opens-any false st σ o = reopened e one maps-go h shape-once st σ (lastHeld (st .held)) (o .kept) (o .lent) .accepts
 
+  -- the answer of a call says that it was cut exactly if the plain store knows it
+  told-live : (st : State) (σ : Store) (c : Call) → Live e st σ → Told h σ c (step e st c .answer)
+  unfolding step saveBlockPlan savePacketPlan sparePlan cutIn
+  told-live st σ (saveVirtual v b c) i = told-save e h st σ i v b c
+  told-live st σ (freeVirtual v) i = told-free e h st σ i v
+  told-live st σ (commit c) i = told-commit e h st σ i c
+  told-live st σ (saveBlock b x c) i = told-plan h σ (saveBlock b x c) c st _ _ _ _ refl λ g. other-kind e _ _ _ _ _ one g
+  told-live st σ (savePacket b x c) i = told-plan h σ (savePacket b x c) c st _ _ _ _ refl λ g. other-kind e _ _ _ _ _ one g
+  told-live st σ (sparePacket b x c) i = told-plan h σ (sparePacket b x c) c st _ _ _ _ refl λ g. other-kind e _ _ _ _ _ one g
+  told-live st σ openDisc i = told-opening e h st σ
+
+  told-any : (down : Bool) (st : State) (σ : Store) (c : Call) → OnceOk e down st σ → (down ≡ true → c ≡ openDisc) → Told h σ c (step e st c .answer)
+  unfolding OnceOk
+  told-any true st σ c o q = subst (λ (x : Call). Told h σ x (step e st x .answer)) (sym (q refl)) (told-opening e h st σ)
+  told-any false st σ c o q = told-live st σ c o
+
   -- every list of calls
   once-lists : (d : Disc) (t : List ℕ) → openVerdict e d t ≡ Go → (cs : List Call) → Proper false cs (answers e (afterOpening e d t) cs) → Kept e d t cs
   unfolding OnceOk
@@ -78,6 +95,18 @@ module _ (e : Setting) (one : writeOnce e ≡ true) (maps-go : readMaps (e .maps
             read-once e one maps-go _ _ (list-ends (OnceOk e) h e sound-any opens-any cs (afterOpening e d t) (start e d) i p q) v out long;
       }
 
+  once-answers : (d : Disc) (t : List ℕ) → openVerdict e d t ≡ Go → (cs : List Call) → Proper false cs (answers e (afterOpening e d t) cs)
+      → (i : ℕ) → i < length cs
+      → Told h (followed h (start e d) (take i cs) (answers e (afterOpening e d t) (take i cs))) (getD cs i openDisc) (getD (answers e (afterOpening e d t) cs) i cut)
+  unfolding OnceOk
+  once-answers d t g cs p = list-told (OnceOk e) h e sound-any told-any cs (afterOpening e d t) (start e d) (first-live e one maps-go d t g) p
+
+  once-count : (d : Disc) (t : List ℕ) → openVerdict e d t ≡ Go → (cs : List Call) → Proper false cs (answers e (afterOpening e d t) cs)
+      → endsCut false (answers e (afterOpening e d t) cs) ≡ false
+      → length (followed h (start e d) cs (answers e (afterOpening e d t) cs) .blocks) ≡ entriesHeld (final e (afterOpening e d t) cs .held)
+  unfolding OnceOk
+  once-count d t g cs p q = live-length e _ _ (list-ends (OnceOk e) h e sound-any opens-any cs (afterOpening e d t) (start e d) (first-live e one maps-go d t g) p q)
+
 -- on a write-once disc that opening accepts
 pub once-demand : (e : Setting) (d : Disc) (t : List ℕ) → writeOnce e ≡ true → isOpened (answerOfOpening (opening e d t)) ≡ true
     → (cs : List Call) → Proper false cs (answers e (afterOpening e d t) cs) → Kept e d t cs
@@ -86,3 +115,23 @@ once-demand e d t one a cs p =
     let g = accepted-goes e d t a in
     let m = examined-tells e d _ (then-go (examined e d _) _ g .0) .maps in
     once-lists e one m d t g cs p
+
+-- and the answer of each call says that it was cut exactly if the plain store knows it
+pub once-told : (e : Setting) (d : Disc) (t : List ℕ) → writeOnce e ≡ true → isOpened (answerOfOpening (opening e d t)) ≡ true
+    → (cs : List Call) → Proper false cs (answers e (afterOpening e d t) cs) → (i : ℕ) → i < length cs
+    → Told (shapeOf e) (followed (shapeOf e) (start e d) (take i cs) (answers e (afterOpening e d t) (take i cs))) (getD cs i openDisc) (getD (answers e (afterOpening e d t) cs) i cut)
+unfolding openVerdict
+once-told e d t one a cs p =
+    let g = accepted-goes e d t a in
+    let m = examined-tells e d _ (then-go (examined e d _) _ g .0) .maps in
+    once-answers e one m d t g cs p
+
+-- the plain store has N blocks after a list that does not end in a cut
+pub once-blocks : (e : Setting) (d : Disc) (t : List ℕ) → writeOnce e ≡ true → isOpened (answerOfOpening (opening e d t)) ≡ true
+    → (cs : List Call) → Proper false cs (answers e (afterOpening e d t) cs) → endsCut false (answers e (afterOpening e d t) cs) ≡ false
+    → length (followed (shapeOf e) (start e d) cs (answers e (afterOpening e d t) cs) .blocks) ≡ entriesHeld (final e (afterOpening e d t) cs .held)
+unfolding openVerdict
+once-blocks e d t one a cs p =
+    let g = accepted-goes e d t a in
+    let m = examined-tells e d _ (then-go (examined e d _) _ g .0) .maps in
+    once-count e one m d t g cs p

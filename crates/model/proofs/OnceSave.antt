@@ -31,7 +31,7 @@ use Rattle.model.proofs.Scan.{below-mono, below-set, below-snoc, below-
 use Rattle.model.proofs.Sectors.{Made, shapely-made, shapely-most, sector-done, mark-done, recorded-done, landing-uncut, nwa-is}
 use Rattle.model.proofs.Once.{Kept, on-disc, agree-landed, blank-landed, kept-write}
 use Rattle.model.proofs.OnceRead.{onceHeld, Live, live-blank, live-length}
-use Rattle.model.proofs.Steps.{Sound, sound-plan, sound-carried}
+use Rattle.model.proofs.Steps.{Told, told-plan, Sound, sound-plan, sound-carried}
 
 -- N and NWA of a state
 abbrev N : State → ℕ
@@ -180,6 +180,11 @@ module _ (e : Setting) (h : Shape) (st : State) (σ : Store) (i : Live e st σ) 
       (λ q. (lastHeld (st .held), kept-saved v b c g, i .lent))
       (λ q. live-saved v b c g q)
 
+  -- its answer says that it was cut exactly if the plain store knows it
+  pub told-save : (v : ℕ) (b : List ℕ) (c : Cut) → Told h σ (saveVirtual v b c) (step e st (saveVirtual v b c) .answer)
+  unfolding step savePlan cutIn writesIn
+  told-save v b c = told-plan h σ (saveVirtual v b c) c st _ _ _ _ refl (λ g. refl)
+
   -- ---- free v
   pub sound-free : (v : ℕ) → Sound (OnceOk e) h σ (freeVirtual v) (step e st (freeVirtual v))
   unfolding step freePlan OnceOk cutIn writesIn taken writes struck noCut entryTests
@@ -203,3 +208,7 @@ module _ (e : Setting) (h : Shape) (st : State) (σ : Store) (i : Live e st σ) 
             ∙ slots-set (st .disc) (e .start) (take (N st) (st .table)) v none
             ∙ ap₂ (λ (l : List Slot) (x : Slot). set l v x) (i .now) (slot-none (st .disc) (e .start));
       })
+
+  pub told-free : (v : ℕ) → Told h σ (freeVirtual v) (step e st (freeVirtual v) .answer)
+  unfolding step freePlan cutIn writesIn
+  told-free v = told-plan h σ (freeVirtual v) noCut st _ _ _ _ refl (λ g. refl)

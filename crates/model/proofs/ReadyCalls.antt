@@ -35,7 +35,7 @@ use Rattle.model.proofs.Ready.{Ready, LiveAgain, ready-place}
 use Rattle.model.proofs.ReadyOpen.{AgainOk}
 use Rattle.model.proofs.ReadySave.{run-cases, ready-written, on-disc, at-place}
 use Rattle.model.proofs.Slots.{length-blocks, block-in, length-cut, cut-other, cut-inside, length-puts, puts-other, puts-inside, slot-recorded}
-use Rattle.model.proofs.Steps.{Sound, sound-plan, sound-carried}
+use Rattle.model.proofs.Steps.{Told, told-plan, Sound, sound-plan, sound-carried}
 
 -- what the tests of a call on a rewritable disc tell
 pub again-tells : (e : Setting) (d : Disc) (t : List ℕ) (lent : Bool) (r : Record) (own : List Test) → rewritableVerdict e d t lent r own ≡ Go → Examined e d lent × All own
@@ -52,6 +52,17 @@ after-done o x w = rw w
 -- a block of another packet is outside the run of this one
 pub other-packet : (p b : ℕ) → p % 32 ≡ 0 → packetOf b ≢ p → (b < p) ⊎ (p + 32 ≤ b)
 other-packet p b m w = run-cases b p (λ i h v. absurd (w (ap packetOf v ∙ packet-start p i m h))) (λ h. h)
+
+-- the answer of a save says that it was cut exactly if the plain store knows it: both saves are 32 writes
+pub told-packet : (e : Setting) (h : Shape) (st : State) (σ : Store) (b : ℕ) (x : List ℕ) (c : Cut) → Told h σ (savePacket b x c) (step e st (savePacket b x c) .answer)
+unfolding step savePacketPlan packetWrites cutIn writesIn
+told-packet e h st σ b x c = told-plan h σ (savePacket b x c) c st _ _ _ _ refl (λ go. sym (length-upward 32 (placeOf e (st .disc) b) x 0))
+
+pub told-block : (e : Setting) (h : Shape) (st : State) (σ : Store) (b : ℕ) (x : List ℕ) (c : Cut) → Told h σ (saveBlock b x c) (step e st (saveBlock b x c) .answer)
+unfolding step saveBlockPlan packetWrites cutIn writesIn
+told-block e h st σ b x c =
+    told-plan h σ (saveBlock b x c) c st _ _ _ _ refl
+    (λ go. sym (length-upward 32 (placeOf e (st .disc) (packetOf b)) (replaced (st .disc) (placeOf e (st .disc) (packetOf b)) (b % 32) x) 0))
 
 module _ (e : Setting) (g : Geometry) (γ : Ground e g) (h : Shape) (st : State) (σ : Store) (n : ℕ) (l : List ℕ) (i : LiveAgain e g st n l σ) where
   abbrev d : Disc

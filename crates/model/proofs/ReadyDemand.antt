@@ -1,9 +1,9 @@
 -- Demand 3 on a rewritable disc. Assumes nothing.
-use Prim.Native.Nat.{ℕ}
+use Prim.Native.Nat.{ℕ, _%_, _<_}
 use mathlib.Core.Bool.{Bool, true, false, false≢true}
 use mathlib.Core.Path.{_≡_, refl, sym, _∙_, subst}
 use mathlib.Core.List.{List, _∷_}
-use lib.ListN.{length}
+use lib.ListN.{length, getD, take}
 use Rattle.refusal.specs.declared.Refusal.the-variants.{OtherKind, StaleRecord}
 use Rattle.refusal.specs.declared.Verdict.the-variants.{Go}
 use Rattle.refusal.specs.Tests.{Test, test}
@@ -16,17 +16,17 @@ use Rattle.model.specs.Sparing.{Geometry}
 use Rattle.model.specs.Examine.{Setting, writeOnce, examined, geometry}
 use Rattle.model.specs.Once.{heldFits, onceVerdict, savePlan, freePlan, commitPlan}
 use Rattle.model.specs.Both.{opening, openVerdict}
-use Rattle.model.specs.Calls.{Call, saveVirtual, freeVirtual, commit, saveBlock, savePacket, sparePacket, openDisc, State, step, answers, answerOfOpening, isOpened, Proper}
-use Rattle.model.specs.Store.{Store, Shape, shapeOf, start}
-use Rattle.model.specs.Demand.{Below, afterOpening, Kept}
+use Rattle.model.specs.Calls.{Call, saveVirtual, freeVirtual, commit, saveBlock, savePacket, sparePacket, openDisc, cut, State, step, answers, answerOfOpening, isOpened, Proper, endsCut}
+use Rattle.model.specs.Store.{Store, Shape, shapeOf, start, cutIn}
+use Rattle.model.specs.Demand.{Below, afterOpening, followed, Kept}
 use Rattle.model.proofs.Verdicts.{then-go, examined-tells}
 use Rattle.model.proofs.Ground.{Ground}
 use Rattle.model.proofs.Ready.{LiveAgain, read-again}
 use Rattle.model.proofs.ReadyOpen.{AgainOk, reopened-again, first-ground, first-again}
-use Rattle.model.proofs.ReadyCalls.{sound-packet, sound-block}
-use Rattle.model.proofs.ReadySpare.{sound-spare}
+use Rattle.model.proofs.ReadyCalls.{sound-packet, sound-block, told-packet, told-block}
+use Rattle.model.proofs.ReadySpare.{sound-spare, told-spare}
 use Rattle.model.proofs.OnceDemand.{accepted-goes}
-use Rattle.model.proofs.Steps.{Sound, sound-plan, list-opens, list-ends}
+use Rattle.model.proofs.Steps.{Told, told-plan, told-opening, list-told, Sound, sound-plan, list-opens, list-ends}
 
 -- a call for write-once discs never goes on
 other-kind : {P : Type 0} (e : Setting) (d : Disc) (t : List ℕ) (lent : Bool) (r : Record) (own : List Test) → writeOnce e ≡ false → onceVerdict e d t lent r own ≡ Go → P
@@ -66,6 +66,22 @@ module _ (e : Setting) (again : writeOnce e ≡ false) (maps-go : readMaps (e .m
   opens-any true st σ o = reopened-again e g again γ maps-go h shape-again st σ (o .0) (o .1) (o .2) (o .3) .accepts
   opens-any false st σ o = reopened-again e g again γ maps-go h shape-again st σ (o .0) (o .1) (o .2 .ready) (o .2 .lent) .accepts
 
+  -- the answer of a call says that it was cut exactly if the plain store knows it
+  told-live : (st : State) (σ : Store) (c : Call) (n : ℕ) (l : List ℕ) → LiveAgain e g st n l σ → Told h σ c (step e st c .answer)
+  unfolding step savePlan freePlan commitPlan cutIn
+  told-live st σ (saveVirtual v b c) n l i = told-plan h σ (saveVirtual v b c) c st _ _ _ _ refl λ go. other-kind e _ _ _ _ _ again go
+  told-live st σ (freeVirtual v) n l i = told-plan h σ (freeVirtual v) noCut st _ _ _ _ refl λ go. other-kind e _ _ _ _ _ again go
+  told-live st σ (commit c) n l i = told-plan h σ (commit c) c st _ _ _ _ refl λ go. other-kind e _ _ _ _ _ again go
+  told-live st σ (saveBlock b x c) n l i = told-block e h st σ b x c
+  told-live st σ (savePacket b x c) n l i = told-packet e h st σ b x c
+  told-live st σ (sparePacket b x c) n l i = told-spare e g γ h tables st σ n l i b x c
+  told-live st σ openDisc n l i = told-opening e h st σ
+
+  told-any : (down : Bool) (st : State) (σ : Store) (c : Call) → AgainOk e g down st σ → (down ≡ true → c ≡ openDisc) → Told h σ c (step e st c .answer)
+  unfolding AgainOk
+  told-any true st σ c o q = subst (λ (x : Call). Told h σ x (step e st x .answer)) (sym (q refl)) (told-opening e h st σ)
+  told-any false st σ c o q = told-live st σ c (o .0) (o .1) (o .2)
+
   -- every list of calls
   again-lists : (d : Disc) (t : List ℕ) → AgainOk e g false (afterOpening e d t) (start e d) → (cs : List Call) → Proper false cs (answers e (afterOpening e d t) cs) → Kept e d t cs
   unfolding AgainOk
@@ -77,6 +93,18 @@ module _ (e : Setting) (again : writeOnce e ≡ false) (maps-go : readMaps (e .m
             read-again e g again γ maps-go _ (o .0) (o .1) _ (o .2) v out long;
       }
 
+  again-answers : (d : Disc) (t : List ℕ) → AgainOk e g false (afterOpening e d t) (start e d) → (cs : List Call) → Proper false cs (answers e (afterOpening e d t) cs)
+      → (i : ℕ) → i < length cs
+      → Told h (followed h (start e d) (take i cs) (answers e (afterOpening e d t) (take i cs))) (getD cs i openDisc) (getD (answers e (afterOpening e d t) cs) i cut)
+  again-answers d t o cs p = list-told (AgainOk e g) h e sound-any told-any cs (afterOpening e d t) (start e d) o p
+
+  again-count : (d : Disc) (t : List ℕ) → AgainOk e g false (afterOpening e d t) (start e d) → (cs : List Call) → Proper false cs (answers e (afterOpening e d t) cs)
+      → endsCut false (answers e (afterOpening e d t) cs) ≡ false → length (followed h (start e d) cs (answers e (afterOpening e d t) cs) .blocks) ≡ e .span
+  unfolding AgainOk
+  again-count d t i cs p q =
+      let o = list-ends (AgainOk e g) h e sound-any opens-any cs (afterOpening e d t) (start e d) i p q in
+      o .2 .ready .count ∙ sym (γ .span-is)
+
 -- on a rewritable disc that opening accepts
 pub again-demand : (e : Setting) (d : Disc) (t : List ℕ) → Below 256 (d .bytes) → writeOnce e ≡ false → isOpened (answerOfOpening (opening e d t)) ≡ true
     → (cs : List Call) → Proper false cs (answers e (afterOpening e d t) cs) → Kept e d t cs
@@ -85,3 +113,24 @@ again-demand e d t low again a cs p =
     let go = accepted-goes e d t a in
     let m = examined-tells e d _ (then-go (examined e d _) _ go .0) .maps in
     again-lists e again m (geometry e d) (first-ground e again d t low go) refl d t (first-again e again d t low go) cs p
+
+-- the answer of each call says that it was cut exactly if the plain store knows it
+pub again-told : (e : Setting) (d : Disc) (t : List ℕ) → Below 256 (d .bytes) → writeOnce e ≡ false → isOpened (answerOfOpening (opening e d t)) ≡ true
+    → (cs : List Call) → Proper false cs (answers e (afterOpening e d t) cs) → (i : ℕ) → i < length cs
+    → Told (shapeOf e) (followed (shapeOf e) (start e d) (take i cs) (answers e (afterOpening e d t) (take i cs))) (getD cs i openDisc) (getD (answers e (afterOpening e d t) cs) i cut)
+unfolding openVerdict AgainOk shapeOf geometry
+again-told e d t low again a cs p =
+    let go = accepted-goes e d t a in
+    let m = examined-tells e d _ (then-go (examined e d _) _ go .0) .maps in
+    again-answers e again m (geometry e d) (first-ground e again d t low go) refl d t (first-again e again d t low go) cs p
+
+-- the plain store has L blocks, in whole packets, after a list that does not end in a cut
+pub again-blocks : (e : Setting) (d : Disc) (t : List ℕ) → Below 256 (d .bytes) → writeOnce e ≡ false → isOpened (answerOfOpening (opening e d t)) ≡ true
+    → (cs : List Call) → Proper false cs (answers e (afterOpening e d t) cs) → endsCut false (answers e (afterOpening e d t) cs) ≡ false
+    → (length (followed (shapeOf e) (start e d) cs (answers e (afterOpening e d t) cs) .blocks) ≡ e .span) × (e .span % 32 ≡ 0)
+unfolding openVerdict AgainOk shapeOf geometry
+again-blocks e d t low again a cs p q =
+    let go = accepted-goes e d t a in
+    let m = examined-tells e d _ (then-go (examined e d _) _ go .0) .maps in
+    let γ = first-ground e again d t low go in
+    (again-count e again m (geometry e d) γ refl d t (first-again e again d t low go) cs p q, γ .span-32)

@@ -33,7 +33,7 @@ use Rattle.model.proofs.ReadySave.{run-cases, settled-same}
 use Rattle.model.proofs.ReadyCalls.{again-tells, other-packet}
 use Rattle.model.proofs.Slots.{slot-same, slot-landed, length-blocks, block-in, length-puts, puts-other, puts-inside}
 use Rattle.model.proofs.OnceOpen.{filled-long}
-use Rattle.model.proofs.Steps.{Sound, sound-plan, sound-carried}
+use Rattle.model.proofs.Steps.{Told, told-plan, Sound, sound-plan, sound-carried}
 
 -- ---- copies written one after the other
 
@@ -425,6 +425,17 @@ spare-writes : (e : Setting) (g : Geometry) (d : Disc) (n : ℕ) (l : List ℕ) 
 unfolding spareWrites packetWrites copyOrder sparedTable
 spare-writes e g d n l bs b x r = rw (ready-entries r, ready-sequence r, r .geo)
 
+-- they are 32, and one for each table
+spare-count : (e : Setting) (g : Geometry) (d : Disc) (n : ℕ) (l : List ℕ) (bs : List Slot) (b : ℕ) (x : List ℕ) → Ready e g d n l bs
+    → length (spareWrites e d b x) ≡ 32 + length (g .tables)
+spare-count e g d n l bs b x r =
+    let o : List ℕ = stale (current d g) (g .tables) ++ current d g in
+    let tb : List ℕ = writtenTable (n + 1) (flat (resorted (entries l) b)) in
+    let up : List Write = upward 32 (firstFree (freeOf (entries l))) x 0 in
+    ap length (spare-writes e g d n l bs b x r)
+    ∙ length-append up (copiesTo o tb)
+    ∙ ap₂ (λ (y z : ℕ). y + z) (length-upward 32 (firstFree (freeOf (entries l))) x 0) (length-copies o tb ∙ order-length d g)
+
 module _ (e : Setting) (g : Geometry) (γ : Ground e g) (h : Shape) (copies : h .tables ≡ length (g .tables)) (st : State) (σ : Store) (n : ℕ) (l : List ℕ) (i : LiveAgain e g st n l σ) (b : ℕ) (x : List ℕ) (c : Cut) where
   -- a sparing, refused, cut or carried out
   pub sound-spare : Sound (AgainOk e g) h σ (sparePacket b x c) (step e st (sparePacket b x c))
@@ -448,8 +459,7 @@ module _ (e : Setting) (g : Geometry) (γ : Ground e g) (h : Shape) (copies : h 
       let tb : List ℕ = writtenTable (n + 1) (flat (resorted (entries l) b)) in
       let up : List Write = upward 32 (firstFree (freeOf (entries l))) x 0 in
       let e₁ : ws ≡ up ++ copiesTo o tb = spare-writes e g d n l (σ .blocks) b x r in
-      let ln : length ws ≡ 32 + length (g .tables) =
-      ap length e₁ ∙ length-append up (copiesTo o tb) ∙ ap₂ (λ (y z : ℕ). y + z) (length-upward 32 (firstFree (freeOf (entries l))) x 0) (length-copies o tb ∙ order-length d g) in
+      let ln : length ws ≡ 32 + length (g .tables) = spare-count e g d n l (σ .blocks) b x r in
       let e₂ : writes 1 c ws d ≡ writes 33 c (copiesTo o tb) (writes 1 c up d) =
       ap (λ (w : List Write). writes 1 c w d) e₁
       ∙ writes-append 1 c up (copiesTo o tb) d
@@ -485,3 +495,10 @@ module _ (e : Setting) (g : Geometry) (γ : Ground e g) (h : Shape) (copies : h 
           lent = omega (arith, filled-long (flat (resorted (entriesOn e d) b)) (st .table), i .lent);
         },
       ))
+
+  -- its answer says that it was cut exactly if the plain store knows it
+  pub told-spare : Told h σ (sparePacket b x c) (step e st (sparePacket b x c) .answer)
+  unfolding step sparePlan cutIn writesIn
+  told-spare =
+      told-plan h σ (sparePacket b x c) c st _ _ _ _ refl
+      (λ go. ap (λ (y : ℕ). 32 + y) copies ∙ sym (spare-count e g (st .disc) n l (σ .blocks) b x (i .ready)))

@@ -1,26 +1,59 @@
 -- From one call to a whole list: if an invariant holds from call to call beside the plain store, demand 3 holds of every list. For both kinds.
--- Assumes nothing.
+-- And from one call to a whole list, that the answer of a call says that it was cut exactly if the plain store knows it. Assumes nothing.
 use Prim.Native.Nat.{ℕ, zero, suc, _<_}
-use mathlib.Core.Bool.{Bool, true, false}
+use mathlib.Core.Bool.{Bool, true, false, _&&_}
 use mathlib.Core.Path.{_≡_, refl, sym, ap, subst}
 use mathlib.Core.List.{List, [], _∷_}
 use native.Mathlib.Omega.{arith}
-use lib.ListN.{length, getD}
+use lib.ListN.{length, getD, take}
 use Rattle.refusal.specs.declared.Refusal.{Refusal}
 use Rattle.refusal.specs.declared.Verdict.{Verdict}
 use Rattle.refusal.specs.declared.Verdict.the-variants.{Go}
 use Rattle.model.specs.declared.Cut.{Cut}
 use Rattle.model.specs.declared.Record.{Record}
-use Rattle.model.specs.Writes.{Write, writes, struck}
+use Rattle.model.specs.Writes.{Write, writes, struck, noCut}
 use Rattle.model.specs.Plan.{refuse, carry, unless, replyOf, discAfter, tableAfter}
 use Rattle.model.specs.Examine.{Setting}
-use Rattle.model.specs.Calls.{Call, openDisc, Answer, cut, State, Result, answerOf, heldAfter, carried, step, answers, final, accepted, isCut, isOpened, Proper, endsCut}
+use Rattle.model.specs.Both.{openVerdict, openedBy, opening}
+use Rattle.model.specs.Calls.{Call, openDisc, Answer, cut, State, Result, answerOf, heldAfter, carried, answerOfOpening, step, answers, final, accepted, isCut, isOpened, Proper, endsCut}
 use Rattle.model.specs.Store.{Store, Shape, cutIn, writesIn, wasCut, taken, next}
 use Rattle.model.specs.Demand.{followed}
 use Rattle.model.proofs.Basics.{by-bool}
 use Rattle.model.proofs.Verdicts.{by-verdict}
 
--- an invariant of the state and the plain store; `down` says whether the last call was cut
+-- ---- whether a call was cut
+
+-- an answer says that the call was cut exactly if it was accepted and the plain store's own test says so
+abbrev pub Told : Shape → Store → Call → Answer → Type 0
+Told h σ c a = isCut a ≡ accepted a && wasCut h σ c
+
+-- so does the answer of a call that makes the writes that the plain store counts
+told-carried : (h : Shape) (σ : Store) (c : Call) (k : Cut) (st : State) (ws : List Write) (t : List ℕ) (r : Record)
+    → cutIn c ≡ k → writesIn h σ c ≡ length ws → Told h σ c (carried (carry ws t r) k st .answer)
+unfolding carried replyOf answerOf accepted isCut wasCut
+told-carried h σ c k st ws t r e n =
+    by-bool (struck k (length ws))
+    (λ q. rw (e, n, q))
+    (λ q. rw (e, n, q))
+
+told-refused : (h : Shape) (σ : Store) (c : Call) (why : Refusal) (k : Cut) (st : State) → Told h σ c (carried (refuse why) k st .answer)
+unfolding carried replyOf answerOf accepted isCut
+told-refused h σ c why k st = refl
+
+pub told-plan : (h : Shape) (σ : Store) (c : Call) (k : Cut) (st : State) (v : Verdict) (ws : List Write) (t : List ℕ) (r : Record)
+    → cutIn c ≡ k → (v ≡ Go → writesIn h σ c ≡ length ws) → Told h σ c (carried (unless v (carry ws t r)) k st .answer)
+unfolding unless
+told-plan h σ c k st v ws t r e n =
+    by-verdict v
+    (λ q. rw q (told-carried h σ c k st ws t r e (n q)))
+    (λ why q. rw q (told-refused h σ c why k st))
+
+-- and of an opening, which writes nothing
+pub told-opening : (e : Setting) (h : Shape) (st : State) (σ : Store) → Told h σ openDisc (step e st openDisc .answer)
+unfolding step opening openedBy answerOfOpening accepted isCut wasCut cutIn writesIn struck noCut
+told-opening e h st σ = by-verdict (openVerdict e (st .disc) (st .table)) (λ q. rw q) (λ why q. rw q)
+
+-- ---- an invariant of the state and the plain store; `down` says whether the last call was cut
 module _ (Ok : Bool → State → Store → Type 0) (h : Shape) where
   -- what a call leaves keeps it, beside what the plain store makes of the call
   abbrev pub Sound : Store → Call → Result → Type 0
@@ -94,3 +127,21 @@ module _ (Ok : Bool → State → Store → Type 0) (h : Shape) where
     pub list-ends : (cs : List Call) (st : State) (σ : Store) → Ok false st σ → Proper false cs (answers e st cs)
         → endsCut false (answers e st cs) ≡ false → Ok false (final e st cs) (followed h σ cs (answers e st cs))
     list-ends cs st σ o p q = rw q at (all-calls cs false st σ o p .1)
+
+  -- whether each call of a list was cut
+  module _ (e : Setting)
+      (sound : (down : Bool) (st : State) (σ : Store) (c : Call) → Ok down st σ → (down ≡ true → c ≡ openDisc) → Sound σ c (step e st c))
+      (told : (down : Bool) (st : State) (σ : Store) (c : Call) → Ok down st σ → (down ≡ true → c ≡ openDisc) → Told h σ c (step e st c .answer)) where
+    told-from : (cs : List Call) (down : Bool) (st : State) (σ : Store) → Ok down st σ → Proper down cs (answers e st cs)
+        → (i : ℕ) → i < length cs → Told h (followed h σ (take i cs) (answers e st (take i cs))) (getD cs i openDisc) (getD (answers e st cs) i cut)
+    unfolding Proper answers followed
+    told-from [] down st σ o p i l = absurd (omega arith)
+    told-from (c ∷ cs) down st σ o p zero l = told down st σ c o (p .0)
+    told-from (c ∷ cs) down st σ o p (suc i) l =
+        let r = step e st c in
+        told-from cs (isCut (r .answer)) (r .state) (next h σ c (accepted (r .answer))) (sound down st σ c o (p .0)) (p .1) i (omega arith)
+
+    -- the answer of each says so exactly if the plain store knows it
+    pub list-told : (cs : List Call) (st : State) (σ : Store) → Ok false st σ → Proper false cs (answers e st cs)
+        → (i : ℕ) → i < length cs → Told h (followed h σ (take i cs) (answers e st (take i cs))) (getD cs i openDisc) (getD (answers e st cs) i cut)
+    list-told cs st σ o p = told-from cs false st σ o p

@@ -14,3 +14,4 @@ pub mod Demand
 pub mod Lives
 pub mod Examples
 pub mod LivesAgain
+pub mod Consequences
