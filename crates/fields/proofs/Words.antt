@@ -18,6 +18,15 @@ pub field-digits : (w n : ℕ) → n < 256 ^ w → field (digits w n) 0 w ≡ n
 unfolding field
 field-digits w n h = ap value (part-all (digits w n) w (omega (arith, length-digits w n))) ∙ value-digits w n h
 
+-- number i of several is the field at its place
+pub word-at : (s : List ℕ) (at n i : ℕ) → i < n → getD (words s at n) i 0 ≡ field s (at + 4 * i) 4
+unfolding words
+word-at s at zero i h = absurd (omega arith)
+word-at s at (suc n) zero h = let e : at ≡ at + 4 * 0 = omega arith in ap (λ (k : ℕ). field s k 4) e
+word-at s at (suc n) (suc i) h =
+    let e : at + 4 + 4 * i ≡ at + 4 * suc i = omega arith in
+    word-at s (at + 4) n i (omega arith) ∙ ap (λ (k : ℕ). field s k 4) e
+
 -- ---- quads
 
 -- as many bytes as four times the numbers

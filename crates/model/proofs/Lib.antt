@@ -42,3 +42,5 @@ pub mod ReadyLivesSome
 pub mod ConsequencesLists
 pub mod ConsequencesLooks
 pub mod Consequences
+pub mod RunSteps
+pub mod Run

@@ -15,3 +15,4 @@ pub mod Lives
 pub mod Examples
 pub mod LivesAgain
 pub mod Consequences
+pub mod Run

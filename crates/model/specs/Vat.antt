@@ -167,8 +167,8 @@ pub data Found : Type 0 where
   icbAt : ℕ → Found
   nowhere : Found
 
--- the scan down from below logical block n. `scan-found` in proofs/ says it with no recursion: a VAT ICB at k, and none strictly
--- between k and n
+-- the scan down from below logical block n. `newest-found` and `found-newest` of proofs/Scan.antt say it with no recursion: a VAT ICB at k, and
+-- none strictly between k and n
 unfoldable pub scan : Disc → ℕ → ℕ → Found
 scan d s zero = nowhere
 scan d s (suc j) = cond (vatIcb d s j) (icbAt j) (scan d s j)
