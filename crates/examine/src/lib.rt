@@ -1,0 +1,232 @@
+// What every call on a disc examines first: lines 1 to 6 of document 01, "Why a call is turned down", once
+// for all calls of both kinds; and lines 7 and 11 of the calls on a write-once disc.
+// The calls above match the verdict, and go on with the volume and their own tests.
+// All functions here are inside the layers: where one has a `requires`, the callers have tested it.
+use maps::Kind;
+use maps::Volume;
+use model::Record;
+use refusal::Refusal;
+use refusal::Verdict;
+ghost use mathlib.Core.Path.{_≡_};
+ghost use mathlib.Core.Bool.{true};
+ghost use mathlib.Core.List.{List, []};
+ghost use Prim.Native.Nat.{ℕ, _+_, _≤_};
+ghost use lib.ListN.{length, take};
+ghost use Rattle.refusal.specs.declared.Verdict;
+ghost use Rattle.maps.specs.Kinds.{noVolume};
+ghost use Rattle.maps.specs.Written.{kindInRange};
+ghost use Rattle.model.specs.Disc.{disc as discOf};
+ghost use Rattle.model.specs.Sparing.{outside};
+ghost use Rattle.model.specs.Vat.{allBelow};
+ghost use Rattle.model.specs.Examine.{setting, allOutside, aligned};
+ghost use Rattle.model.specs.Once.{heldFits, onceVerdict};
+ghost use Rattle.examine.specs.Ground.{groundOf, placedOf, handedOn, examinedOf};
+
+// The sectors of a packet.
+const PACKET: u64 = 32;
+
+// The most entries of a VAT.
+const MOST_ENTRIES: u32 = 4096;
+
+// An entry that is unused.
+const NONE: u32 = 0xffffffff;
+
+// A verdict, and where it says Go the volume with its span.
+pub struct Examined {
+    pub verdict: Verdict,
+    pub volume: Volume,
+}
+
+// Whether the packet at m is a whole packet of the disc, outside the partition.
+fn is_outside(sectors: usize, s: u32, l: u32, m: u32) -> bool
+    ensures { λ r. ⌜ r ≡ outside (groundOf s l sectors [] 0) m ⌝ }
+{
+    let at = m as u64;
+    if at % PACKET != 0 {
+        return false;
+    }
+    if (sectors as u64) < at + PACKET {
+        return false;
+    }
+    if at + PACKET <= s as u64 {
+        return true;
+    }
+    s as u64 + l as u64 <= at
+}
+
+// Whether each of the first n table sectors begins such a packet.
+fn are_outside(sectors: usize, s: u32, l: u32, tables: [u32; 4], n: u8) -> bool
+    requires { ⌜ n ≤ 4 ⌝ }
+    ensures { λ r. ⌜ r ≡ allOutside (groundOf s l sectors [] 0) (take n tables) ⌝ }
+{
+    let mut i: usize = 0;
+    while i < n as usize {
+        if !is_outside(sectors, s, l, tables[i]) {
+            return false;
+        }
+        i += 1;
+    }
+    true
+}
+
+// Whether a rewritable volume lies on packets: S, L, and the packet of each table.
+fn is_aligned(sectors: usize, s: u32, l: u32, tables: [u32; 4], n: u8) -> bool
+    requires { ⌜ n ≤ 4 ⌝ }
+    ensures { λ r. ⌜ r ≡ aligned (groundOf s l sectors (take n tables) 0) ⌝ }
+{
+    if s as u64 % PACKET != 0 {
+        return false;
+    }
+    if l as u64 % PACKET != 0 {
+        return false;
+    }
+    are_outside(sectors, s, l, tables, n)
+}
+
+// Line 6, as far as the map list alone does not show it: a write-once volume may lie anywhere.
+fn is_placed(sectors: usize, s: u32, l: u32, kind: Kind, tables: [u32; 4]) -> bool
+    requires { ⌜ kindInRange kind ≡ true ⌝ }
+    ensures { λ r. ⌜ r ≡ placedOf s l sectors kind tables ⌝ }
+{
+    match kind {
+        Kind::WriteOnce { partition: _ } => true,
+        Kind::Rewritable {
+            partition: _,
+            tables: n,
+            size: _,
+        } => is_aligned(sectors, s, l, tables, n),
+    }
+}
+
+// A call that is turned down.
+fn stopped(why: Refusal) -> Examined
+    ensures { λ r. ⌜ r ≡ handedOn (Verdict.Stop why) noVolume ⌝ }
+{
+    Examined {
+        verdict: Verdict::Stop(why),
+        volume: Volume {
+            start: 0,
+            length: 0,
+            kind: Kind::WriteOnce { partition: 0 },
+            tables: [0; 4],
+        },
+    }
+}
+
+// Lines 1 to 6; `lent` says whether the other lent slices have their lengths.
+pub fn examine(disc: &[u8], marks: &[u8], maps: &[u8], s: u32, l: u32, lent: bool) -> Examined
+    ensures { λ r. ⌜ r ≡ examinedOf (setting (now (maps .entry)) s l) (discOf (now (disc .entry)) (now (marks .entry))) lent ⌝ }
+{
+    let shapely = disc::is_shapely(disc, marks);
+    let inside = disc::is_inside(marks, s, l);
+    if !shapely {
+        return stopped(Refusal::DiscShape);
+    }
+    if !inside {
+        return stopped(Refusal::SpanOutside);
+    }
+    if !lent {
+        return stopped(Refusal::LentLength);
+    }
+    let read = maps::read_maps(maps);
+    let verdict = read.verdict;
+    if let Verdict::Stop(why) = verdict {
+        return stopped(why);
+    }
+    let mut volume = read.volume;
+    volume.start = s;
+    volume.length = l;
+    let kind = volume.kind;
+    let tables = volume.tables;
+    if !is_placed(marks.len(), s, l, kind, tables) {
+        return stopped(Refusal::Misaligned);
+    }
+    Examined {
+        verdict: Verdict::Go,
+        volume,
+    }
+}
+
+// Whether each of the first n entries is unused or below NWA.
+fn are_below(table: &[u32], n: u32, next: u32) -> bool
+    requires { ⌜ n ≤ length (now table) ⌝ }
+    ensures { λ r. ⌜ r ≡ allBelow next (take n (now (table .entry))) ⌝ }
+{
+    let mut i: usize = 0;
+    while i < n as usize {
+        let entry = table[i];
+        if entry != NONE {
+            if next <= entry {
+                return false;
+            }
+        }
+        i += 1;
+    }
+    true
+}
+
+// Line 11 on a write-once disc: whether the record goes with the disc and the lent table.
+fn is_held(marks: &[u8], s: u32, l: u32, table: &[u32], held: Record) -> bool
+    requires { ⌜ s + l ≤ length (now marks) ⌝ }
+    requires { ⌜ length (now marks) ≤ 1048576 ⌝ }
+    requires { ⌜ 4096 ≤ length (now table) ⌝ }
+    ensures { λ r. ⌜ ((maps bytes : List ℕ) → r ≡ heldFits (setting maps s l) (discOf bytes (now (marks .entry))) (now (table .entry)) held) ⌝ }
+{
+    match held {
+        Record::WriteOnce {
+            entries,
+            next,
+            last,
+        } => {
+            if MOST_ENTRIES < entries {
+                return false;
+            }
+            if next <= last {
+                return false;
+            }
+            if !disc::is_next(marks, s, l, next) {
+                return false;
+            }
+            are_below(table, entries, next)
+        }
+        Record::Rewritable {
+            entries: _,
+            sequence: _,
+        } => false,
+    }
+}
+
+// Lines 1 to 7 and 11 of the calls on a write-once disc but opening and making; `lent` says, of the table too,
+// whether the other lent slices have their lengths.
+pub fn judge_once(
+    disc: &[u8],
+    marks: &[u8],
+    maps: &[u8],
+    s: u32,
+    l: u32,
+    table: &[u32],
+    lent: bool,
+    held: Record,
+) -> Verdict
+    requires { ⌜ (lent ≡ true → 4096 ≤ length (now table)) ⌝ }
+    ensures { λ r. ⌜ r ≡ onceVerdict (setting (now (maps .entry)) s l) (discOf (now (disc .entry)) (now (marks .entry))) (now (table .entry)) lent held [] ⌝ }
+{
+    let seen = examine(disc, marks, maps, s, l, lent);
+    let verdict = seen.verdict;
+    if let Verdict::Stop(why) = verdict {
+        return Verdict::Stop(why);
+    }
+    let volume = seen.volume;
+    let kind = volume.kind;
+    if let Kind::Rewritable {
+        partition: _,
+        tables: _,
+        size: _,
+    } = kind {
+        return Verdict::Stop(Refusal::OtherKind);
+    }
+    if !is_held(marks, s, l, table, held) {
+        return Verdict::Stop(Refusal::StaleRecord);
+    }
+    Verdict::Go
+}
