@@ -1,0 +1,240 @@
+-- Laws of the file of an ICB by position: the bytes of its extents stand where `placeOf` says, none of them outside the disc, and the file
+-- has F bytes. Assumes nothing.
+use Prim.Native.Nat.{ℕ, _+_, _-_, _*_, _%_, _^_, _≤_, _<_}
+use mathlib.Core.Path.{_≡_, refl, sym, ap, ap₂, _∙_}
+use mathlib.Core.Bool.{true, _||_}
+use mathlib.Core.List.{List, [], _∷_, _++_}
+use native.Mathlib.Omega.{arith}
+use lib.Dec.{eqb, leb, ltb}
+use lib.ListN.{length, getD, length-append}
+use lib.Seq.{length-take-le}
+use borrow.Author.Tests.{eq-eqb, ne-eqb, eqb-true, eqb-false, le-leb, leb-true, lt-ltb, le-ltb}
+use Rattle.fields.specs.Bytes.{part}
+use Rattle.fields.specs.Number.{field}
+use Rattle.fields.proofs.Laws.{length-part, getD-part, part-append, part-append-add, part-part, part-take, AllBytes, field-same, field-below}
+use Rattle.model.specs.Disc.{Disc, disc, recordedRun, joined}
+use Rattle.model.specs.Vat.{Extent, form, fileLength, attributes, allocation, entryFits, extents, blocksIn, sizesFit, sizes, blocksFit, contents, allocationFits, fileOf}
+use Rattle.model.proofs.Basics.{and-true, both, by-bool, by-lt}
+use Rattle.model.proofs.SectorsRuns.{joined-bytes}
+use Rattle.vat.specs.File.{Lent, Filed, fileIn, placeOf, onDisc, allThere}
+
+-- ---- the blocks of an extent
+
+-- they hold its bytes
+blocks-cover : (n : ℕ) → n ≤ 2048 * blocksIn n
+unfolding blocksIn
+blocks-cover n = omega arith
+
+-- and no more, where its length is a multiple of 2,048
+blocks-whole : (n : ℕ) → n % 2048 ≡ 0 → 2048 * blocksIn n ≡ n
+unfolding blocksIn
+blocks-whole n h = omega arith
+
+-- ---- the extents joined
+
+-- w bytes of the extents from o on stand together on the disc
+pub record Stands (d : Disc) (s : ℕ) (l : List Extent) (o w : ℕ) : Type 0 where
+  pub same : part (contents d s l) o w ≡ part (d .bytes) (placeOf s l o) w
+  pub inside : placeOf s l o + w ≤ length (d .bytes)
+
+module _ (d : Disc) (s : ℕ) where
+  -- the blocks of an extent have 2,048 bytes each
+  length-blocks : (x : Extent) → 2048 * (s + x .block + blocksIn (x .size)) ≤ length (d .bytes) → length (joined d (s + x .block) (blocksIn (x .size))) ≡ 2048 * blocksIn (x .size)
+  length-blocks x h =
+      ap length (joined-bytes d (s + x .block) (blocksIn (x .size)))
+      ∙ length-part (d .bytes) (2048 * (s + x .block)) (2048 * blocksIn (x .size)) (omega arith)
+
+  -- bytes in the first extent
+  in-first : (x : Extent) (l : List Extent) (o w : ℕ) → 2048 * (s + x .block + blocksIn (x .size)) ≤ length (d .bytes) → o < x .size → o + w ≤ 2048 * blocksIn (x .size) → Stands d s (x ∷ l) o w
+  unfolding contents placeOf
+  in-first x l o w h lt k =
+      let n = length-blocks x h in
+      let p : placeOf s (x ∷ l) o ≡ 2048 * (s + x .block) + o = rw (lt-ltb _ _ lt) in
+      record {
+        same =
+            part-append (joined d (s + x .block) (blocksIn (x .size))) (contents d s l) o w (omega arith)
+            ∙ ap (λ (b : List ℕ). part b o w) (joined-bytes d (s + x .block) (blocksIn (x .size)))
+            ∙ part-part (d .bytes) (2048 * (s + x .block)) (2048 * blocksIn (x .size)) o w k
+            ∙ ap (λ (q : ℕ). part (d .bytes) q w) (sym p);
+        inside = omega arith;
+      }
+
+  -- bytes behind it
+  in-later : (x : Extent) (l : List Extent) (o w : ℕ) → 2048 * (s + x .block + blocksIn (x .size)) ≤ length (d .bytes) → x .size % 2048 ≡ 0 → x .size ≤ o → Stands d s l (o - x .size) w → Stands d s (x ∷ l) o w
+  unfolding contents placeOf
+  in-later x l o w h m le st =
+      let n = length-blocks x h in
+      let k = blocks-whole (x .size) m in
+      let p : placeOf s (x ∷ l) o ≡ placeOf s l (o - x .size) = rw (le-ltb _ _ le) in
+      let e : o ≡ length (joined d (s + x .block) (blocksIn (x .size))) + (o - x .size) = omega arith in
+      record {
+        same =
+            ap (λ (q : ℕ). part (joined d (s + x .block) (blocksIn (x .size)) ++ contents d s l) q w) e
+            ∙ part-append-add (joined d (s + x .block) (blocksIn (x .size))) (contents d s l) (o - x .size) w
+            ∙ st .same
+            ∙ ap (λ (q : ℕ). part (d .bytes) q w) (sym p);
+        inside = omega (arith, st .inside);
+      }
+
+  -- bytes of one sector stand together
+  pub stands : (l : List Extent) (o w : ℕ) → sizesFit l ≡ true → onDisc (length (d .bytes)) s l ≡ true → 0 < w → o + w ≤ sizes l → o % 2048 + w ≤ 2048 → Stands d s l o w
+  unfolding sizesFit onDisc sizes
+  stands [] o w f i z h k = absurd (omega arith)
+  stands (x ∷ []) o w f i z h k =
+      let j = leb-true _ _ (and-true (leb (2048 * (s + x .block + blocksIn (x .size))) (length (d .bytes))) _ i .0) in
+      let c = blocks-cover (x .size) in
+      in-first x [] o w j (omega arith) (omega arith)
+  stands (x ∷ y ∷ l) o w f i z h k =
+      let a = and-true (ltb (x .size) (2 ^ 30)) _ f in
+      let b = and-true (eqb (x .size % 2048) 0) _ (a .1) in
+      let p = and-true (leb (2048 * (s + x .block + blocksIn (x .size))) (length (d .bytes))) _ i in
+      let j = leb-true _ _ (p .0) in
+      let c = blocks-cover (x .size) in
+      let m = eqb-true _ _ (b .0) in
+      by-lt o (x .size)
+      (λ lt. in-first x (y ∷ l) o w j lt (omega arith))
+      (λ le. in-later x (y ∷ l) o w j m le (stands (y ∷ l) (o - x .size) w (b .1) (p .1) z (omega arith) (omega arith)))
+
+  -- the extents have bytes enough
+  pub contents-enough : (l : List Extent) → onDisc (length (d .bytes)) s l ≡ true → sizes l ≤ length (contents d s l)
+  unfolding contents onDisc sizes
+  contents-enough [] i = omega arith
+  contents-enough (x ∷ l) i =
+      let p = and-true (leb (2048 * (s + x .block + blocksIn (x .size))) (length (d .bytes))) _ i in
+      let n = length-blocks x (leb-true _ _ (p .0)) in
+      let c = blocks-cover (x .size) in
+      let r = contents-enough l (p .1) in
+      simp length-append (omega arith)
+
+-- ---- marks have no part in it
+
+contents-bytes : (bytes marks other : List ℕ) (s : ℕ) (l : List Extent) → contents (disc bytes marks) s l ≡ contents (disc bytes other) s l
+unfolding contents
+contents-bytes bytes marks other s [] = refl
+contents-bytes bytes marks other s (x ∷ l) =
+    ap₂ (_++_)
+    (joined-bytes (disc bytes marks) (s + x .block) (blocksIn (x .size)) ∙ sym (joined-bytes (disc bytes other) (s + x .block) (blocksIn (x .size))))
+    (contents-bytes bytes marks other s l)
+
+-- the file of a block is that on a disc with any marks
+pub file-in : (bytes marks : List ℕ) (s : ℕ) (b : List ℕ) → fileIn bytes s b ≡ fileOf (disc bytes marks) s b
+unfolding fileIn fileOf
+file-in bytes marks s b = rw (contents-bytes bytes [] marks s (extents b))
+
+-- a byte that is a part
+same-byte : (s t : List ℕ) (at from : ℕ) → part s at 1 ≡ part t from 1 → getD s at 0 ≡ getD t from 0
+same-byte s t at from h =
+    let p : at + 0 ≡ at = omega arith in
+    let q : from + 0 ≡ from = omega arith in
+    ap (λ (i : ℕ). getD s i 0) (sym p)
+    ∙ sym (getD-part s at 1 0 (omega arith))
+    ∙ ap (λ (l : List ℕ). getD l 0 0) h
+    ∙ getD-part t from 1 0 (omega arith)
+    ∙ ap (λ (i : ℕ). getD t i 0) q
+
+-- ---- a file that is all there
+
+-- the attributes and the allocation end in the block
+pub entry-ends : (b : List ℕ) → entryFits b ≡ true → 176 + attributes b + allocation b ≤ 2048
+unfolding entryFits
+entry-ends b h =
+    let p = and-true (eqb (field b 20 2) 4) _ h in
+    let q = and-true (eqb (getD b 27 0) 0) _ (p .1) in
+    leb-true _ _ (and-true (eqb (form b) 0 || eqb (form b) 3) _ (q .1) .1)
+
+-- F is a number of 8 bytes
+pub length-fits : (b : List ℕ) → AllBytes b → length b ≡ 2048 → fileLength b < 18446744073709551616
+unfolding fileLength
+length-fits b a h = field-below b 56 8 a (omega arith)
+
+-- extents that end below k lie on the disc
+blocks-on-disc : (bytes marks : List ℕ) (s k : ℕ) (l : List Extent) → Lent bytes marks s k → blocksFit (disc bytes marks) s k l ≡ true → onDisc (length bytes) s l ≡ true
+unfolding blocksFit onDisc
+blocks-on-disc bytes marks s k [] t h = refl
+blocks-on-disc bytes marks s k (x ∷ l) t h =
+    let p = and-true (leb (x .block + blocksIn (x .size)) k) _ h in
+    let q = and-true (recordedRun (disc bytes marks) (s + x .block) (blocksIn (x .size))) _ (p .1) in
+    let e : x .block + blocksIn (x .size) ≤ k = leb-true _ _ (p .0) in
+    let i : 2048 * (s + x .block + blocksIn (x .size)) ≤ length bytes = omega (arith, t .made, t .inside) in
+    both (le-leb _ _ i) (blocks-on-disc bytes marks s k l t (q .1))
+
+-- a file whose allocation fits is all there
+pub fits-filed : (bytes marks : List ℕ) (s k : ℕ) (b : List ℕ) → Lent bytes marks s k → length b ≡ 2048 → entryFits b ≡ true → allocationFits (disc bytes marks) s k b ≡ true → Filed bytes s b
+unfolding allocationFits allThere
+fits-filed bytes marks s k b t n e h = record {
+  block = n;
+  entry = e;
+  file =
+      by-bool (eqb (form b) 3)
+      (λ f. rw f (rw f at h))
+      (λ f.
+      let p = and-true (eqb (allocation b % 8) 0) _ (rw f at h) in
+      let q = and-true (sizesFit (extents b)) _ (p .1) in
+      let r = and-true (eqb (sizes (extents b)) (fileLength b)) _ (q .1) in
+      rw f (both (q .0) (both (r .0) (blocks-on-disc bytes marks s k (extents b) t (r .1)))));
+}
+
+module _ (bytes : List ℕ) (s : ℕ) (b : List ℕ) (t : Filed bytes s b) where
+  -- what it is embedded
+  embedded-all : form b ≡ 3 → allocation b ≡ fileLength b
+  unfolding allThere
+  embedded-all e = eqb-true _ _ (rw (eq-eqb _ _ e) at (t .file))
+
+  -- and what it is otherwise
+  extended-all : (form b ≡ 3 → ⊥) → (sizesFit (extents b) ≡ true) × (sizes (extents b) ≡ fileLength b) × (onDisc (length bytes) s (extents b) ≡ true)
+  unfolding allThere
+  extended-all e =
+      let p = and-true (sizesFit (extents b)) _ (rw (ne-eqb _ _ e) at (t .file)) in
+      let q = and-true (eqb (sizes (extents b)) (fileLength b)) _ (p .1) in
+      (p .0, eqb-true _ _ (q .0), q .1)
+
+  -- it has F bytes
+  pub length-file : length (fileIn bytes s b) ≡ fileLength b
+  unfolding fileIn fileOf
+  length-file =
+      let n = entry-ends b (t .entry) in
+      let l = t .block in
+      by-bool (eqb (form b) 3)
+      (λ f.
+      let e = embedded-all (eqb-true _ _ f) in
+      rw f (length-part b (176 + attributes b) (fileLength b) (omega arith)))
+      (λ f.
+      let a = extended-all (eqb-false _ _ f) in
+      let e = contents-enough (disc bytes []) s (extents b) (a .2) in
+      rw f (length-take-le (fileLength b) (contents (disc bytes []) s (extents b)) (omega (arith, a .1))))
+
+  -- embedded, its bytes stand in the block
+  embedded-part : (o w : ℕ) → form b ≡ 3 → o + w ≤ fileLength b → part (fileIn bytes s b) o w ≡ part b (176 + attributes b + o) w
+  unfolding fileIn fileOf
+  embedded-part o w e h = rw (eq-eqb _ _ e) (part-part b (176 + attributes b) (fileLength b) o w h)
+
+  -- otherwise bytes of one sector stand where `placeOf` says
+  extended-part : (o w : ℕ) → (form b ≡ 3 → ⊥) → 0 < w → o + w ≤ fileLength b → o % 2048 + w ≤ 2048 → (part (fileIn bytes s b) o w ≡ part bytes (placeOf s (extents b) o) w) × (placeOf s (extents b) o + w ≤ length bytes)
+  unfolding fileIn fileOf
+  extended-part o w e z h k =
+      let a = extended-all e in
+      let st = stands (disc bytes []) s (extents b) o w (a .0) (a .2) z (omega (arith, a .1)) k in
+      (rw (ne-eqb _ _ e) (part-take (contents (disc bytes []) s (extents b)) (fileLength b) o w h ∙ st .same), st .inside)
+
+  -- ---- by position: a byte, and a word of 4 bytes
+
+  -- embedded, it ends in the block
+  pub embedded-ends : form b ≡ 3 → 176 + attributes b + fileLength b ≤ 2048
+  embedded-ends e = let n = entry-ends b (t .entry) in let q = embedded-all e in omega arith
+
+  pub embedded-byte : (o : ℕ) → form b ≡ 3 → o < fileLength b → getD b (176 + attributes b + o) 0 ≡ getD (fileIn bytes s b) o 0
+  embedded-byte o e h = same-byte b (fileIn bytes s b) (176 + attributes b + o) o (sym (embedded-part o 1 e (omega arith)))
+
+  pub embedded-word : (o : ℕ) → form b ≡ 3 → o + 4 ≤ fileLength b → field b (176 + attributes b + o) 4 ≡ field (fileIn bytes s b) o 4
+  embedded-word o e h = field-same b (fileIn bytes s b) (176 + attributes b + o) o 4 (sym (embedded-part o 4 e h))
+
+  -- otherwise each stands on the disc, at its place
+  pub extended-byte : (o : ℕ) → (form b ≡ 3 → ⊥) → o < fileLength b → (placeOf s (extents b) o < length bytes) × (getD bytes (placeOf s (extents b) o) 0 ≡ getD (fileIn bytes s b) o 0)
+  extended-byte o e h =
+      let p = extended-part o 1 e (omega arith) (omega arith) (omega arith) in
+      (omega (arith, p .1), same-byte bytes (fileIn bytes s b) (placeOf s (extents b) o) o (sym (p .0)))
+
+  pub extended-word : (o : ℕ) → (form b ≡ 3 → ⊥) → o + 4 ≤ fileLength b → o % 4 ≡ 0 → (placeOf s (extents b) o + 4 ≤ length bytes) × (field bytes (placeOf s (extents b) o) 4 ≡ field (fileIn bytes s b) o 4)
+  extended-word o e h m =
+      let p = extended-part o 4 e (omega arith) h (omega arith) in
+      (p .1, field-same bytes (fileIn bytes s b) (placeOf s (extents b) o) o 4 (sym (p .0)))

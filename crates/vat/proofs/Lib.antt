@@ -1,0 +1,4 @@
+pub mod Extents
+pub mod File
+pub mod Table
+pub mod Laws

@@ -1,0 +1,71 @@
+-- Opening, reading and making on a write-once disc alone: as the calls of both kinds (model, Both.antt), with line 7 for a rewritable list.
+use Prim.Native.Nat.{ℕ}
+use mathlib.Core.Bool.{true}
+use mathlib.Core.List.{List, [], _∷_}
+use lib.Dec.{eqb}
+use Rattle.refusal.specs.declared.Refusal.the-variants.{OtherKind, NotBlank}
+use Rattle.refusal.specs.declared.Verdict.{Verdict}
+use Rattle.refusal.specs.declared.Verdict.the-variants.{Go, Stop}
+use Rattle.refusal.specs.Tests.{test, first, andThen}
+use Rattle.model.specs.declared.Record.{Record}
+use Rattle.model.specs.declared.Opened.{Opened}
+use Rattle.model.specs.declared.Given.{Given}
+use Rattle.model.specs.Disc.{Disc, sector}
+use Rattle.model.specs.Vat.{none, entriesOf}
+use Rattle.model.specs.VatWritten.{writtenIcb}
+use Rattle.model.specs.Examine.{Setting, writeOnce, examined, lentTable}
+use Rattle.model.specs.Once.{nextOn, nextHeld, newestFile, openOnceTests, foundRecord, passedOver, perMille, fullnessVerdict}
+use Rattle.write_once.specs.declared.Measured.{Measured}
+use Rattle.model.specs.Both.{openedBy, filledBy, readOnceTests, readLent, givenBy, blockBy, entrySector, madeBy}
+
+-- ---- opening: lines 1 to 9
+
+-- why it turns a disc down
+unfoldable pub openOnceVerdict : Setting → Disc → List ℕ → Verdict
+openOnceVerdict e d t =
+    andThen (examined e d (lentTable t)) (first (test (writeOnce e) OtherKind ∷ openOnceTests e d))
+
+-- what it answers
+unfoldable pub openingOnce : Setting → Disc → List ℕ → Opened
+openingOnce e d t = openedBy (openOnceVerdict e d t) (foundRecord e d) (passedOver e d)
+
+-- the lent table after it
+unfoldable pub openedOnce : Setting → Disc → List ℕ → List ℕ
+openedOnce e d t = filledBy (openOnceVerdict e d t) (entriesOf (newestFile e d)) t
+
+-- ---- reading: lines 1 to 7 and 11 to 14
+
+-- why it is turned down
+unfoldable pub readOnceVerdict : Setting → Disc → List ℕ → Record → ℕ → List ℕ → Verdict
+readOnceVerdict e d t held v out =
+    andThen (examined e d (readLent t out)) (first (test (writeOnce e) OtherKind ∷ readOnceTests e d t held v))
+
+-- what it answers
+unfoldable pub readingOnce : Setting → Disc → List ℕ → Record → ℕ → List ℕ → Given
+readingOnce e d t held v out = givenBy (readOnceVerdict e d t held v out)
+
+-- the lent bytes after it
+unfoldable pub readOnceBytes : Setting → Disc → List ℕ → Record → ℕ → List ℕ → List ℕ
+readOnceBytes e d t held v out = blockBy (readOnceVerdict e d t held v out) (sector d (entrySector e t v)) out
+
+-- ---- making: lines 1, 2, 4 to 7 and 21; a blank partition gets an empty VAT
+
+-- why it is turned down
+unfoldable pub makeOnceVerdict : Setting → Disc → Verdict
+makeOnceVerdict e d =
+    andThen (examined e d true) (first (test (writeOnce e) OtherKind ∷ test (eqb (nextOn e d) 0) NotBlank ∷ []))
+
+-- the disc after it
+unfoldable pub madeOnce : Setting → Disc → Disc
+madeOnce e d = madeBy (makeOnceVerdict e d) (record { place = e .start; bytes = writtenIcb 0 [] none } ∷ []) d
+
+-- ---- fullness: lines 1 to 7 and 11
+
+-- the answer of a verdict
+unfoldable pub measuredBy : Verdict → ℕ → Measured
+measuredBy Go n = Measured.PerMille n
+measuredBy (Stop why) n = Measured.Refused why
+
+-- 1,000 times NWA / L rounded down
+unfoldable pub fullnessOf : Setting → Disc → List ℕ → Record → Measured
+fullnessOf e d t held = measuredBy (fullnessVerdict e d t held) (perMille (nextHeld held) (e .span))
