@@ -1,0 +1,195 @@
+-- Laws of the copy rule, an entry at a time (document 01, "The sparing table"). Assumes nothing.
+use Prim.Native.Nat.{ℕ, _+_, _*_, _%_, _≤_, _<_}
+use mathlib.Core.Path.{_≡_, refl, sym, ap, _∙_}
+use mathlib.Core.List.{List, [], _∷_}
+use mathlib.Core.Bool.{Bool, true, false, _&&_}
+use native.Mathlib.Omega.{arith}
+use borrow.Author.Tests.{eq-eqb, ne-eqb, le-leb, lt-leb}
+use lib.Dec.{leb, ltb}
+use lib.ListN.{length, drop}
+use lib.Seq.{drop-drop}
+use Rattle.fields.specs.Number.{field}
+use Rattle.fields.specs.Regid.{hasRegid}
+use Rattle.maps.specs.Kinds.{absent}
+use Rattle.maps.proofs.Tests.{fails, holds}
+use Rattle.model.specs.Vat.{none}
+use Rattle.model.specs.Sparing.{Geometry, Entry, isFree, originalsFit, ascending, apartFrom, outside, mappedOf, mappedFit, sparingName, entries, entriesFit, countIn, tableIn, copyFits}
+use Rattle.model.specs.Both.{spareEntries}
+use Rattle.model.proofs.SparingLaws.{table-count}
+use Rattle.sparing.specs.Entries.{entriesIn, originalFits, follows, placed}
+use Rattle.sparing.proofs.Entries.{sector-table, length-spares}
+
+-- tests in a row, grouped the other way
+and-assoc : (a b c : Bool) → (a && b) && c ≡ a && (b && c)
+and-assoc true b c = refl
+and-assoc false b c = refl
+
+-- ---- an original
+
+-- that of a free spare
+pub originals-free : (l o : ℕ) → o ≡ 0xffffffff → true ≡ originalFits l o
+unfolding originalFits none
+originals-free l o e = rw (eq-eqb o 0xffffffff e)
+
+-- no multiple of 32
+pub originals-odd : (l o : ℕ) → (o ≡ 0xffffffff → ⊥) → (o % 32 ≡ 0 → ⊥) → false ≡ originalFits l o
+unfolding originalFits none
+originals-odd l o e q = rw (ne-eqb o 0xffffffff e, ne-eqb (o % 32) 0 q)
+
+-- one
+pub originals-below : (l o : ℕ) → (o ≡ 0xffffffff → ⊥) → o % 32 ≡ 0 → ltb o l ≡ originalFits l o
+unfolding originalFits none
+originals-below l o e q = rw (ne-eqb o 0xffffffff e, eq-eqb (o % 32) 0 q)
+
+-- a free spare may follow any entry
+pub after-free : (o next : ℕ) → next ≡ 0xffffffff → true ≡ follows o next
+unfolding follows none
+after-free o next e = rw (eq-eqb next 0xffffffff e)
+
+-- a used entry may follow one of a lower original
+pub after-used : (o next : ℕ) → (next ≡ 0xffffffff → ⊥) → ltb o next ≡ follows o next
+unfolding follows none
+after-used o next e = rw (ne-eqb next 0xffffffff e)
+
+-- ---- nothing is left
+
+module _ (es : List Entry) (i : ℕ) (h : drop i es ≡ []) where
+  pub originals-end : (l : ℕ) → true ≡ originalsFit l (drop i es)
+  unfolding originalsFit
+  originals-end l = sym (ap (originalsFit l) h)
+
+  pub absent-end : (m : ℕ) → true ≡ absent m (mappedOf (drop i es))
+  unfolding absent mappedOf
+  absent-end m = sym (ap (λ (x : List Entry). absent m (mappedOf x)) h)
+
+  pub mapped-end : (g : Geometry) → true ≡ mappedFit g (drop i es)
+  unfolding mappedFit
+  mapped-end g = sym (ap (mappedFit g) h)
+
+-- one entry is left at most
+pub ascending-end : (es : List Entry) (i : ℕ) → drop (i + 1) es ≡ [] → true ≡ ascending (drop i es)
+unfolding ascending
+ascending-end es i h = go (drop i es) (drop-drop 1 i es ∙ h)
+  where
+    go : (l : List Entry) → drop 1 l ≡ [] → true ≡ ascending l
+    go [] q = refl
+    go (e ∷ []) q = refl
+    go (e ∷ f ∷ l) q = let z : _≡_ {A = ℕ} 0 1 = cc in absurd (omega arith)
+
+-- ---- the entry e is next
+
+module _ (es : List Entry) (i : ℕ) (e : Entry) (h : drop i es ≡ e ∷ drop (i + 1) es) where
+  -- its original does not fit
+  pub originals-off : (l o : ℕ) → o ≡ e .original → originalFits l o ≡ false → false ≡ originalsFit l (drop i es)
+  unfolding originalsFit originalFits isFree
+  originals-off l o s q = sym (ap (originalsFit l) h ∙ rw (← s, q))
+
+  -- it does
+  pub originals-next : (l o : ℕ) → o ≡ e .original → originalFits l o ≡ true → originalsFit l (drop (i + 1) es) ≡ originalsFit l (drop i es)
+  unfolding originalsFit originalFits isFree
+  originals-next l o s q = sym (ap (originalsFit l) h ∙ rw (← s, q))
+
+  -- it is mapped to m
+  pub absent-found : (m : ℕ) → m ≡ e .mapped → false ≡ absent m (mappedOf (drop i es))
+  unfolding absent mappedOf
+  absent-found m q = sym (ap (λ (x : List Entry). absent m (mappedOf x)) h ∙ rw (eq-eqb m (e .mapped) q))
+
+  -- it is not
+  pub absent-next : (m : ℕ) → (m ≡ e .mapped → ⊥) → absent m (mappedOf (drop (i + 1) es)) ≡ absent m (mappedOf (drop i es))
+  unfolding absent mappedOf
+  absent-next m q = sym (ap (λ (x : List Entry). absent m (mappedOf x)) h ∙ rw (ne-eqb m (e .mapped) q))
+
+  -- the rule for it, its place first
+  grouped : (g : Geometry) (m : ℕ) → m ≡ e .mapped → mappedFit g (drop i es) ≡ placed g m && (absent m (mappedOf (drop (i + 1) es)) && mappedFit g (drop (i + 1) es))
+  unfolding mappedFit placed
+  grouped g m s =
+      ap (mappedFit g) h
+      ∙ rw (← s) (sym (and-assoc (outside g m) (apartFrom m (g .tables)) (absent m (mappedOf (drop (i + 1) es)) && mappedFit g (drop (i + 1) es))))
+
+  -- its mapped start is no spare's
+  pub mapped-off : (g : Geometry) (m : ℕ) → m ≡ e .mapped → placed g m ≡ false → false ≡ mappedFit g (drop i es)
+  mapped-off g m s q = sym (grouped g m s ∙ rw q)
+
+  -- its mapped start stands again behind it
+  pub mapped-twice : (g : Geometry) (m : ℕ) → m ≡ e .mapped → placed g m ≡ true → absent m (mappedOf (drop (i + 1) es)) ≡ false → false ≡ mappedFit g (drop i es)
+  mapped-twice g m s q a = sym (grouped g m s ∙ rw (q, a))
+
+  -- neither
+  pub mapped-next : (g : Geometry) (m : ℕ) → m ≡ e .mapped → placed g m ≡ true → absent m (mappedOf (drop (i + 1) es)) ≡ true → mappedFit g (drop (i + 1) es) ≡ mappedFit g (drop i es)
+  mapped-next g m s q a = sym (grouped g m s ∙ rw (q, a))
+
+  module _ (f : Entry) (k : drop (i + 1) es ≡ f ∷ drop (i + 1 + 1) es) (o p : ℕ) (s : o ≡ e .original) (t : p ≡ f .original) where
+    -- the entry f after it does not follow it
+    pub ascending-off : follows o p ≡ false → false ≡ ascending (drop i es)
+    unfolding ascending follows isFree
+    ascending-off q = sym (ap ascending (h ∙ ap (λ (x : List Entry). e ∷ x) k) ∙ rw (← s, ← t, q))
+
+    -- it does
+    pub ascending-next : follows o p ≡ true → ascending (drop (i + 1) es) ≡ ascending (drop i es)
+    unfolding ascending follows isFree
+    ascending-next q = ap ascending k ∙ sym (ap ascending (h ∙ ap (λ (x : List Entry). e ∷ x) k) ∙ rw (← s, ← t, q))
+
+-- ---- a copy, test by test
+
+module _ (g : Geometry) (b : List ℕ) where
+  -- bytes 0 and 1 are not 0
+  pub copy-tag : (field b 0 2 ≡ 0 → ⊥) → false ≡ copyFits g b
+  unfolding copyFits
+  copy-tag e = fails _ (ne-eqb _ _ e)
+
+  -- the regid is another
+  pub copy-name : field b 0 2 ≡ 0 → hasRegid b 16 sparingName ≡ false → false ≡ copyFits g b
+  unfolding copyFits
+  copy-name e q = holds (eq-eqb _ _ e) (fails _ q)
+
+  module _ (tag : field b 0 2 ≡ 0) (name : hasRegid b 16 sparingName ≡ true) (n : ℕ) (count : n ≡ countIn b) where
+    -- the rest is the rule over n entries
+    rest : (r : Bool) → r ≡ leb (56 + 8 * n) (g .size) && (originalsFit (g .span) (entriesIn b n) && (ascending (entriesIn b n) && mappedFit g (entriesIn b n))) → r ≡ copyFits g b
+    unfolding copyFits entriesFit
+    rest r q =
+        let es : entriesIn b n ≡ entries (tableIn b) = ap (entriesIn b) count ∙ sector-table b in
+        let l : n ≡ length (entries (tableIn b)) = count ∙ sym (table-count b) in
+        holds (eq-eqb _ _ tag) (holds name (q ∙ rw (es, l)))
+
+    -- more entries than fit the map's size
+    pub copy-long : g .size < 56 + 8 * n → false ≡ copyFits g b
+    copy-long h = rest false (fails _ (lt-leb _ _ h))
+
+    module _ (short : 56 + 8 * n ≤ g .size) where
+      -- an original does not fit
+      pub copy-originals : originalsFit (g .span) (entriesIn b n) ≡ false → false ≡ copyFits g b
+      copy-originals o = rest false (holds (le-leb _ _ short) (fails _ o))
+
+      -- they do not ascend
+      pub copy-ascending : originalsFit (g .span) (entriesIn b n) ≡ true → ascending (entriesIn b n) ≡ false → false ≡ copyFits g b
+      copy-ascending o a = rest false (holds (le-leb _ _ short) (holds o (fails _ a)))
+
+      -- they do
+      pub copy-mapped : originalsFit (g .span) (entriesIn b n) ≡ true → ascending (entriesIn b n) ≡ true → (r : Bool) → r ≡ mappedFit g (entriesIn b n) → r ≡ copyFits g b
+      copy-mapped o a r q = rest r (holds (le-leb _ _ short) (holds o (holds a q)))
+
+-- ---- a list of spares
+
+-- they are free, so that their originals fit and ascend
+spares-free : (l : ℕ) (s : List ℕ) → originalsFit l (spareEntries s) ≡ true
+unfolding originalsFit spareEntries isFree none
+spares-free l [] = refl
+spares-free l (m ∷ s) = spares-free l s
+
+spares-ascend : (s : List ℕ) → ascending (spareEntries s) ≡ true
+unfolding ascending spareEntries isFree none
+spares-ascend [] = refl
+spares-ascend (m ∷ []) = refl
+spares-ascend (m ∷ k ∷ s) = spares-ascend (k ∷ s)
+
+-- more than fit the map's size
+pub spares-long : (g : Geometry) (s : List ℕ) → g .size < 56 + 8 * length s → false ≡ entriesFit g (spareEntries s)
+unfolding entriesFit
+spares-long g s h = fails _ (lt-leb (56 + 8 * length (spareEntries s)) (g .size) (omega (arith, length-spares s)))
+
+-- no more
+pub spares-short : (g : Geometry) (s : List ℕ) (r : Bool) → 56 + 8 * length s ≤ g .size → r ≡ mappedFit g (spareEntries s) → r ≡ entriesFit g (spareEntries s)
+unfolding entriesFit
+spares-short g s r h q =
+    holds (le-leb (56 + 8 * length (spareEntries s)) (g .size) (omega (arith, length-spares s)))
+    (holds (spares-free (g .span) s) (holds (spares-ascend s) q))

@@ -1,0 +1,4 @@
+pub mod Table
+pub mod Written
+pub mod Resorted
+pub mod Laws

@@ -1,0 +1,181 @@
+-- Laws of a table as it is written: numbers in a row, the fields before them, and the whole sector. Assumes nothing.
+use Prim.Native.Nat.{ℕ, zero, suc, _+_, _-_, _*_, _/_, _≤_, _<_}
+use mathlib.Core.Path.{_≡_, refl, sym, ap, ap₂, _∙_}
+use mathlib.Core.List.{List, [], _∷_, _++_, append-assoc, append-nil}
+use native.Mathlib.Omega.{arith}
+use native.Mathlib.Nat.{add-zero}
+use native.Mathlib.Numerals.{add-one}
+use lib.ListN.{length, getD, take, drop, replicate, length-append, take-append-drop}
+use lib.Seq.{take-suc, take-at, drop-append-add, length-take-le}
+use Rattle.fields.specs.Bytes.{splice, part, join}
+use Rattle.fields.specs.Number.{digits, quads}
+use Rattle.fields.specs.Regid.{regid, identifier}
+use Rattle.fields.proofs.Laws.{splice-append, length-part}
+use Rattle.fields.proofs.Words.{length-quads, quads-append}
+use Rattle.model.specs.Vat.{none}
+use Rattle.model.specs.VatWritten.{filled}
+use Rattle.model.specs.Sparing.{Entry, sparingName, flat, writtenTable}
+use Rattle.model.specs.Both.{spareEntries}
+use Rattle.model.proofs.SparingLaws.{length-flat}
+use Rattle.sparing.proofs.Entries.{length-spares}
+use Rattle.sparing_table.specs.Written.{begun, sparedNumbers}
+
+-- ---- numbers in a row
+
+-- none written changes nothing
+pub writing-none : (s : List ℕ) (at : ℕ) → s ≡ splice s at (quads [])
+unfolding splice quads
+writing-none s at = sym (ap (λ (k : ℕ). take at s ++ drop k s) (add-zero at) ∙ take-append-drop at s)
+
+-- some numbers, and others straight after them
+pub writing-on : (s : List ℕ) (at to : ℕ) (a b : List ℕ) → to ≡ at + 4 * length a → at + 4 * (length a + length b) ≤ length s → splice (splice s at (quads a)) to (quads b) ≡ splice s at (quads (a ++ b))
+writing-on s at to a b e h =
+    let la = length-quads a in
+    let lb = length-quads b in
+    let k : to ≡ at + length (quads a) = omega arith in
+    ap (λ (j : ℕ). splice (splice s at (quads a)) j (quads b)) k
+    ∙ sym (splice-append s at (quads a) (quads b) (omega arith))
+    ∙ ap (splice s at) (sym (quads-append a b))
+
+-- one number more
+pub writing-next : (s : List ℕ) (at : ℕ) (t : List ℕ) (j : ℕ) → j < length t → at + 4 * length t ≤ length s → splice (splice s at (quads (take j t))) (at + 4 * j) (digits 4 (getD t j 0)) ≡ splice s at (quads (take (j + 1) t))
+unfolding quads
+writing-next s at t j h l =
+    let k = length-take-le j t (omega arith) in
+    ap (splice (splice s at (quads (take j t))) (at + 4 * j)) (sym (append-nil (digits 4 (getD t j 0))))
+    ∙ writing-on s at (at + 4 * j) (take j t) (getD t j 0 ∷ []) (omega arith) (omega arith)
+    ∙ ap (λ (x : List ℕ). splice s at (quads x)) (sym (take-suc t j 0 h) ∙ ap (λ (n : ℕ). take n t) (sym (add-one j)))
+
+-- an entry, its two numbers one after the other
+pub entry-written : (s x : List ℕ) (at o m : ℕ) → at + 8 ≤ length s → x ≡ splice s at (digits 4 o) → splice x (at + 4) (digits 4 m) ≡ splice s at (quads (o ∷ m ∷ []))
+unfolding quads digits
+entry-written s x at o m h e =
+    ap (λ (y : List ℕ). splice y (at + 4) (digits 4 m)) e
+    ∙ sym (splice-append s at (digits 4 o) (digits 4 m) h)
+
+-- ---- the fields before the entries
+
+fields-written : (n k : ℕ) → splice (splice (splice (replicate 2048 0) 16 (regid sparingName)) 48 (digits 2 k)) 52 (digits 4 n) ≡ begun n k
+unfolding splice begun filled join regid identifier sparingName digits
+fields-written n k = refl
+
+-- cleared, then field by field
+pub begun-written : (s x y z : List ℕ) (n k : ℕ) → s ≡ replicate 2048 0 → x ≡ splice s 16 (regid sparingName) → y ≡ splice x 48 (digits 2 k) → z ≡ splice y 52 (digits 4 n) → z ≡ begun n k
+begun-written s x y z n k es ex ey ez = (cc) ∙ fields-written n k
+
+-- ---- the whole sector
+
+drop-zeros : (k n : ℕ) → drop {A = ℕ} k (replicate n 0) ≡ replicate (n - k) 0
+drop-zeros zero n =
+    let e : n ≡ n - 0 = omega arith in
+    ap (λ (j : ℕ). replicate {A = ℕ} j 0) e
+drop-zeros (suc k) zero =
+    let e : 0 ≡ 0 - suc k = omega arith in
+    ap (λ (j : ℕ). replicate {A = ℕ} j 0) e
+drop-zeros (suc k) (suc n) =
+    let e : n - k ≡ suc n - suc k = omega arith in
+    drop-zeros k n ∙ ap (λ (j : ℕ). replicate {A = ℕ} j 0) e
+
+-- the bytes before the entries
+front : ℕ → ℕ → List ℕ
+front n k = join (replicate 16 0 ∷ regid sparingName ∷ digits 2 k ∷ replicate 2 0 ∷ digits 4 n ∷ [])
+
+length-front : (n k : ℕ) → length (front n k) ≡ 56
+unfolding front join regid identifier sparingName digits
+length-front n k = refl
+
+put-behind : (a q z : List ℕ) → length a ≡ 56 → splice (a ++ z) 56 q ≡ a ++ (q ++ drop (length q) z)
+unfolding splice
+put-behind a q z e =
+    ap₂ (λ (x y : List ℕ). x ++ (q ++ y)) (take-at a z 56 e)
+    (ap (λ (k : ℕ). drop (k + length q) (a ++ z)) (sym e) ∙ drop-append-add a z (length q))
+
+-- a sector is its first bytes, its numbers, and zeros
+written-parts : (n : ℕ) (l : List ℕ) → writtenTable n l ≡ front n (length l / 2) ++ (quads l ++ replicate (2048 - length (front n (length l / 2) ++ quads l)) 0)
+unfolding writtenTable filled join front regid identifier sparingName digits
+written-parts n l =
+    ap (λ (q : List ℕ). front n (length l / 2) ++ (q ++ replicate (2048 - length (front n (length l / 2) ++ q)) 0)) (append-nil (quads l))
+
+begun-parts : (n k : ℕ) → begun n k ≡ front n k ++ replicate 1992 0
+unfolding begun filled front join regid identifier sparingName digits
+begun-parts n k = refl
+
+-- the entries put in behind the first bytes
+pub table-written : (n k : ℕ) (l : List ℕ) → k ≡ length l / 2 → 56 + 4 * length l ≤ 2048 → splice (begun n k) 56 (quads l) ≡ writtenTable n l
+table-written n k l e h =
+    let a : List ℕ = front n (length l / 2) in
+    let z : 1992 - length (quads l) ≡ 2048 - length (a ++ quads l) = omega (arith, length-append a (quads l), length-front n (length l / 2)) in
+    ap (λ (j : ℕ). splice (begun n j) 56 (quads l)) e
+    ∙ ap (λ (b : List ℕ). splice b 56 (quads l)) (begun-parts n (length l / 2))
+    ∙ put-behind a (quads l) (replicate 1992 0) (length-front n (length l / 2))
+    ∙ ap (λ (b : List ℕ). a ++ (quads l ++ b)) (drop-zeros (length (quads l)) 1992 ∙ ap (λ (j : ℕ). replicate j 0) z)
+    ∙ sym (written-parts n l)
+
+-- ---- free entries
+
+-- numbers of two lists of entries in a row
+pub flat-append : (a b : List Entry) → flat (a ++ b) ≡ flat a ++ flat b
+unfolding flat
+flat-append [] b = refl
+flat-append (e ∷ a) b = ap (λ (l : List ℕ). e .original ∷ e .mapped ∷ l) (flat-append a b)
+
+spares-append : (a b : List ℕ) → spareEntries (a ++ b) ≡ spareEntries a ++ spareEntries b
+unfolding spareEntries
+spares-append [] b = refl
+spares-append (m ∷ a) b = ap (λ (l : List Entry). record { original = none; mapped = m } ∷ l) (spares-append a b)
+
+-- one spare more
+pub spares-next : (s t : List ℕ) (i : ℕ) → i < length t → 56 + 8 * length t ≤ length s → splice (splice s 56 (quads (flat (spareEntries (take i t))))) (56 + 8 * i) (quads (0xffffffff ∷ getD t i 0 ∷ [])) ≡ splice s 56 (quads (flat (spareEntries (take (i + 1) t))))
+unfolding flat spareEntries none
+spares-next s t i h l =
+    let k = length-take-le i t (omega arith) in
+    let f = length-flat (spareEntries (take i t)) in
+    let n = length-spares (take i t) in
+    writing-on s 56 (56 + 8 * i) (flat (spareEntries (take i t))) (0xffffffff ∷ getD t i 0 ∷ []) (omega arith) (omega arith)
+    ∙ ap (λ (x : List ℕ). splice s 56 (quads x))
+    (sym
+    (ap (λ (j : ℕ). flat (spareEntries (take j t))) (add-one i)
+    ∙ ap (λ (x : List ℕ). flat (spareEntries x)) (take-suc t i 0 h)
+    ∙ ap flat (spares-append (take i t) (getD t i 0 ∷ []))
+    ∙ flat-append (spareEntries (take i t)) (spareEntries (getD t i 0 ∷ []))))
+
+-- ---- the entries once a packet took a free one
+
+-- those before its place, its own, those up to the free one, and those behind that
+pub spared-written : (s t x y z w : List ℕ) (n p k u : ℕ) → k ≤ u → u < n → 2 * n ≤ length t → 56 + 8 * n ≤ length s → x ≡ splice s 56 (quads (take (2 * k) t)) → y ≡ splice x (56 + 8 * k) (quads (p ∷ getD t (2 * u + 1) 0 ∷ [])) → z ≡ splice y (56 + 8 * (k + 1)) (quads (take (2 * u - 2 * k) (drop (2 * k) t))) → w ≡ splice z (56 + 8 * (u + 1)) (quads (take (2 * n - (2 * u + 2)) (drop (2 * u + 2) t))) → w ≡ splice s 56 (quads (sparedNumbers t n p k u))
+unfolding part sparedNumbers
+spared-written s t x y z w n p k u hk hu ht hs ex ey ez ew =
+    let a : List ℕ = take (2 * k) t in
+    let o : List ℕ = p ∷ getD t (2 * u + 1) 0 ∷ [] in
+    let b : List ℕ = part t (2 * k) (2 * (u - k)) in
+    let c : List ℕ = part t (2 * u + 2) (2 * (n - u - 1)) in
+    let la : length a ≡ 2 * k = length-take-le (2 * k) t (omega arith) in
+    let lb : length b ≡ 2 * (u - k) = length-part t (2 * k) (2 * (u - k)) (omega arith) in
+    let lc : length c ≡ 2 * (n - u - 1) = length-part t (2 * u + 2) (2 * (n - u - 1)) (omega arith) in
+    let lo : length (a ++ o) ≡ 2 * k + 2 = length-append a o ∙ omega arith in
+    let lp : length ((a ++ o) ++ b) ≡ 2 * u + 2 = length-append (a ++ o) b ∙ omega arith in
+    let jb : 2 * u - 2 * k ≡ 2 * (u - k) = omega arith in
+    let jc : 2 * n - (2 * u + 2) ≡ 2 * (n - u - 1) = omega arith in
+    let fy : y ≡ splice s 56 (quads (a ++ o)) =
+    ey ∙ ap (λ (l : List ℕ). splice l (56 + 8 * k) (quads o)) ex ∙ writing-on s 56 (56 + 8 * k) a o (omega arith) (omega arith) in
+    let fz : z ≡ splice s 56 (quads ((a ++ o) ++ b)) =
+    ez
+    ∙ ap₂ (λ (l : List ℕ) (j : ℕ). splice l (56 + 8 * (k + 1)) (quads (take j (drop (2 * k) t)))) fy jb
+    ∙ writing-on s 56 (56 + 8 * (k + 1)) (a ++ o) b (omega arith) (omega arith) in
+    ew
+    ∙ ap₂ (λ (l : List ℕ) (j : ℕ). splice l (56 + 8 * (u + 1)) (quads (take j (drop (2 * u + 2) t)))) fz jc
+    ∙ writing-on s 56 (56 + 8 * (u + 1)) ((a ++ o) ++ b) c (omega arith) (omega arith)
+    ∙ ap (λ (l : List ℕ). splice s 56 (quads l)) (append-assoc (a ++ o) b c ∙ append-assoc a o (b ++ c))
+
+-- they are as many as before
+pub length-spared : (t : List ℕ) (n p k u : ℕ) → k ≤ u → u < n → 2 * n ≤ length t → length (sparedNumbers t n p k u) ≡ 2 * n
+unfolding sparedNumbers
+length-spared t n p k u hk hu ht =
+    let a : List ℕ = take (2 * k) t in
+    let o : List ℕ = p ∷ getD t (2 * u + 1) 0 ∷ [] in
+    let b : List ℕ = part t (2 * k) (2 * (u - k)) in
+    let c : List ℕ = part t (2 * u + 2) (2 * (n - u - 1)) in
+    let la : length a ≡ 2 * k = length-take-le (2 * k) t (omega arith) in
+    let lb : length b ≡ 2 * (u - k) = length-part t (2 * k) (2 * (u - k)) (omega arith) in
+    let lc : length c ≡ 2 * (n - u - 1) = length-part t (2 * u + 2) (2 * (n - u - 1)) (omega arith) in
+    length-append a (o ++ (b ++ c)) ∙ omega (arith, length-append b c)

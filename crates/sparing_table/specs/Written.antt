@@ -1,0 +1,22 @@
+-- A table as it is written, in the steps in which it is (document 01, "The sparing table" and "Calls and their sector writes").
+use Prim.Native.Nat.{ℕ, _+_, _-_, _*_}
+use mathlib.Core.List.{List, [], _∷_, _++_}
+use lib.ListN.{getD, take, replicate}
+use Rattle.fields.specs.Bytes.{part, join}
+use Rattle.fields.specs.Number.{digits}
+use Rattle.fields.specs.Regid.{regid}
+use Rattle.model.specs.VatWritten.{filled}
+use Rattle.model.specs.Sparing.{sparingName}
+
+-- the sector of a table up to its entries, of which there are n, and 0 after that
+unfoldable pub begun : ℕ → ℕ → List ℕ
+begun sequence n =
+    filled 2048
+    (join (replicate 16 0 ∷ regid sparingName ∷ digits 2 n ∷ replicate 2 0 ∷ digits 4 sequence ∷ []))
+
+-- the first n entries of the lent table t once packet p took the free one at place u and stands at place k: those before k, its own, those
+-- from k to u, and those behind u
+unfoldable pub sparedNumbers : List ℕ → ℕ → ℕ → ℕ → ℕ → List ℕ
+sparedNumbers t n p k u =
+    take (2 * k) t
+    ++ (p ∷ getD t (2 * u + 1) 0 ∷ (part t (2 * k) (2 * (u - k)) ++ part t (2 * u + 2) (2 * (n - u - 1))))
