@@ -105,6 +105,15 @@ all-blank m s n l z k hn hl =
     let f : getD m (s + (n + (k - n))) 0 ≡ getD m (s + k) 0 = ap (λ (x : ℕ). getD m (s + x) 0) e in
     omega (arith, between-at m s n l (k - n) (omega arith), highest-above (between m (s + n) (s + l)) (k - n))
 
+-- and NWA is looked for below them,
+pub blanks-below : (d : Disc) (s a b top : ℕ) → a ≤ b → top ≡ highest (between (d .marks) (s + a) (s + b)) → top ≡ 0 → nwa d s a ≡ nwa d s b
+unfolding mark
+blanks-below d s a b top h q z =
+    sym (nwa-is d s b (nwa d s a) (omega (arith, nwa-most d s a)) blank (nwa-last d s a))
+  where
+    blank : (k : ℕ) → nwa d s a ≤ k → k < b → getD (d .marks) (s + k) 0 ≡ 0
+    blank k lo hi = by-lt k a (λ p. nwa-blank d s a k lo p) (λ p. all-blank (d .marks) s a b (sym q ∙ z) k p hi)
+
 -- and if all are it is
 none-higher : (m : List ℕ) (s n l : ℕ) → ((k : ℕ) → n ≤ k → k < l → getD m (s + k) 0 ≡ 0) → highest (between m (s + n) (s + l)) ≡ 0
 none-higher m s n l blank = omega (arith, highest-most (between m (s + n) (s + l)) 0 each)
@@ -296,3 +305,8 @@ unfolding writes upward
 writing-last number cut k p b d₀ d i n h w =
     let e : k - i ≡ 0 = omega arith in
     ap (λ (x : ℕ). writes n cut (upward x (p + i) b (2048 * i)) d) (sym e) ∙ w .left
+
+-- a sector's bytes have room in a block's
+pub part-room : (s : List ℕ) (k : ℕ) (out : List ℕ) → k + 2048 ≤ length s → length out ≡ 2048 → length (take (k + 2048 - k) (drop k s)) ≤ length out
+unfolding part
+part-room s k out h q = let l = length-part s k (k + 2048 - k) (omega arith) in omega arith

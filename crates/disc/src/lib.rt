@@ -21,6 +21,9 @@ const SECTOR: usize = 2048;
 
 const MOST_SECTORS: usize = 1048576;
 
+// How many marks are looked at in one step down.
+const STEP: u32 = 4096;
+
 // The marks of a sector.
 const BLANK: u8 = 0;
 
@@ -71,6 +74,27 @@ pub fn is_inside(marks: &[u8], s: u32, l: u32) -> bool
     s as u64 + l as u64 <= marks.len() as u64
 }
 
+// The end of the partition without blank sectors at its end, as far as steps of many marks pass over them.
+// Inside the layers: lines 1 and 2 have been tested.
+fn skip_blank(marks: &[u8], s: u32, l: u32) -> u32
+    requires { ⌜ s + l ≤ length (now marks) ⌝ }
+    requires { ⌜ length (now marks) ≤ 1048576 ⌝ }
+    ensures { λ r. ⌜ r ≤ l ⌝ }
+    ensures { λ r. ⌜ ((bytes : List ℕ) → nwa (discOf bytes (now (marks .entry))) s r ≡ nwa (discOf bytes (now (marks .entry))) s l) ⌝ }
+{
+    let mut k = l;
+    while STEP <= k {
+        let below = k - STEP;
+        let from = (s + below) as usize;
+        let to = (s + k) as usize;
+        if highest_mark(&marks[from..to]) != BLANK {
+            return k;
+        }
+        k = below;
+    }
+    k
+}
+
 // NWA: the block one past the partition's last sector that is not blank. It looks down from the end.
 // Inside the layers: lines 1 and 2 have been tested.
 pub fn next_writable(marks: &[u8], s: u32, l: u32) -> u32
@@ -78,7 +102,7 @@ pub fn next_writable(marks: &[u8], s: u32, l: u32) -> u32
     requires { ⌜ length (now marks) ≤ 1048576 ⌝ }
     ensures { λ r. ⌜ ((bytes : List ℕ) → r ≡ nwa (discOf bytes (now (marks .entry))) s l) ⌝ }
 {
-    let mut k = l;
+    let mut k = skip_blank(marks, s, l);
     while 0 < k {
         let below = k - 1;
         if marks[(s + below) as usize] != BLANK {
@@ -136,7 +160,7 @@ pub fn all_recorded(marks: &[u8], from: usize, count: usize) -> bool
 }
 
 // What becomes of write `number` of a call under a cut.
-pub fn lands(number: u32, cut: Cut) -> Landing
+fn lands(number: u32, cut: Cut) -> Landing
     ensures { λ r. ⌜ r ≡ landing number cut ⌝ }
 {
     let at = cut.at;

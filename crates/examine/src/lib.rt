@@ -8,18 +8,19 @@ use model::Record;
 use refusal::Refusal;
 use refusal::Verdict;
 ghost use mathlib.Core.Path.{_≡_};
-ghost use mathlib.Core.Bool.{true};
+ghost use mathlib.Core.Bool.{true, _&&_};
 ghost use mathlib.Core.List.{List, []};
 ghost use Prim.Native.Nat.{ℕ, _+_, _≤_};
 ghost use lib.ListN.{length, take};
+ghost use lib.Dec.{eqb};
 ghost use Rattle.refusal.specs.declared.Verdict;
 ghost use Rattle.maps.specs.Kinds.{noVolume};
 ghost use Rattle.maps.specs.Written.{kindInRange};
 ghost use Rattle.model.specs.Disc.{disc as discOf};
 ghost use Rattle.model.specs.Sparing.{outside};
 ghost use Rattle.model.specs.Vat.{allBelow};
-ghost use Rattle.model.specs.Examine.{setting, allOutside, aligned};
-ghost use Rattle.model.specs.Once.{heldFits, onceVerdict};
+ghost use Rattle.model.specs.Examine.{setting, allOutside, aligned, lentTable};
+ghost use Rattle.model.specs.Once.{entriesHeld, nextHeld, lastHeld, heldFits, onceVerdict};
 ghost use Rattle.examine.specs.Ground.{groundOf, placedOf, handedOn, examinedOf};
 
 // The sectors of a packet.
@@ -27,6 +28,9 @@ const PACKET: u64 = 32;
 
 // The most entries of a VAT.
 const MOST_ENTRIES: u32 = 4096;
+
+// The entries that a lent table has at least.
+const TABLE: usize = 4096;
 
 // An entry that is unused.
 const NONE: u32 = 0xffffffff;
@@ -36,6 +40,78 @@ pub struct Examined {
     pub verdict: Verdict,
     pub volume: Volume,
 }
+
+// Line 3 of a call that is lent a table: whether it is long enough.
+pub fn is_lent(table: &[u32]) -> bool
+    ensures { λ r. ⌜ r ≡ lentTable (now (table .entry)) ⌝ }
+{
+    TABLE <= table.len()
+}
+
+// Line 3 of a call that is lent bytes too: whether there are `size` of them.
+pub fn are_lent(table: &[u32], bytes: &[u8], size: usize) -> bool
+    ensures { λ r. ⌜ r ≡ (lentTable (now (table .entry)) && eqb (length (now (bytes .entry))) size) ⌝ }
+{
+    if table.len() < TABLE {
+        return false;
+    }
+    bytes.len() == size
+}
+
+// ---- the record: N, NWA and the last ICB
+
+// N, 0 of a record of the other kind.
+pub fn entries_held(held: Record) -> u32
+    ensures { λ r. ⌜ r ≡ entriesHeld held ⌝ }
+{
+    match held {
+        Record::WriteOnce {
+            entries,
+            next: _,
+            last: _,
+        } => entries,
+        Record::Rewritable {
+            entries: _,
+            sequence: _,
+        } => 0,
+    }
+}
+
+// NWA, 0 of a record of the other kind.
+pub fn next_held(held: Record) -> u32
+    ensures { λ r. ⌜ r ≡ nextHeld held ⌝ }
+{
+    match held {
+        Record::WriteOnce {
+            entries: _,
+            next,
+            last: _,
+        } => next,
+        Record::Rewritable {
+            entries: _,
+            sequence: _,
+        } => 0,
+    }
+}
+
+// The last ICB, 0 of a record of the other kind.
+pub fn last_held(held: Record) -> u32
+    ensures { λ r. ⌜ r ≡ lastHeld held ⌝ }
+{
+    match held {
+        Record::WriteOnce {
+            entries: _,
+            next: _,
+            last,
+        } => last,
+        Record::Rewritable {
+            entries: _,
+            sequence: _,
+        } => 0,
+    }
+}
+
+// ---- lines 1 to 6
 
 // Whether the packet at m is a whole packet of the disc, outside the partition.
 fn is_outside(sectors: usize, s: u32, l: u32, m: u32) -> bool

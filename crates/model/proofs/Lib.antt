@@ -1,6 +1,7 @@
 pub mod Basics
 pub mod Agree
 pub mod Verdicts
+pub mod Plans
 pub mod Scan
 pub mod Sectors
 pub mod SectorsRuns

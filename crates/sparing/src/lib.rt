@@ -273,7 +273,7 @@ fn mapped_fit(x: Layout, b: &[u8], n: usize) -> bool
 
 // Whether a sector's bytes are a table that counts where the sector is recorded. The number of entries is
 // compared with the map's size first, so that no entry past the sector is read.
-pub fn copy_fits(x: Layout, b: &[u8]) -> bool
+fn copy_fits(x: Layout, b: &[u8]) -> bool
     requires { ⌜ (x .count ≤ 4) × (x .size ≤ 2048) ⌝ }
     requires { ⌜ length (now b) ≡ 2048 ⌝ }
     ensures { λ r. ⌜ r ≡ copyFits (geometryIn x) (now (b .entry)) ⌝ }

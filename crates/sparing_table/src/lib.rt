@@ -83,7 +83,7 @@ pub fn fill_table(b: &[u8], table: &mut [u32])
 }
 
 // The place of the first of `n` entries of the lent table with this original, or `n` where there is none.
-pub fn find_entry(table: &[u32], n: usize, original: u32) -> usize
+fn find_entry(table: &[u32], n: usize, original: u32) -> usize
     requires { ⌜ 2 * n ≤ length (now table) ⌝ }
     ensures { λ i. ⌜ i ≡ placeWhere (has original) (entries (take (2 * n) (now (table .entry)))) ⌝ }
 {

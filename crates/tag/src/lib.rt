@@ -52,7 +52,7 @@ fn spread(x: u8) -> u16
 }
 
 // A CRC with one byte more.
-pub fn crc_byte(crc: u16, byte: u8) -> u16
+fn crc_byte(crc: u16, byte: u8) -> u16
     ensures { λ r. ⌜ r ≡ byteStep crc byte ⌝ }
 {
     let high = (crc / 256) as u8;

@@ -5,35 +5,12 @@ use mathlib.Core.Path.{_≡_, refl, sym, ap, ap₂, _∙_}
 use mathlib.Core.Bool.{Bool, true, false, not, _&&_, and-assoc, and-true, and-false}
 use mathlib.Core.List.{List, [], _∷_}
 use native.Mathlib.Omega.{arith}
-use native.Mathlib.Numerals.{add-one}
 use lib.Dec.{eqb, leb, ltb}
 use borrow.Author.Tests.{eq-eqb, ne-eqb, lt-ltb, le-ltb, not-true, not-false}
 use Rattle.fields.specs.Number.{field}
 use Rattle.model.specs.Disc.{Disc, recorded, recordedRun}
 use Rattle.model.specs.Vat.{Extent, form, fileLength, attributes, allocation, allocationFits, extents, pairs, upToZero, blocksIn, sizesFit, sizes, blocksFit}
 use Rattle.vat.specs.File.{extentFits, extentsFit, placeOf}
-
--- ---- runs of recorded sectors
-
--- one sector more
-run-suc : (d : Disc) (p n : ℕ) → recordedRun d p (suc n) ≡ recordedRun d p n && recorded d (p + n)
-unfolding recordedRun
-run-suc d p zero =
-    let e : p ≡ p + 0 = omega arith in
-    and-true (recorded d p) ∙ ap (recorded d) e
-run-suc d p (suc n) =
-    let e : p + 1 + n ≡ p + suc n = omega arith in
-    ap (λ (x : Bool). recorded d p && x) (run-suc d (p + 1) n)
-    ∙ sym (and-assoc (recorded d p) (recordedRun d (p + 1) n) (recorded d (p + 1 + n)))
-    ∙ ap (λ (x : ℕ). recorded d p && recordedRun d (p + 1) n && recorded d x) e
-
--- a recorded one leaves the run as it is
-pub run-kept : (d : Disc) (p n : ℕ) → recorded d (p + n) ≡ true → recordedRun d p n ≡ recordedRun d p (n + 1)
-run-kept d p n h = sym (rw (add-one, run-suc, h) (and-true (recordedRun d p n)))
-
--- any other ends it
-pub run-broken : (d : Disc) (p n : ℕ) → recorded d (p + n) ≡ false → false ≡ recordedRun d p (n + 1)
-run-broken d p n h = sym (rw (add-one, run-suc, h) (and-false (recordedRun d p n)))
 
 -- ---- the extents of an ICB, from one of them on
 

@@ -1,5 +1,5 @@
 // A VAT ICB recognised, and the entries of its VAT read (document 01, "The VAT and its ICB").
-// The layers above count on passes, is_icb, entry_count and fill: each gives what the definition of its name gives.
+// The layers above count on passes, entry_count and fill: each gives what the definition of its name gives.
 // The file of an ICB is never copied: its bytes are read by position, through its extents, where they stand.
 // All functions here are inside the layers: where one has a `requires`, the callers have tested it.
 ghost use mathlib.Core.Path.{_≡_};
@@ -10,7 +10,7 @@ ghost use lib.ListN.{length, getD};
 ghost use lib.Dec.{eqb};
 ghost use Rattle.fields.specs.Number.{field, words};
 ghost use Rattle.fields.specs.Regid.{hasRegid};
-ghost use Rattle.model.specs.Disc.{disc as discOf, sector, recordedRun};
+ghost use Rattle.model.specs.Disc.{disc as discOf, sector};
 ghost use Rattle.model.specs.Vat.{vatName, countOf, entriesOf, belowOrNone, allBelow, tagFits, form, fileLength, attributes, allocation, entryFits, extents, allocationFits, tableFits, passes as passesAt, vatIcb, vatFile};
 ghost use Rattle.model.specs.Once.{filledFrom};
 ghost use Rattle.vat.specs.File.{Lent, Filed, fileIn, placeOf, extentFits, extentsFit};
@@ -74,9 +74,6 @@ const PAIR: usize = 8;
 const BLOCK_AT: usize = 4;
 
 const EXTENT_LIMIT: u32 = 1073741824;
-
-// The mark of a recorded sector.
-const RECORDED: u8 = 1;
 
 // A VAT file: entries, a regid and the previous ICB; an entry that is unused, and no previous ICB.
 const ENTRY: u64 = 4;
@@ -210,22 +207,6 @@ pub fn entry_fits(icb: &[u8]) -> bool
 
 // ---- the extents
 
-// Whether the `n` sectors from `from` on are all recorded. It looks at each, with no early way out.
-fn all_recorded(marks: &[u8], from: usize, n: usize) -> bool
-    requires { ⌜ from + n ≤ length (now marks) ⌝ }
-    ensures { λ r. ⌜ ((bytes : List ℕ) → r ≡ recordedRun (discOf bytes (now (marks .entry))) from n) ⌝ }
-{
-    let mut all = true;
-    let mut i: usize = 0;
-    while i < n {
-        if marks[from + i] != RECORDED {
-            all = false;
-        }
-        i += 1;
-    }
-    all
-}
-
 // Whether an extent is short enough, ends at `k` at most, and is recorded.
 fn extent_fits(marks: &[u8], s: u32, k: u32, size: u32, block: u32) -> bool
     requires { ⌜ s + k ≤ length (now marks) ⌝ }
@@ -239,7 +220,7 @@ fn extent_fits(marks: &[u8], s: u32, k: u32, size: u32, block: u32) -> bool
     if wide(k) < from + blocks {
         return false;
     }
-    all_recorded(marks, wide(s) + from, blocks)
+    disc::all_recorded(marks, wide(s) + from, blocks)
 }
 
 // Whether the extents of an ICB fit, and add up to F. An extent whose length is no multiple of a sector is the last.
@@ -437,19 +418,6 @@ fn sector_at(disc: &[u8], s: u32, k: u32) -> &[u8]
     let from = SECTOR * (wide(s) + wide(k));
     let to = from + SECTOR;
     &disc[from..to]
-}
-
-// Whether the sector at logical block `k` is a VAT ICB; the mark is looked at first.
-pub fn is_icb(disc: &[u8], marks: &[u8], s: u32, k: u32) -> bool
-    requires { ⌜ Lent (now disc) (now marks) s k ⌝ }
-    requires { ⌜ s + k < length (now marks) ⌝ }
-    ensures { λ r. ⌜ r ≡ vatIcb (discOf (now (disc .entry)) (now (marks .entry))) s k ⌝ }
-{
-    if marks[wide(s) + wide(k)] != RECORDED {
-        return false;
-    }
-    let icb = sector_at(disc, s, k);
-    passes(disc, marks, s, k, icb)
 }
 
 // N, by the length of the file.

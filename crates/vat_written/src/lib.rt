@@ -93,7 +93,7 @@ const EXTENT_BLOCK_AT: usize = 4;
 const EXTENT: u32 = 8;
 
 // F, the bytes of the file of n entries.
-pub fn file_bytes(n: u32) -> u32
+fn file_bytes(n: u32) -> u32
     requires { ⌜ n ≤ 4096 ⌝ }
     ensures { λ r. ⌜ r ≡ fileBytes n ⌝ }
 {
@@ -101,7 +101,7 @@ pub fn file_bytes(n: u32) -> u32
 }
 
 // Whether the file of n entries stands in the ICB itself.
-pub fn is_embedded(n: u32) -> bool
+fn is_embedded(n: u32) -> bool
     requires { ⌜ n ≤ 4096 ⌝ }
     ensures { λ r. ⌜ r ≡ ltb (176 + fileBytes n) 2048 ⌝ }
 {

@@ -32,7 +32,7 @@ use Rattle.write_once.specs.Calls.{measuredBy, fullnessOf}
 -- ---- what the common tests tell
 
 -- line 11: N is at most 4,096, and NWA at most L
-held-tells : (e : Setting) (d : Disc) (t : List ℕ) (held : Record) → heldFits e d t held ≡ true → (entriesHeld held ≤ 4096) × (nextHeld held ≤ e .span)
+pub held-tells : (e : Setting) (d : Disc) (t : List ℕ) (held : Record) → heldFits e d t held ≡ true → (entriesHeld held ≤ 4096) × (nextHeld held ≤ e .span)
 unfolding heldFits entriesHeld nextHeld nextOn
 held-tells e d t (Record.WriteOnce n next last) h =
     let p = and-true (eqb next (nextOn e d)) _ h in

@@ -107,7 +107,7 @@ module _ (e : Setting) (d : Disc) (t : List ℕ) where
       (sym (ap (λ (v : Verdict). openedBy v (foundRecord e d) (passedOver e d)) h), sym (ap (λ (v : Verdict). filledBy v (entriesOf (newestFile e d)) t) h))
 
   -- lent says whether the table is long enough, and r is the answer of the examination
-  module _ {lent : Bool} (q : lent ≡ leb 4096 (length t)) {r : Examined} (f : r ≡ examinedOf e d lent) where
+  module _ {lent : Bool} (q : lent ≡ lentTable t) {r : Examined} (f : r ≡ examinedOf e d lent) where
     seen : r ≡ examinedOf e d (lentTable t)
     unfolding lentTable
     seen = f ∙ ap (examinedOf e d) q

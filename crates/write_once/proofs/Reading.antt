@@ -1,21 +1,19 @@
 -- Laws of reading on a write-once disc, one for each way on or out. Assumes nothing.
-use Prim.Native.Nat.{ℕ, zero, suc, _+_, _-_, _*_, _≤_, _<_}
+use Prim.Native.Nat.{ℕ, zero, suc, _+_, _*_, _≤_, _<_}
 use mathlib.Core.Bool.{Bool, true, false, cond, not, _&&_}
 use mathlib.Core.Path.{_≡_, refl, sym, ap, _∙_}
 use mathlib.Core.List.{List, [], _∷_, _++_}
 use native.Mathlib.Omega.{arith}
-use borrow.Author.Tests.{eqb-true, eqb-false, leb-true, ltb-true, ne-eqb, lt-ltb, le-ltb, not-true, not-false}
+use borrow.Author.Tests.{eqb-true, eqb-false, leb-true, ltb-true, ne-eqb, not-true, not-false}
 use lib.Dec.{eqb, leb}
-use lib.ListN.{length, getD, take, drop}
+use lib.ListN.{length, getD, take}
 use lib.Seq.{length-take-le, getD-take}
-use Rattle.fields.specs.Bytes.{part}
-use Rattle.fields.proofs.Laws.{length-part}
 use Rattle.refusal.specs.declared.Refusal.{Refusal}
-use Rattle.refusal.specs.declared.Refusal.the-variants.{OtherKind, StaleRecord, NumberOutside, UnusedEntry, NotRecorded}
+use Rattle.refusal.specs.declared.Refusal.the-variants.{OtherKind, StaleRecord, NotRecorded}
 use Rattle.refusal.specs.declared.Verdict.{Verdict}
 use Rattle.refusal.specs.declared.Verdict.the-variants.{Go, Stop}
 use Rattle.refusal.specs.Tests.{test, first}
-use Rattle.refusal.proofs.Laws.{All, passed, goes, stops, ne, eq, stops-all, goes-all}
+use Rattle.refusal.proofs.Laws.{All, passed, goes, stops-all, goes-all}
 use Rattle.model.specs.declared.Record.{Record}
 use Rattle.model.specs.declared.Given.{Given}
 use Rattle.model.specs.Disc.{Disc, sector, recorded, nwa}
@@ -28,6 +26,7 @@ use Rattle.model.proofs.Basics.{and-true, other}
 use Rattle.model.proofs.Sectors.{shapely-made, shapely-most, inside-fits, nwa-most}
 use Rattle.model.proofs.Verdicts.{Examined, examined-tells, then-go, stop-test, next-test}
 use Rattle.examine.proofs.Laws.{once-stops, once-goes}
+use Rattle.write_once.proofs.Laws.{held-tells}
 use Rattle.write_once.specs.Calls.{readOnceVerdict, readingOnce, readOnceBytes}
 
 -- ---- what lines 1 to 7 and 11 tell of a call that goes on
@@ -43,13 +42,6 @@ once-tells e d t lent held h =
     let p = then-go (examined e d lent) _ h in
     let q = passed (test (writeOnce e) OtherKind ∷ test (heldFits e d t held) StaleRecord ∷ []) (p .1) in
     record { seen = examined-tells e d lent (p .0); once = q .0; fits = q .1 .0 }
-
--- N is at most 4,096
-pub held-few : (e : Setting) (d : Disc) (t : List ℕ) (held : Record) → heldFits e d t held ≡ true → entriesHeld held ≤ 4096
-unfolding heldFits entriesHeld
-held-few e d t (Record.WriteOnce n next last) h =
-    leb-true n 4096 (and-true (leb n 4096) _ (and-true (eqb next (nextOn e d)) _ h .1) .0)
-held-few e d t (Record.Rewritable n sequence) h = omega arith
 
 -- of entries that are all below k or unused, each is
 below-at : (k : ℕ) (l : List ℕ) (v : ℕ) → allBelow k l ≡ true → v < length l → belowOrNone k (getD l v 0) ≡ true
@@ -75,29 +67,6 @@ held-entry e d t (Record.WriteOnce n next last) v h p q u =
     omega arith
 held-entry e d t (Record.Rewritable n sequence) v h p q u = let z : v < 0 = p in absurd (omega arith)
 
--- a sector's bytes have room in a block's
-pub part-room : (s : List ℕ) (k : ℕ) (out : List ℕ) → k + 2048 ≤ length s → length out ≡ 2048 → length (take (k + 2048 - k) (drop k s)) ≤ length out
-unfolding part
-part-room s k out h q = let l = length-part s k (k + 2048 - k) (omega arith) in omega arith
-
--- ---- lines 12 and 13
-
-module _ (t : List ℕ) (held : Record) (v : ℕ) {n : ℕ} (q : n ≡ entriesHeld held) where
-  -- there is no entry v
-  pub entry-outside : n ≤ v → Stop NumberOutside ≡ first (entryTests t held v)
-  unfolding entryTests
-  entry-outside h = stops _ (le-ltb v (entriesHeld held) (omega arith))
-
-  -- it is unused
-  pub entry-unused : v < n → getD t v 0 ≡ 0xffffffff → Stop UnusedEntry ≡ first (entryTests t held v)
-  unfolding entryTests none
-  entry-unused h u = goes NumberOutside (lt-ltb v (entriesHeld held) (omega arith)) (stops Go (eq (getD t v 0) 0xffffffff u))
-
-  -- it is used
-  pub entry-used : v < n → (getD t v 0 ≡ 0xffffffff → ⊥) → Go ≡ first (entryTests t held v)
-  unfolding entryTests none
-  entry-used h u = goes NumberOutside (lt-ltb v (entriesHeld held) (omega arith)) (goes UnusedEntry (ne (getD t v 0) 0xffffffff u) refl)
-
 -- ---- reading
 
 module _ (e : Setting) (d : Disc) (t : List ℕ) (held : Record) (v : ℕ) (out : List ℕ) where
@@ -112,7 +81,7 @@ module _ (e : Setting) (d : Disc) (t : List ℕ) (held : Record) (v : ℕ) (out 
   read-refused h = (sym (ap givenBy h), sym (ap (λ (w : Verdict). blockBy w (sector d (entrySector e t v)) out) h))
 
   -- k says whether the lent slices have their lengths, and w is the verdict of the common tests
-  module _ {k : Bool} (q : k ≡ (leb 4096 (length t) && eqb (length out) 2048)) {w : Verdict} (f : w ≡ onceVerdict e d t k held []) where
+  module _ {k : Bool} (q : k ≡ (lentTable t && eqb (length out) 2048)) {w : Verdict} (f : w ≡ onceVerdict e d t k held []) where
     common : onceVerdict e d t (readLent t out) held [] ≡ w
     unfolding readLent lentTable
     common = sym (f ∙ ap (λ (b : Bool). onceVerdict e d t b held []) q)
@@ -138,7 +107,7 @@ module _ (e : Setting) (d : Disc) (t : List ℕ) (held : Record) (v : ℕ) (out 
       -- the entries are in the table
       pub read-few : entriesHeld held ≤ length t
       read-few =
-          let few = held-few e d t held (told .fits) in
+          let few = held-tells e d t held (told .fits) .0 in
           let long = read-long in
           omega arith
 

@@ -1,9 +1,7 @@
--- Opening, reading and making on a write-once disc alone: as the calls of both kinds (model, Both.antt), with line 7 for a rewritable list.
+-- Opening, reading and fullness on a write-once disc alone: opening and reading as the calls of both kinds (model, Both.antt), with line 7 for a rewritable list.
 use Prim.Native.Nat.{ℕ}
-use mathlib.Core.Bool.{true}
-use mathlib.Core.List.{List, [], _∷_}
-use lib.Dec.{eqb}
-use Rattle.refusal.specs.declared.Refusal.the-variants.{OtherKind, NotBlank}
+use mathlib.Core.List.{List, _∷_}
+use Rattle.refusal.specs.declared.Refusal.the-variants.{OtherKind}
 use Rattle.refusal.specs.declared.Verdict.{Verdict}
 use Rattle.refusal.specs.declared.Verdict.the-variants.{Go, Stop}
 use Rattle.refusal.specs.Tests.{test, first, andThen}
@@ -11,12 +9,11 @@ use Rattle.model.specs.declared.Record.{Record}
 use Rattle.model.specs.declared.Opened.{Opened}
 use Rattle.model.specs.declared.Given.{Given}
 use Rattle.model.specs.Disc.{Disc, sector}
-use Rattle.model.specs.Vat.{none, entriesOf}
-use Rattle.model.specs.VatWritten.{writtenIcb}
+use Rattle.model.specs.Vat.{entriesOf}
 use Rattle.model.specs.Examine.{Setting, writeOnce, examined, lentTable}
-use Rattle.model.specs.Once.{nextOn, nextHeld, newestFile, openOnceTests, foundRecord, passedOver, perMille, fullnessVerdict}
+use Rattle.model.specs.Once.{nextHeld, newestFile, openOnceTests, foundRecord, passedOver, perMille, fullnessVerdict}
 use Rattle.write_once.specs.declared.Measured.{Measured}
-use Rattle.model.specs.Both.{openedBy, filledBy, readOnceTests, readLent, givenBy, blockBy, entrySector, madeBy}
+use Rattle.model.specs.Both.{openedBy, filledBy, readOnceTests, readLent, givenBy, blockBy, entrySector}
 
 -- ---- opening: lines 1 to 9
 
@@ -47,17 +44,6 @@ readingOnce e d t held v out = givenBy (readOnceVerdict e d t held v out)
 -- the lent bytes after it
 unfoldable pub readOnceBytes : Setting → Disc → List ℕ → Record → ℕ → List ℕ → List ℕ
 readOnceBytes e d t held v out = blockBy (readOnceVerdict e d t held v out) (sector d (entrySector e t v)) out
-
--- ---- making: lines 1, 2, 4 to 7 and 21; a blank partition gets an empty VAT
-
--- why it is turned down
-unfoldable pub makeOnceVerdict : Setting → Disc → Verdict
-makeOnceVerdict e d =
-    andThen (examined e d true) (first (test (writeOnce e) OtherKind ∷ test (eqb (nextOn e d) 0) NotBlank ∷ []))
-
--- the disc after it
-unfoldable pub madeOnce : Setting → Disc → Disc
-madeOnce e d = madeBy (makeOnceVerdict e d) (record { place = e .start; bytes = writtenIcb 0 [] none } ∷ []) d
 
 -- ---- fullness: lines 1 to 7 and 11
 

@@ -1,7 +1,7 @@
 -- `disc::next_writable` meets its contract. The loop's invariant: the first k blocks have the NWA of all. Assumes nothing.
 use borrow.Author.Needs.{needs}
 use Prim.Native.Nat.{ℕ, _≤_}
-use mathlib.Core.Path.{_≡_, refl, _∙_}
+use mathlib.Core.Path.{_≡_, _∙_}
 use mathlib.Core.List.{List}
 use native.Mathlib.Omega.{arith}
 use Rattle.model.specs.Disc.{disc, nwa}
@@ -15,8 +15,11 @@ Inv-loop marks s l k₀ k = (k ≤ l) × ((bytes : List ℕ) → nwa (disc bytes
 abbrev μ-loop : tie.MeasureT-loop
 μ-loop marks s l k₀ k = k
 
+skip-blank-requires : tie.Need-skip-blank-requires Inv-loop μ-loop
+skip-blank-requires c κs = search needs
+
 loop-holds : tie.Need-loop-holds Inv-loop μ-loop
-loop-holds c = (omega arith, λ bytes. refl)
+loop-holds c = (c .skip-blank .ensures .0, c .skip-blank .ensures .1)
 
 sub-below : tie.Need-sub-below Inv-loop μ-loop
 sub-below c = search needs
@@ -51,6 +54,7 @@ next-writable-spec =
     (tie.spec
     Inv-loop
     μ-loop
+    skip-blank-requires
     loop-holds
     sub-below
     add-if1

@@ -7,7 +7,7 @@ use Rattle.model.specs.Vat.{none}
 use Rattle.model.specs.Examine.{Setting, setting, lentTable}
 use Rattle.model.specs.Once.{freePlan}
 use Rattle.model.proofs.Sectors.{writes-none}
-use Rattle.write_once.proofs.Plans.{refused, carried}
+use Rattle.model.proofs.Plans.{refused, carried}
 use Rattle.write_once.proofs.Laws.{Common, going, stopped, stopped-own, goes-on, table-long, entry-tells, uncut}
 use Rattle.write_once.proofs.free_virtual.Statement.{statement}
 use Rattle.write_once.proofs.free_virtual.Tie as tie

@@ -28,10 +28,10 @@ record Ready (z : tie.Start) : Type 0 where
   pub made : length (z .args .disc .now) ≡ 2048 * length (z .args .marks .now)
   pub long : 4096 ≤ length (z .args .table .now)
 
-ready : (c : tie.After-enum-told3) → Ready (c .before .before .before .before .before .before .before .before .before .before .before)
+ready : (c : tie.After-enum-told3) → Ready (c .before .before .before .before .before .before .before .before .before .before .before .before)
 ready c =
-    let z = c .before .before .before .before .before .before .before .before .before .before .before in
-    let q = c .before .before .before .before .before .before .lends-table .ensures in
+    let z = c .before .before .before .before .before .before .before .before .before .before .before .before in
+    let q = c .before .before .before .before .before .before .is-lent .ensures in
     let f = c .before .before .before .before .before .examine .ensures in
     let h = c .before .before .before .enum-told .given .1 in
     record {
@@ -42,9 +42,9 @@ ready c =
     }
 
 -- the sectors up to NWA are the disc's
-lent-below : (c : tie.After-next-writable) (k : ℕ) → k ≤ c .next-writable .result → let z = c .before .before .before .before .before .before .before .before .before .before .before .before in Lent (z .args .disc .now) (z .args .marks .now) (z .args .s) k
+lent-below : (c : tie.After-next-writable) (k : ℕ) → k ≤ c .next-writable .result → let z = c .before .before .before .before .before .before .before .before .before .before .before .before .before in Lent (z .args .disc .now) (z .args .marks .now) (z .args .s) k
 lent-below c k le =
-    let z = c .before .before .before .before .before .before .before .before .before .before .before .before in
+    let z = c .before .before .before .before .before .before .before .before .before .before .before .before .before in
     let r = ready (c .before) in
     let span = r .span in
     let top = c .next-writable .ensures (z .args .disc .now) in
@@ -58,11 +58,11 @@ record Stands (z : tie.Start) (next k : ℕ) : Type 0 where
   pub lent : Lent (z .args .disc .now) (z .args .marks .now) (z .args .s) k
   pub there : z .args .s + k < length (z .args .marks .now)
 
-stands : (c : tie.After-known-told2) → Stands (c .before .before .before .before .before .before .before .before .before .before .before .before .before .before .before .before) (c .before .before .before .before .next-writable .result) (c .before .found .given .0 .0)
+stands : (c : tie.After-known-told2) → Stands (c .before .before .before .before .before .before .before .before .before .before .before .before .before .before .before .before .before) (c .before .before .before .before .next-writable .result) (c .before .found .given .0 .0)
 stands c =
     let b = c .before .before .before .before .before in
-    let z = c .before .before .before .before .before .before .before .before .before .before .before .before .before .before .before .before in
-    let q = b .before .before .before .before .before .before .lends-table .ensures in
+    let z = c .before .before .before .before .before .before .before .before .before .before .before .before .before .before .before .before .before in
+    let q = b .before .before .before .before .before .before .is-lent .ensures in
     let f = b .before .before .before .before .before .examine .ensures in
     let h = b .before .before .before .enum-told .given .1 in
     let is = b .enum-told3 .given .1 in
@@ -78,8 +78,8 @@ stands c =
       there = omega arith;
     }
 
-lends-table-requires : tie.Need-lends-table-requires
-lends-table-requires c κs = search needs
+is-lent-requires : tie.Need-is-lent-requires
+is-lent-requires c κs = search needs
 
 examine-requires : tie.Need-examine-requires
 examine-requires c κs = search needs
@@ -87,10 +87,13 @@ examine-requires c κs = search needs
 enum-known-verdict : tie.Need-enum-known-verdict
 enum-known-verdict c = search needs
 
+same-length : tie.Need-same-length
+same-length c = search needs
+
 returns : tie.Need-returns
 returns c =
-    let z = c .before .before .before .before .before .before .before .before .before in
-    open-examined (settingOf z) (discOf z) _ (c .before .before .before .before .lends-table .ensures) (c .before .before .before .examine .ensures) (c .before .verdict .given .1)
+    let z = c .before .before .before .before .before .before .before .before .before .before in
+    open-examined (settingOf z) (discOf z) _ (c .before .before .before .before .is-lent .ensures) (c .before .before .before .examine .ensures) (c .before .verdict .given .1)
 
 enum-told : tie.Need-enum-told
 enum-told c = search needs
@@ -98,10 +101,13 @@ enum-told c = search needs
 enum-told-2 : tie.Need-enum-told-2
 enum-told-2 c = search needs
 
+same-length-2 : tie.Need-same-length-2
+same-length-2 c = search needs
+
 returns-2 : tie.Need-returns-2
 returns-2 c =
-    let z = c .before .before .before .before .before .before .before .before .before .before .before in
-    open-other (settingOf z) (discOf z) _ (c .before .before .before .before .before .before .lends-table .ensures) (c .before .before .before .before .before .examine .ensures) (c .before .before .before .enum-told .given .1) (c .enum-told2 .given .1)
+    let z = c .before .before .before .before .before .before .before .before .before .before .before .before in
+    open-other (settingOf z) (discOf z) _ (c .before .before .before .before .before .before .is-lent .ensures) (c .before .before .before .before .before .examine .ensures) (c .before .before .before .enum-told .given .1) (c .enum-told2 .given .1)
 
 enum-told-3 : tie.Need-enum-told-3
 enum-told-3 c = search needs
@@ -121,12 +127,15 @@ enum-known-found c = search needs
 entry-count-requires : tie.Need-entry-count-requires
 entry-count-requires c κs = let w = stands c in (w .lent, (w .there, w .icb))
 
+same-length-3 : tie.Need-same-length-3
+same-length-3 c = search needs
+
 returns-3 : tie.Need-returns-3
 returns-3 c =
     let k = c .before .before in
     let b = k .before .before .before .before .before in
-    let z = k .before .before .before .before .before .before .before .before .before .before .before .before .before .before .before .before in
-    open-many (settingOf z) (discOf z) (z .args .table .now) (b .before .before .before .before .before .before .lends-table .ensures) (b .before .before .before .before .before .examine .ensures) (b .before .before .before .enum-told .given .1) (b .enum-told3 .given .1)
+    let z = k .before .before .before .before .before .before .before .before .before .before .before .before .before .before .before .before .before in
+    open-many (settingOf z) (discOf z) (z .args .table .now) (b .before .before .before .before .before .before .is-lent .ensures) (b .before .before .before .before .before .examine .ensures) (b .before .before .before .enum-told .given .1) (b .enum-told3 .given .1)
     (k .before .before .before .before .next-writable .ensures (z .args .disc .now))
     (k .before .before .before .scan .ensures)
     (k .before .found .given .1)
@@ -141,33 +150,36 @@ fill-requires c κs =
     let few = c .before .if1 .left in
     (w .lent, (w .there, (w .icb, (omega arith, ready (k .before .before .before .before .before) .long))))
 
-cast-t26 : tie.Need-cast-t26
-cast-t26 c = search needs
-
-sub-t28 : tie.Need-sub-t28
-sub-t28 c = let below = stands (c .before .before .before .before .before .before) .below in omega arith
+cast-t27 : tie.Need-cast-t27
+cast-t27 c = search needs
 
 sub-t29 : tie.Need-sub-t29
 sub-t29 c = let below = stands (c .before .before .before .before .before .before) .below in omega arith
 
+sub-t30 : tie.Need-sub-t30
+sub-t30 c = let below = stands (c .before .before .before .before .before .before) .below in omega arith
+
+same-length-4 : tie.Need-same-length-4
+same-length-4 c = search needs
+
 returns-4 : tie.Need-returns-4
 returns-4 c =
     let b = c .before .before .before .before in
-    let z = c .before .before .before .before .before .before .before .before .before .before .before .before .before .before .before in
-    open-none (settingOf z) (discOf z) (z .args .table .now) (b .before .before .before .before .before .before .lends-table .ensures) (b .before .before .before .before .before .examine .ensures) (b .before .before .before .enum-told .given .1) (b .enum-told3 .given .1)
+    let z = c .before .before .before .before .before .before .before .before .before .before .before .before .before .before .before .before in
+    open-none (settingOf z) (discOf z) (z .args .table .now) (b .before .before .before .before .before .before .is-lent .ensures) (b .before .before .before .before .before .examine .ensures) (b .before .before .before .enum-told .given .1) (b .enum-told3 .given .1)
     (c .before .before .before .next-writable .ensures (z .args .disc .now))
     (c .before .before .scan .ensures)
     (c .enum-told4 .given .1)
 
-same-length : tie.Need-same-length
-same-length c = search needs
+same-length-5 : tie.Need-same-length-5
+same-length-5 c = search needs
 
 returns-5 : tie.Need-returns-5
 returns-5 c =
     let k = c .before .before .before .before .before .before in
     let b = k .before .before .before .before .before in
-    let z = k .before .before .before .before .before .before .before .before .before .before .before .before .before .before .before .before in
-    open-opened (settingOf z) (discOf z) (z .args .table .now) (b .before .before .before .before .before .before .lends-table .ensures) (b .before .before .before .before .before .examine .ensures) (b .before .before .before .enum-told .given .1) (b .enum-told3 .given .1)
+    let z = k .before .before .before .before .before .before .before .before .before .before .before .before .before .before .before .before .before in
+    open-opened (settingOf z) (discOf z) (z .args .table .now) (b .before .before .before .before .before .before .is-lent .ensures) (b .before .before .before .before .before .examine .ensures) (b .before .before .before .enum-told .given .1) (b .enum-told3 .given .1)
     (k .before .before .before .before .next-writable .ensures (z .args .disc .now))
     (k .before .before .before .scan .ensures)
     (k .before .found .given .1)
@@ -179,12 +191,14 @@ pub open-write-once-spec : {M : Type 1} → statement M
 open-write-once-spec =
     tie.close
     (tie.spec
-    lends-table-requires
+    is-lent-requires
     examine-requires
     enum-known-verdict
+    same-length
     returns
     enum-told
     enum-told-2
+    same-length-2
     returns-2
     enum-told-3
     next-writable-requires
@@ -192,11 +206,13 @@ open-write-once-spec =
     enum-told-4
     enum-known-found
     entry-count-requires
+    same-length-3
     returns-3
     fill-requires
-    cast-t26
-    sub-t28
+    cast-t27
     sub-t29
+    sub-t30
+    same-length-4
     returns-4
-    same-length
+    same-length-5
     returns-5)

@@ -1,0 +1,216 @@
+// What callers use: every call on a disc of either kind (document 01, "Calls and their sector writes").
+// Opening, reading and making are calls of both kinds, told by the map list; the others are for one kind, and
+// refuse the other with line 7. Each promise covers the answer and every lent byte after the call, refusals
+// too. No call has a requires.
+use maps::Kind;
+use model::Cut;
+use model::Given;
+use model::Opened;
+use model::Record;
+use model::Reply;
+use refusal::Verdict;
+use write_once::Measured;
+ghost use mathlib.Core.Path.{_≡_};
+ghost use Prim.Native.Nat.{ℕ};
+ghost use Rattle.model.specs.Disc.{disc as discOf};
+ghost use Rattle.model.specs.Writes.{noCut};
+ghost use Rattle.model.specs.Plan.{Meets};
+ghost use Rattle.model.specs.Examine.{setting, writeOnce};
+ghost use Rattle.model.specs.Once.{savePlan, freePlan, commitPlan};
+ghost use Rattle.model.specs.Rewrite.{saveBlockPlan, savePacketPlan, sparePlan};
+ghost use Rattle.model.specs.Both.{opening, openedTable, reading, readBytes, makeVerdict, made};
+ghost use Rattle.write_once.specs.Calls.{fullnessOf};
+
+// Whether the map list is of a write-once volume. One that is refused counts as such: each half refuses it
+// with the same line.
+fn is_write_once(maps: &[u8]) -> bool
+    ensures { λ r. ⌜ ((s l : ℕ) → r ≡ writeOnce (setting (now (maps .entry)) s l)) ⌝ }
+{
+    let read = maps::read_maps(maps);
+    let volume = read.volume;
+    let kind = volume.kind;
+    match kind {
+        Kind::WriteOnce { partition: _ } => true,
+        Kind::Rewritable {
+            partition: _,
+            tables: _,
+            size: _,
+        } => false,
+    }
+}
+
+// ---- both kinds
+
+// Opens the volume: finds the table on the disc, and fills the lent one with it.
+pub fn open(disc: &[u8], marks: &[u8], maps: &[u8], s: u32, l: u32, table: &mut [u32]) -> Opened
+    ensures { λ r. ⌜ r ≡ opening (setting (now (maps .entry)) s l) (discOf (now (disc .entry)) (now (marks .entry))) (now (table .entry)) ⌝ }
+    ensures { λ _. ⌜ now (table .exit) ≡ openedTable (setting (now (maps .entry)) s l) (discOf (now (disc .entry)) (now (marks .entry))) (now (table .entry)) ⌝ }
+{
+    if is_write_once(maps) {
+        return write_once::open_write_once(disc, marks, maps, s, l, table);
+    }
+    rewritable::open_rewritable(disc, marks, maps, s, l, table)
+}
+
+// Reads block number v into the lent bytes.
+pub fn read(
+    disc: &[u8],
+    marks: &[u8],
+    maps: &[u8],
+    s: u32,
+    l: u32,
+    table: &[u32],
+    held: Record,
+    v: u32,
+    out: &mut [u8],
+) -> Given
+    ensures { λ r. ⌜ r ≡ reading (setting (now (maps .entry)) s l) (discOf (now (disc .entry)) (now (marks .entry))) (now (table .entry)) held v (now (out .entry)) ⌝ }
+    ensures { λ _. ⌜ now (out .exit) ≡ readBytes (setting (now (maps .entry)) s l) (discOf (now (disc .entry)) (now (marks .entry))) (now (table .entry)) held v (now (out .entry)) ⌝ }
+{
+    if is_write_once(maps) {
+        return write_once::read_virtual(disc, marks, maps, s, l, table, held, v, out);
+    }
+    rewritable::read_block(disc, marks, maps, s, l, table, held, v, out)
+}
+
+// Makes the volume: a blank write-once partition gets an empty VAT; a rewritable one gets packets of zeros, the
+// lent list of spares, and tables of sequence 0. The spares are not looked at on a write-once disc.
+pub fn make(
+    disc: &mut [u8],
+    marks: &mut [u8],
+    maps: &[u8],
+    s: u32,
+    l: u32,
+    spares: &[u32],
+) -> Verdict
+    ensures { λ r. ⌜ r ≡ makeVerdict (setting (now (maps .entry)) s l) (discOf (now (disc .entry)) (now (marks .entry))) (now (spares .entry)) ⌝ }
+    ensures { λ _. ⌜ (discOf (now (disc .exit)) (now (marks .exit))) ≡ made (setting (now (maps .entry)) s l) (discOf (now (disc .entry)) (now (marks .entry))) (now (spares .entry)) ⌝ }
+{
+    if is_write_once(maps) {
+        return recording::make_write_once(disc, marks, maps, s, l);
+    }
+    rewriting::make_rewritable(disc, marks, maps, s, l, spares)
+}
+
+// ---- write-once discs
+
+// Saves a block as virtual block v, at NWA.
+pub fn save_virtual(
+    disc: &mut [u8],
+    marks: &mut [u8],
+    maps: &[u8],
+    s: u32,
+    l: u32,
+    table: &mut [u32],
+    held: Record,
+    v: u32,
+    block: &[u8],
+    cut: Cut,
+) -> Reply
+    ensures { λ r. ⌜ Meets (savePlan (setting (now (maps .entry)) s l) (discOf (now (disc .entry)) (now (marks .entry))) (now (table .entry)) held v (now (block .entry))) cut (discOf (now (disc .entry)) (now (marks .entry))) (now (table .entry)) r (discOf (now (disc .exit)) (now (marks .exit))) (now (table .exit)) ⌝ }
+{
+    recording::save_virtual(disc, marks, maps, s, l, table, held, v, block, cut)
+}
+
+// Frees virtual block v: its entry becomes unused. It writes nothing to the disc.
+pub fn free_virtual(
+    disc: &[u8],
+    marks: &[u8],
+    maps: &[u8],
+    s: u32,
+    l: u32,
+    table: &mut [u32],
+    held: Record,
+    v: u32,
+) -> Reply
+    ensures { λ r. ⌜ Meets (freePlan (setting (now (maps .entry)) s l) (discOf (now (disc .entry)) (now (marks .entry))) (now (table .entry)) held v) noCut (discOf (now (disc .entry)) (now (marks .entry))) (now (table .entry)) r (discOf (now (disc .entry)) (now (marks .entry))) (now (table .exit)) ⌝ }
+{
+    write_once::free_virtual(disc, marks, maps, s, l, table, held, v)
+}
+
+// Commits: writes the VAT and its ICB at NWA.
+pub fn commit(
+    disc: &mut [u8],
+    marks: &mut [u8],
+    maps: &[u8],
+    s: u32,
+    l: u32,
+    table: &[u32],
+    held: Record,
+    cut: Cut,
+) -> Reply
+    ensures { λ r. ⌜ Meets (commitPlan (setting (now (maps .entry)) s l) (discOf (now (disc .entry)) (now (marks .entry))) (now (table .entry)) held) cut (discOf (now (disc .entry)) (now (marks .entry))) (now (table .entry)) r (discOf (now (disc .exit)) (now (marks .exit))) (now (table .entry)) ⌝ }
+{
+    recording::commit(disc, marks, maps, s, l, table, held, cut)
+}
+
+// How full the partition is, in per mille.
+pub fn fullness(
+    disc: &[u8],
+    marks: &[u8],
+    maps: &[u8],
+    s: u32,
+    l: u32,
+    table: &[u32],
+    held: Record,
+) -> Measured
+    ensures { λ r. ⌜ r ≡ fullnessOf (setting (now (maps .entry)) s l) (discOf (now (disc .entry)) (now (marks .entry))) (now (table .entry)) held ⌝ }
+{
+    write_once::fullness(disc, marks, maps, s, l, table, held)
+}
+
+// ---- rewritable discs
+
+// Saves a block as block b: its packet is written again with this block replaced.
+pub fn save_block(
+    disc: &mut [u8],
+    marks: &mut [u8],
+    maps: &[u8],
+    s: u32,
+    l: u32,
+    table: &[u32],
+    held: Record,
+    b: u32,
+    block: &[u8],
+    cut: Cut,
+) -> Reply
+    ensures { λ r. ⌜ Meets (saveBlockPlan (setting (now (maps .entry)) s l) (discOf (now (disc .entry)) (now (marks .entry))) (now (table .entry)) held b (now (block .entry))) cut (discOf (now (disc .entry)) (now (marks .entry))) (now (table .entry)) r (discOf (now (disc .exit)) (now (marks .exit))) (now (table .entry)) ⌝ }
+{
+    rewriting::save_block(disc, marks, maps, s, l, table, held, b, block, cut)
+}
+
+// Saves the packet that begins at block b.
+pub fn save_packet(
+    disc: &mut [u8],
+    marks: &mut [u8],
+    maps: &[u8],
+    s: u32,
+    l: u32,
+    table: &[u32],
+    held: Record,
+    b: u32,
+    packet: &[u8],
+    cut: Cut,
+) -> Reply
+    ensures { λ r. ⌜ Meets (savePacketPlan (setting (now (maps .entry)) s l) (discOf (now (disc .entry)) (now (marks .entry))) (now (table .entry)) held b (now (packet .entry))) cut (discOf (now (disc .entry)) (now (marks .entry))) (now (table .entry)) r (discOf (now (disc .exit)) (now (marks .exit))) (now (table .entry)) ⌝ }
+{
+    rewriting::save_packet(disc, marks, maps, s, l, table, held, b, packet, cut)
+}
+
+// Spares the packet that begins at block b: its bytes go to a free spare, and the table to every copy.
+pub fn spare_packet(
+    disc: &mut [u8],
+    marks: &mut [u8],
+    maps: &[u8],
+    s: u32,
+    l: u32,
+    table: &mut [u32],
+    held: Record,
+    b: u32,
+    packet: &[u8],
+    cut: Cut,
+) -> Reply
+    ensures { λ r. ⌜ Meets (sparePlan (setting (now (maps .entry)) s l) (discOf (now (disc .entry)) (now (marks .entry))) (now (table .entry)) held b (now (packet .entry))) cut (discOf (now (disc .entry)) (now (marks .entry))) (now (table .entry)) r (discOf (now (disc .exit)) (now (marks .exit))) (now (table .exit)) ⌝ }
+{
+    rewriting::spare_packet(disc, marks, maps, s, l, table, held, b, packet, cut)
+}

@@ -1,0 +1,20 @@
+-- `current::packet_place` meets its contract. Assumes nothing.
+use borrow.Author.Needs.{needs}
+use Rattle.current.proofs.Held.{place-found}
+use Rattle.current.proofs.packet_place.Statement.{statement}
+use Rattle.current.proofs.packet_place.Tie as tie
+
+entries-held-requires : tie.Need-entries-held-requires
+entries-held-requires c κs = search needs
+
+sub-find-packet : tie.Need-sub-find-packet
+sub-find-packet c = search needs
+
+find-packet-requires : tie.Need-find-packet-requires
+find-packet-requires c κs = search needs
+
+returns : tie.Need-returns
+returns c = place-found _ _ _ (c .before .before .before .args .held) (c .before .entries-held .ensures) (c .find-packet .ensures)
+
+pub packet-place-spec : {M : Type 1} → statement M
+packet-place-spec = tie.close (tie.spec entries-held-requires sub-find-packet find-packet-requires returns)

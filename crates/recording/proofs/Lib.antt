@@ -1,0 +1,3 @@
+pub mod Saving
+pub mod Make
+pub mod Commits

@@ -1,0 +1,4 @@
+pub mod Laws
+pub mod Saves
+pub mod Spares
+pub mod Makes

@@ -1,0 +1,201 @@
+-- Laws of calls as numbers: every list of calls is read back from its numbers and its pool. Assumes nothing.
+use Prim.Native.Nat.{ℕ, zero, suc, _+_, _-_, _<_, _≤_, min}
+use mathlib.Core.Path.{_≡_, refl, sym, ap, ap₂, _∙_}
+use mathlib.Core.Bool.{Bool, true, false}
+use mathlib.Core.List.{List, [], _∷_, _++_, append-assoc}
+use native.Mathlib.Omega.{arith}
+use native.Mathlib.Numerals.{add-one}
+use lib.ListN.{length, getD, take, drop, length-append, length-drop, drop-of-length-le}
+use lib.Seq.{drop-cons, drop-append-seam, take-append-seam, take-all, take-length, take-nil, drop-length}
+use Rattle.fields.specs.Bytes.{part}
+use Rattle.model.specs.declared.Effect.{Effect}
+use Rattle.model.specs.declared.Cut.{Cut}
+use Rattle.model.specs.Calls.{Call, saveVirtual, freeVirtual, commit, saveBlock, savePacket, sparePacket, openDisc}
+use Rattle.model.specs.Store.{cutIn}
+use Rattle.model.specs.Demand.{Below}
+use Rattle.store.specs.Encoded.{effectOf, cutOf, callOf, kindAfter, decode, callAt, effectNumber, kindOf, numberIn, bytesIn, encode, poolOf}
+use Rattle.store.specs.Listed.{mendedCall}
+use Rattle.model.proofs.Basics.{by-lt}
+
+-- ---- the effect and the call of a number
+
+-- any effect but those of 0 and 1
+pub effect-other : (x : ℕ) → (x ≡ 0 → ⊥) → (x ≡ 1 → ⊥) → Effect.Whole ≡ effectOf x
+effect-other zero a b = absurd (a refl)
+effect-other (suc zero) a b = absurd (b refl)
+effect-other (suc (suc k)) a b = refl
+
+-- any kind from 6 on is an opening
+pub call-open : (k n : ℕ) (c : Cut) (b : List ℕ) → 6 ≤ k → callOf k n c b ≡ openDisc
+call-open zero n c b h = absurd (omega arith)
+call-open (suc zero) n c b h = absurd (omega arith)
+call-open (suc (suc zero)) n c b h = absurd (omega arith)
+call-open (suc (suc (suc zero))) n c b h = absurd (omega arith)
+call-open (suc (suc (suc (suc zero)))) n c b h = absurd (omega arith)
+call-open (suc (suc (suc (suc (suc zero))))) n c b h = absurd (omega arith)
+call-open (suc (suc (suc (suc (suc (suc k)))))) n c b h = refl
+
+-- after a cut the kind is that of an opening
+pub call-after : (down : Bool) (k n : ℕ) (c : Cut) (b : List ℕ) → callOf (kindAfter down k) n c b ≡ mendedCall down (callOf k n c b)
+call-after true k n c b = refl
+call-after false k n c b = refl
+
+-- the bytes of a call as they are lent: from the smaller of two numbers on, as many as the pool still has
+pub part-lent : (pool : List ℕ) (f w from count : ℕ) → from ≡ min f (length pool) → count ≡ min w (length pool - from) → take count (drop from pool) ≡ part pool f w
+unfolding part
+part-lent pool f w from count a b =
+    by-lt f (length pool)
+    (λ h.
+    let e : from ≡ f = omega arith in
+    ap (λ (x : ℕ). take count (drop x pool)) e ∙ short (drop f pool) w count (simp length-drop (b ∙ ap (λ (x : ℕ). min w (length pool - x)) e)))
+    (λ h.
+    let e : from ≡ length pool = omega arith in
+    ap (λ (x : ℕ). take count (drop x pool)) e ∙ ap (take count) (drop-length pool) ∙ take-nil count ∙ sym (ap (take w) (drop-of-length-le pool h) ∙ take-nil w))
+  where
+    short : (l : List ℕ) (w n : ℕ) → n ≡ min w (length l) → take n l ≡ take w l
+    short l w n e =
+        by-lt w (length l)
+        (λ h. let q : n ≡ w = omega arith in ap (λ (x : ℕ). take x l) q)
+        (λ h. let q : n ≡ length l = omega arith in ap (λ (x : ℕ). take x l) q ∙ take-length l ∙ sym (take-all w l h))
+
+-- ---- reading on
+
+one-more : (l : List ℕ) (j k : ℕ) → j < length l → k ≡ j + 1 → drop j l ≡ getD l j 0 ∷ drop k l
+one-more l j k h e = drop-cons l j 0 h ∙ ap (λ (x : ℕ). getD l j 0 ∷ drop x l) (sym (e ∙ add-one j))
+
+-- six numbers from `at` on are a call
+pub decode-next : (ns pool : List ℕ) (at : ℕ) → at + 6 ≤ length ns → decode (drop at ns) pool ≡ callAt ns pool at ∷ decode (drop (at + 6) ns) pool
+unfolding decode callAt
+decode-next ns pool at h =
+    ap (λ (x : List ℕ). decode x pool)
+    (one-more ns at (at + 1) (omega arith) refl
+    ∙ ap (λ (x : List ℕ). getD ns at 0 ∷ x)
+    (one-more ns (at + 1) (at + 2) (omega arith) (omega arith)
+    ∙ ap (λ (x : List ℕ). getD ns (at + 1) 0 ∷ x)
+    (one-more ns (at + 2) (at + 3) (omega arith) (omega arith)
+    ∙ ap (λ (x : List ℕ). getD ns (at + 2) 0 ∷ x)
+    (one-more ns (at + 3) (at + 4) (omega arith) (omega arith)
+    ∙ ap (λ (x : List ℕ). getD ns (at + 3) 0 ∷ x)
+    (one-more ns (at + 4) (at + 5) (omega arith) (omega arith)
+    ∙ ap (λ (x : List ℕ). getD ns (at + 4) 0 ∷ x) (one-more ns (at + 5) (at + 6) (omega arith) (omega arith)))))))
+
+few : (l pool : List ℕ) → length l < 6 → decode l pool ≡ []
+unfolding decode
+few [] pool h = refl
+few (a ∷ []) pool h = refl
+few (a ∷ b ∷ []) pool h = refl
+few (a ∷ b ∷ c ∷ []) pool h = refl
+few (a ∷ b ∷ c ∷ d ∷ []) pool h = refl
+few (a ∷ b ∷ c ∷ d ∷ e ∷ []) pool h = refl
+few (a ∷ b ∷ c ∷ d ∷ e ∷ f ∷ l) pool h = absurd (omega arith)
+
+-- fewer are none
+pub decode-end : (ns pool : List ℕ) (at : ℕ) → length ns < at + 6 → decode (drop at ns) pool ≡ []
+decode-end ns pool at h = few (drop at ns) pool (simp length-drop (omega arith))
+
+-- ---- reading back what was written
+
+effect-back : (x : Effect) → effectOf (effectNumber x) ≡ x
+unfolding effectNumber
+effect-back Effect.Old = refl
+effect-back Effect.Unreadable = refl
+effect-back Effect.Whole = refl
+
+cut-back : (c : Cut) → cutOf (c .at) (effectNumber (c .effect)) ≡ c
+cut-back c = ap (λ (x : Effect). record { at = c .at; effect = x }) (effect-back (c .effect))
+
+call-back : (c : Call) → callOf (kindOf c) (numberIn c) (cutOf (cutIn c .at) (effectNumber (cutIn c .effect))) (bytesIn c) ≡ c
+unfolding kindOf numberIn bytesIn cutIn
+call-back (saveVirtual v b c) = ap (saveVirtual v b) (cut-back c)
+call-back (freeVirtual v) = refl
+call-back (commit c) = ap commit (cut-back c)
+call-back (saveBlock n b c) = ap (saveBlock n b) (cut-back c)
+call-back (savePacket n b c) = ap (savePacket n b) (cut-back c)
+call-back (sparePacket n b c) = ap (sparePacket n b) (cut-back c)
+call-back openDisc = refl
+
+part-back : (p b r : List ℕ) → part (p ++ (b ++ r)) (length p) (length b) ≡ b
+unfolding part
+part-back p b r = ap (take (length b)) (drop-append-seam p (b ++ r)) ∙ take-append-seam b r
+
+-- with other bytes before them in the pool
+decode-behind : (p : List ℕ) (cs : List Call) → decode (encode (length p) cs) (p ++ poolOf cs) ≡ cs
+unfolding encode decode poolOf
+decode-behind p [] = refl
+decode-behind p (c ∷ cs) =
+    ap₂ _∷_
+    (ap (callOf (kindOf c) (numberIn c) (cutOf (cutIn c .at) (effectNumber (cutIn c .effect)))) (part-back p (bytesIn c) (poolOf cs))
+    ∙ call-back c)
+    (ap (λ (x : ℕ). decode (encode x cs) (p ++ (bytesIn c ++ poolOf cs))) (sym (length-append p (bytesIn c)))
+    ∙ ap (decode (encode (length (p ++ bytesIn c)) cs)) (sym (append-assoc p (bytesIn c) (poolOf cs)))
+    ∙ decode-behind (p ++ bytesIn c) cs)
+
+-- every list of calls is read back, with any numbers, any cuts and bytes of any length
+pub decode-encode : (cs : List Call) → decode (encode 0 cs) (poolOf cs) ≡ cs
+decode-encode cs = decode-behind [] cs
+
+-- ---- which lists can be lent
+
+below-nil : (n : ℕ) → Below n []
+unfolding Below
+below-nil n i k = absurd (omega arith)
+
+below-cons : (n x : ℕ) (l : List ℕ) → x < n → Below n l → Below n (x ∷ l)
+unfolding Below
+below-cons n x l h b zero k = h
+below-cons n x l h b (suc i) k = b i (omega arith)
+
+-- where a call's numbers are below 2 ^ 32
+pub record Lendable (c : Call) : Type 0 where
+  pub number : numberIn c < 4294967296
+  pub cut : cutIn c .at < 4294967296
+
+kind-low : (c : Call) → kindOf c < 4294967296
+unfolding kindOf
+kind-low (saveVirtual v b c) = omega arith
+kind-low (freeVirtual v) = omega arith
+kind-low (commit c) = omega arith
+kind-low (saveBlock n b c) = omega arith
+kind-low (savePacket n b c) = omega arith
+kind-low (sparePacket n b c) = omega arith
+kind-low openDisc = omega arith
+
+effect-low : (x : Effect) → effectNumber x < 4294967296
+unfolding effectNumber
+effect-low Effect.Old = omega arith
+effect-low Effect.Unreadable = omega arith
+effect-low Effect.Whole = omega arith
+
+-- and the pool is no longer than that, all numbers are below 2 ^ 32, so that such a list can be lent
+pub encode-low : (cs : List Call) (at : ℕ) → ((i : ℕ) → i < length cs → Lendable (getD cs i openDisc)) → at + length (poolOf cs) < 4294967296 → Below 4294967296 (encode at cs)
+unfolding encode poolOf
+encode-low [] at h p = below-nil _
+encode-low (c ∷ cs) at h p =
+    let q : at + (length (bytesIn c) + length (poolOf cs)) < 4294967296 = rw (← (length-append (bytesIn c) (poolOf cs))) p in
+    let a : at < 4294967296 = omega arith in
+    let b : length (bytesIn c) < 4294967296 = omega arith in
+    below-cons _ _ _ (kind-low c)
+    (below-cons _ _ _ (h 0 (omega arith) .number)
+    (below-cons _ _ _ (h 0 (omega arith) .cut)
+    (below-cons _ _ _ (effect-low (cutIn c .effect))
+    (below-cons _ _ _ a
+    (below-cons _ _ _ b
+    (encode-low cs (at + length (bytesIn c)) (λ i k. h (suc i) (omega arith)) (omega arith)))))))
+
+below-head : (n x : ℕ) (l : List ℕ) → Below n (x ∷ l) → x < n
+unfolding Below
+below-head n x l h = h 0 (omega arith)
+
+below-tail : (n x : ℕ) (l : List ℕ) → Below n (x ∷ l) → Below n l
+unfolding Below
+below-tail n x l h i k = h (suc i) (omega arith)
+
+below-append : (n : ℕ) (a b : List ℕ) → Below n a → Below n b → Below n (a ++ b)
+below-append n [] b h k = k
+below-append n (x ∷ a) b h k = below-cons n x (a ++ b) (below-head n x a h) (below-append n a b (below-tail n x a h) k)
+
+-- and where the calls' bytes are bytes, so are the pool's
+pub pool-low : (cs : List Call) → ((i : ℕ) → i < length cs → Below 256 (bytesIn (getD cs i openDisc))) → Below 256 (poolOf cs)
+unfolding poolOf
+pool-low [] h = below-nil 256
+pool-low (c ∷ cs) h = below-append 256 (bytesIn c) (poolOf cs) (h 0 (omega arith)) (pool-low cs (λ i k. h (suc i) (omega arith)))

@@ -1,0 +1,4 @@
+pub mod Encoded
+pub mod Listed
+pub mod Outcome
+pub mod Promise

@@ -1,0 +1,69 @@
+-- What `run` answers and leaves (document 01, "The plain store", second paragraph): it opens the disc, and carries out the calls that it is
+-- lent, each with disc, marks and lent table as the last one left them and the record last handed back.
+use Prim.Native.Nat.{ℕ}
+use mathlib.Core.Path.{_≡_}
+use mathlib.Core.Bool.{false}
+use mathlib.Core.List.{List}
+use Rattle.model.specs.declared.Opened.{Opened}
+use Rattle.model.specs.Disc.{Disc}
+use Rattle.model.specs.Examine.{Setting}
+use Rattle.model.specs.Both.{opening}
+use Rattle.model.specs.Calls.{Call, Answer, State, step, answers, final}
+use Rattle.model.specs.Demand.{afterOpening}
+use Rattle.store.specs.declared.Ran.{Ran}
+use Rattle.store.specs.declared.Answered.{Answered}
+use Rattle.store.specs.Encoded.{decode}
+use Rattle.store.specs.Listed.{mended, told, passedAfter}
+
+-- what is answered, and the lent things that may change
+pub record Outcome : Type 0 where
+  pub result : Ran
+  pub disc : Disc
+  pub table : List ℕ
+  pub replies : List ℕ
+
+-- the outcome of its parts
+abbrev pub outcome : Ran → Disc → List ℕ → List ℕ → Outcome
+outcome r d t replies = record { result = r; disc = d; table = t; replies = replies }
+
+-- what a list of calls comes to from a state on, the last opening before it having passed over so many sectors
+unfoldable pub carriedOut : Setting → State → ℕ → List Call → List ℕ → Outcome
+carriedOut e st passed cs replies =
+    outcome
+    (Ran.Ended (final e st cs .held) (passedAfter (answers e st cs) passed))
+    (final e st cs .disc)
+    (final e st cs .table)
+    (told (answers e st cs) replies)
+
+-- the calls that are carried out of those that are lent
+unfoldable pub listed : Setting → Disc → List ℕ → List ℕ → List ℕ → List Call
+listed e d t numbers pool = mended e (afterOpening e d t) false (decode numbers pool)
+
+-- what they answer
+unfoldable pub answered : Setting → Disc → List ℕ → List ℕ → List ℕ → List Answer
+answered e d t numbers pool = answers e (afterOpening e d t) (listed e d t numbers pool)
+
+-- by the opening: where it is refused nothing lent changes and no call is carried out
+unfoldable pub ranBy : Opened → Setting → Disc → List ℕ → List ℕ → List ℕ → List ℕ → Outcome
+ranBy (Opened.Open held passed) e d t numbers pool replies =
+    carriedOut e (afterOpening e d t) passed (listed e d t numbers pool) replies
+ranBy (Opened.Refused why) e d t numbers pool replies = outcome (Ran.Refused why) d t replies
+
+-- the outcome of a run
+unfoldable pub ran : Setting → Disc → List ℕ → List ℕ → List ℕ → List ℕ → Outcome
+ran e d t numbers pool replies = ranBy (opening e d t) e d t numbers pool replies
+
+-- ---- one call inside the layers
+
+-- the answer of a call as it is told inside the layers
+abbrev pub answerOf : Answered → Answer
+answerOf (Answered.Done r) = Answer.done r
+answerOf Answered.Cut = Answer.cut
+answerOf (Answered.Refused why) = Answer.refused why
+answerOf (Answered.Opened r n) = Answer.opened r n
+
+-- the answer a, the disc d and the table t are those of the call c in the state st
+pub record Stepped (e : Setting) (st : State) (c : Call) (a : Answered) (d : Disc) (t : List ℕ) : Type 0 where
+  pub answer : answerOf a ≡ step e st c .answer
+  pub disc : d ≡ step e st c .state .disc
+  pub table : t ≡ step e st c .state .table
