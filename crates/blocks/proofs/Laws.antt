@@ -8,7 +8,6 @@ use lib.ListN.{replicate}
 use Rattle.refusal.specs.declared.Refusal.the-variants.{OtherKind, Misaligned, StaleRecord, NotRecorded, NotBlank}
 use Rattle.refusal.specs.declared.Verdict.{Verdict}
 use Rattle.refusal.specs.Tests.{Test, test, first, need, andThen}
-use Rattle.maps.specs.declared.Kind.{Kind}
 use Rattle.maps.specs.declared.Kind.the-variants.{WriteOnce, Rewritable}
 use Rattle.maps.specs.declared.MapsRead.{MapsRead}
 use Rattle.maps.specs.Kinds.{readMaps}

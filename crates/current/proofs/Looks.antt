@@ -36,7 +36,7 @@ use Rattle.current.specs.Looked.{lookVerdict, Sees, Judges}
 use Rattle.current.proofs.Laws.{Whole, whole, look-held}
 
 -- a verdict that stops does not let go on
-stop-go : {A : Type 0} {v : Verdict} {why : Refusal} → v ≡ Stop why → v ≡ Go → A
+pub stop-go : {A : Type 0} {v : Verdict} {why : Refusal} → v ≡ Stop why → v ≡ Go → A
 stop-go e f = let z : _≡_ {A = ℕ} 0 1 = cc in absurd (omega arith)
 
 -- ---- looking

@@ -7,10 +7,8 @@ use model::Record;
 use refusal::Refusal;
 use refusal::Verdict;
 ghost use mathlib.Core.Path.{_≡_};
-ghost use Prim.Native.Nat.{ℕ, _+_, _*_, _^_, _≤_, _<_};
-ghost use lib.ListN.{length};
+ghost use Prim.Native.Nat.{_+_, _*_};
 ghost use Rattle.model.specs.Disc.{disc as discOf};
-ghost use Rattle.model.specs.Sparing.{packetOf, locate};
 ghost use Rattle.model.specs.Examine.{setting};
 ghost use Rattle.rewritable.specs.Calls.{openingRewritable, openedRewritable, readingBlock, readBlockBytes};
 

@@ -21,6 +21,7 @@ use Rattle.sparing.specs.declared.Layout.{Layout}
 use Rattle.sparing.specs.Layout.{geometryIn, TablesOn}
 use Rattle.sparing.proofs.Laws.{tables-on}
 use Rattle.current.proofs.Laws.{Common, common, rewritable-own, rewritable-stops, rewritable-goes}
+use Rattle.current.proofs.Looks.{stop-go}
 use Rattle.current.specs.declared.Judged.{Judged}
 use Rattle.rewriting.specs.Parts.{JudgedAs}
 
@@ -73,10 +74,6 @@ laid e d x g most q c =
     }
 
 -- ---- a call that is judged
-
--- a verdict that stops does not let go on
-stop-go : {A : Type 0} {v : Verdict} {why : Refusal} → v ≡ Stop why → v ≡ Go → A
-stop-go e f = let z : _≡_ {A = ℕ} 0 1 = cc in absurd (omega arith)
 
 -- where a line turns it down
 pub judged-stop : {v : Verdict} (e : Setting) (d : Disc) (r : Judged) {why : Refusal} → r .verdict ≡ Stop why → Stop why ≡ v → JudgedAs v e d r

@@ -13,17 +13,12 @@ use Rattle.model.specs.declared.Cut.{Cut}
 use Rattle.model.specs.Calls.{Call, saveVirtual, freeVirtual, commit, saveBlock, savePacket, sparePacket, openDisc}
 use Rattle.model.specs.Store.{cutIn}
 use Rattle.model.specs.Demand.{Below}
-use Rattle.store.specs.Encoded.{effectOf, cutOf, callOf, kindAfter, decode, callAt, effectNumber, kindOf, numberIn, bytesIn, encode, poolOf}
+use Rattle.numbers.specs.Numbers.{effectOf, cutOf}
+use Rattle.store.specs.Encoded.{callOf, kindAfter, decode, callAt, effectNumber, kindOf, numberIn, bytesIn, encode, poolOf}
 use Rattle.store.specs.Listed.{mendedCall}
 use Rattle.model.proofs.Basics.{by-lt}
 
 -- ---- the effect and the call of a number
-
--- any effect but those of 0 and 1
-pub effect-other : (x : ℕ) → (x ≡ 0 → ⊥) → (x ≡ 1 → ⊥) → Effect.Whole ≡ effectOf x
-effect-other zero a b = absurd (a refl)
-effect-other (suc zero) a b = absurd (b refl)
-effect-other (suc (suc k)) a b = refl
 
 -- any kind from 6 on is an opening
 pub call-open : (k n : ℕ) (c : Cut) (b : List ℕ) → 6 ≤ k → callOf k n c b ≡ openDisc

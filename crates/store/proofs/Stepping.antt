@@ -17,7 +17,8 @@ use Rattle.model.specs.Rewrite.{saveBlockPlan, savePacketPlan, sparePlan}
 use Rattle.model.specs.Both.{opening, openedTable}
 use Rattle.model.specs.Calls.{Call, openDisc, State, Result, step, carried, answerOf, answerOfOpening}
 use Rattle.store.specs.declared.Answered.{Answered}
-use Rattle.store.specs.Encoded.{cutOf, callOf, kindAfter, callAt}
+use Rattle.numbers.specs.Numbers.{cutOf}
+use Rattle.store.specs.Encoded.{callOf, kindAfter, callAt}
 use Rattle.store.specs.Listed.{mendedCall}
 use Rattle.store.specs.Outcome.{Stepped, answerOf as answerIs}
 use Rattle.store.proofs.Encoding.{call-open, call-after, part-lent}

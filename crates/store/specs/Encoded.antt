@@ -10,18 +10,9 @@ use Rattle.model.specs.declared.Effect.{Effect}
 use Rattle.model.specs.declared.Cut.{Cut}
 use Rattle.model.specs.Calls.{Call, saveVirtual, freeVirtual, commit, saveBlock, savePacket, sparePacket, openDisc}
 use Rattle.model.specs.Store.{cutIn}
+use Rattle.numbers.specs.Numbers.{cutOf}
 
 -- ---- reading them
-
--- the effect of a number: 0 old, 1 unreadable, any other whole
-abbrev pub effectOf : ℕ → Effect
-effectOf zero = Effect.Old
-effectOf (suc zero) = Effect.Unreadable
-effectOf (suc (suc k)) = Effect.Whole
-
--- the cut at a write with the effect of a number
-abbrev pub cutOf : ℕ → ℕ → Cut
-cutOf at x = record { at = at; effect = effectOf x }
 
 -- the call of a kind: 0 saves a virtual block, 1 frees one, 2 commits, 3 saves a block, 4 saves a packet, 5 spares a packet, any other opens
 abbrev pub callOf : ℕ → ℕ → Cut → List ℕ → Call

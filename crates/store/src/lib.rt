@@ -2,7 +2,6 @@
 // store", second paragraph). `run` opens the disc, hands each call what the last one left, and promises
 // demand 3 of the whole list. It has no requires.
 use model::Cut;
-use model::Effect;
 use model::Opened;
 use model::Record;
 use model::Reply;
@@ -14,7 +13,7 @@ ghost use lib.ListN.{length, set};
 ghost use Rattle.model.specs.Disc.{disc as discOf};
 ghost use Rattle.model.specs.Examine.{setting};
 ghost use Rattle.model.specs.Calls.{isCut, answerOf as replied, answerOfOpening};
-ghost use Rattle.store.specs.Encoded.{effectOf, cutOf, callOf, callAt, kindAfter, decode};
+ghost use Rattle.store.specs.Encoded.{callOf, callAt, kindAfter, decode};
 ghost use Rattle.store.specs.Listed.{mendedCall, mended, numberFor, heldBy, passedBy};
 ghost use Rattle.store.specs.Outcome.{outcome, ran, answerOf, Stepped, carriedOut};
 ghost use Rattle.store.specs.Promise.{stateOf, DemandMet};
@@ -144,29 +143,6 @@ fn answer_of_opening(o: Opened) -> Answered
 }
 
 // ---- a call as numbers
-
-// The effect of a number.
-fn effect_of(x: u32) -> Effect
-    ensures { λ r. ⌜ r ≡ effectOf x ⌝ }
-{
-    if x == 0 {
-        return Effect::Old;
-    }
-    if x == 1 {
-        return Effect::Unreadable;
-    }
-    Effect::Whole
-}
-
-// The cut at a write.
-fn cut_of(at: u32, x: u32) -> Cut
-    ensures { λ r. ⌜ r ≡ cutOf at x ⌝ }
-{
-    Cut {
-        at,
-        effect: effect_of(x),
-    }
-}
 
 // The kind of the call that is carried out: after a cut an opening.
 fn kind_after(down: bool, kind: u32) -> u32
@@ -318,7 +294,7 @@ fn turn(
 {
     let kind = kind_after(down, numbers[at]);
     let number = numbers[at + 1];
-    let cut = cut_of(numbers[at + 2], numbers[at + 3]);
+    let cut = numbers::cut_of(numbers[at + 2], numbers[at + 3]);
     let from = limited(numbers[at + 4], pool.len());
     let count = limited(numbers[at + 5], pool.len() - from);
     let to = from + count;

@@ -1,5 +1,4 @@
 // Translation of addresses: examples a to d of 01, "Proved examples", and the ends of each range.
-use crate::say;
 use address::LogicalAddress;
 use address::MediaBlockAddress;
 use address::Span;

@@ -1,5 +1,4 @@
 // The CRC of ECMA-167, 7.2.6: polynomial 0x1021, start 0, high bit first.
-use crate::say;
 
 fn crc(name: &[u8], bytes: &[u8], start: u16) {
     say::case(b"crc", name);

@@ -1,5 +1,4 @@
 // The map list of each kind of volume, written and read back (01, "The disc and its addresses").
-use crate::say;
 use maps::Kind;
 use maps::Volume;
 use refusal::Verdict;

@@ -5,7 +5,6 @@ mod crcs;
 mod damaged;
 mod lists;
 mod numbers;
-mod say;
 mod tags;
 mod unwritten;
 

@@ -1,5 +1,4 @@
 // Numbers of 2, 4 and 8 bytes, lowest byte first, and regids: written between two bytes, then read.
-use crate::say;
 ghost use Prim.Native.Nat.{_<_};
 
 fn two_bytes(name: &[u8], n: u16) {

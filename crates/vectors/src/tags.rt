@@ -1,6 +1,5 @@
 // Descriptor tags as other systems wrote them, each with the bytes that its CRC covers: the tag
 // identifier, then checksum and CRC as computed.
-use crate::say;
 ghost use Prim.Native.Nat.{_≤_};
 ghost use lib.ListN.{length};
 

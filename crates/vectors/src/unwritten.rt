@@ -1,6 +1,5 @@
 // Map lists that are not written: the verdict's number, and the CRC of the lent bytes, which came as 0xa5.
 use crate::lists;
-use crate::say;
 use maps::Volume;
 
 fn write(name: &[u8], volume: Volume, out: &mut [u8]) {

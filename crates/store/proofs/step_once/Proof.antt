@@ -9,7 +9,7 @@ use borrow.Author.Needs.{needs}
 use Rattle.store.proofs.step_once.Statement.{statement}
 use Rattle.store.proofs.step_once.Tie as tie
 
--- the setting, the state and the bytes of the call
+-- the setting and the state of the call
 abbrev settingOf : tie.Start → Setting
 settingOf z = setting (z .args .maps .now) (z .args .s) (z .args .l)
 

@@ -1,0 +1,689 @@
+"""Writes the file stdin: the cases, as lines. It holds no expectation; it only spells the repetitions out."""
+import sys
+o = []
+p = lambda s="": o.append(s)
+EFFECTS = ("old", "unreadable", "whole")
+
+# the VAT ICB of 004, table 14, as another tool writes it: its first 220 bytes, of which the rest are 0
+ICB = (
+    "0501020049000100185acc00020000000000000004000000010000000000000000003302ffffffff"
+    "ffffffffff7f000001000000000000002c0000000000000000000000000000003c10cc07071f0c1e"
+    "0f0000003c10cc07071f0c1e0f0000003c10cc07071f0c1e0f000000010000000000000000000000"
+    "0000000000000000002a416e6f746865722057726974657200000000000000000000000000000000"
+    "1000000000000000000000002c0000000000000001000000002a554446205669727475616c20416c"
+    "6c6f632054626c005001040000000000ffffffff"
+)
+
+
+def tables():
+    icb = bytes.fromhex(ICB)
+    p("# 004, table 14: the partition starts at sector 257; the VAT ICB is another writer's")
+    p("clear")
+    p("span 257 31")
+    for q, b in ((256, 0x56), (257, 0x57), (258, 0x58)):
+        p("bytes %d" % b)
+        p("put %d 1" % q)
+    p("bytes 0")
+    for i in range(0, 220, 4):
+        n = int.from_bytes(icb[i:i + 4], "little")
+        if n:
+            p("set32 %d %d" % (i, n))
+    p("put 259 1")
+
+    def look():
+        p("fill 7 7 7 7")
+        p("open")
+        p("table")
+        for v in range(4):
+            p("read %d" % v)
+        p("fullness")
+    look()
+    p("# table 15: link blocks, a file of four blocks and its ICB; then the directory saved, and the VAT committed")
+    for q in range(260, 267):
+        p("mark %d 2" % q)
+    for q, b in ((267, 0x67), (268, 0x68), (269, 0x69), (270, 0x70), (271, 0x71)):
+        p("bytes %d" % b)
+        p("put %d 1" % q)
+    look()
+    p("bytes 114")
+    p("save 2")
+    p("bytes 115")
+    p("save 1")
+    p("commit")
+    p("show 274")
+    look()
+
+
+def begin():
+    p("clear")
+    p("make")
+    p("open")
+    p("bytes 17")
+    p("save 0")
+    p("bytes 34")
+    p("save 1")
+
+
+def sizes():
+    p("# N at each side of where d changes: committed, opened again, read; the entries are 0, 1, 2 and unused by turns")
+    for n, d in ((0, 0), (1, 0), (2, 0), (458, 0), (459, 1), (503, 1), (504, 2), (512, 2), (513, 2), (1015, 2), (1016, 3), (4096, 9)):
+        p("# N %d" % n)
+        begin()
+        p("fill 0 1 2 none")
+        p("held %d 3 0" % n)
+        p("commit")
+        for q in range(5, 6 + d):
+            p("show %d" % q)
+        p("fill 7 7 7 7")
+        p("open")
+        p("table")
+        p("read 1")
+        p("read 3")
+        p("read %d" % n)
+        p("fullness")
+
+
+def cuts():
+    def base():
+        begin()
+        p("commit")
+        p("bytes 51")
+        p("save 1")
+
+    def look():
+        p("cut 0 old")
+        p("open")
+        p("read 0")
+        p("read 1")
+        p("commit")
+        p("open")
+
+    p("# power failures in a save")
+    for c, e in ((1, "old"), (1, "unreadable"), (1, "whole"), (2, "unreadable")):
+        base()
+        p("cut %d %s" % (c, e))
+        p("bytes 68")
+        p("save 0")
+        p("table")
+        look()
+    p("# power failures in a commit with d = 2")
+    for c, e in [(c, e) for c in (1, 2, 3) for e in EFFECTS] + [(4, "unreadable")]:
+        base()
+        p("fill none none none none")
+        p("entry 0 1")
+        p("entry 1 4")
+        p("held 504 5 3")
+        p("cut %d %s" % (c, e))
+        p("commit")
+        look()
+
+
+def forged():
+    p("# blocks that might stand for a VAT ICB at logical block 4: line 15 in a save, then recorded there all the same")
+
+    def data(mark=1):
+        p("clear")
+        p("make")
+        p("bytes 0")
+        p("put 3 %d" % mark)
+        p("regid 0")
+        p("set32 32 none")
+        p("put 4 1")
+        p("bytes 0")
+        p("regid 4")
+        p("set32 36 none")
+        p("put 5 1")
+
+    def go():
+        p("held 0 4 0")
+        p("save 0")
+        p("put 6 1")
+        p("open")
+
+    def entry(form, f, a):
+        p("bytes 0")
+        p("set16 20 4")
+        p("set8 34 %d" % form)
+        p("set32 56 %d" % f)
+        p("set32 172 %d" % a)
+
+    def embedded():
+        entry(3, 40, 40)
+        p("set32 176 2")
+        p("regid 180")
+        p("set32 212 none")
+
+    def body(name, at, x):
+        p("# " + name)
+        data()
+        embedded()
+        p("set8 %d %d" % (at, x))
+        p("tagged 4 200")
+        go()
+
+    def head(name, at, x):
+        p("# " + name)
+        data()
+        embedded()
+        p("tagged 4 200")
+        p("set8 %d %d" % (at, x))
+        if at != 4:
+            p("sum")
+        go()
+
+    def covered(n):
+        p("# a CRC of %d bytes" % n)
+        data()
+        embedded()
+        p("tagged 4 %d" % n)
+        go()
+
+    def extents(name, f, a, words, mark=1):
+        p("# " + name)
+        data(mark)
+        entry(0, f, a)
+        for i, x in enumerate(words):
+            p("set32 %d %d" % (176 + 4 * i, x))
+        p("tagged 4 300")
+        go()
+
+    head("a VAT ICB", 7, 0)
+    head("identifier 260", 0, 4)
+    head("version 3", 2, 3)
+    head("another checksum", 4, 0)
+    head("byte 5 not 0", 5, 1)
+    head("a serial number", 6, 1)
+    head("another CRC", 8, 0)
+    head("block 5 in its tag", 12, 5)
+    for n in (159, 160, 2032, 2033):
+        covered(n)
+    body("strategy 5", 20, 5)
+    body("file type 248", 27, 248)
+    body("form 35, of which the low three bits count", 34, 35)
+    body("form 1", 34, 1)
+    body("form 2", 34, 2)
+    body("F not A", 56, 44)
+    body("F over 32 bits", 60, 1)
+    body("E 4", 168, 4)
+    body("E 2,048", 169, 8)
+    body("entry 3", 176, 3)
+    body("entry 4", 176, 4)
+    body("regid flags 1", 180, 1)
+    body("another regid", 181, 0)
+    body("a regid suffix", 204, 1)
+    body("previous ICB 0xfffffffe", 212, 0xfe)
+    extents("two extents", 2084, 16, [2048, 1, 36, 2])
+    extents("extents that overlap", 4132, 24, [2048, 1, 2048, 1, 36, 2])
+    extents("an extent of two blocks", 2084, 8, [2084, 1])
+    extents("an extent that reaches block 4", 2084, 8, [2084, 3])
+    extents("an extent at 0xffffffff", 36, 8, [36, 0xffffffff])
+    extents("no extent", 0, 0, [])
+    extents("a zero length in the middle", 2084, 24, [2048, 1, 0, 0, 36, 2])
+    extents("a zero length, then others", 2084, 32, [2048, 1, 36, 2, 0, 0, 7, 9])
+    extents("an upper bit of a length", 2084, 16, [2048, 1, 0x40000024, 2])
+    extents("an upper bit of a zero length", 2084, 24, [2048, 1, 36, 2, 0x80000000, 0])
+    extents("a part of a block in the middle", 2084, 16, [2044, 1, 40, 3])
+    extents("F over the sum", 2088, 16, [2048, 1, 36, 2])
+    extents("A 20", 2084, 20, [2048, 1, 36, 2])
+    extents("an unreadable block in an extent", 2084, 16, [2048, 1, 36, 2], 2)
+    extents("a blank block in an extent", 2084, 16, [2048, 1, 36, 2], 0)
+    extents("N 4,096", 16420, 72, [2048, 1] * 8 + [36, 2])
+    extents("N 4,097: line 9", 16424, 72, [2048, 1] * 8 + [40, 3])
+    p("# line 15 is tested before line 16")
+    extents("two extents, L 4", 2084, 16, [2048, 1, 36, 2])
+    o.pop()
+    o.pop()
+    o.pop()
+    p("span 2 4")
+    p("save 0")
+
+
+def rooms():
+    p("# line 16: saved where NWA is L - 2, not where it is L - 1; committed there")
+    p("clear")
+    p("span 2 5")
+    p("make")
+    p("open")
+    for v in (0, 1, 2, 3, 0):
+        p("bytes %d" % (17 + v))
+        p("save %d" % v)
+    p("commit")
+    p("save 0")
+    p("commit")
+    p("fullness")
+    p("# 01, example j: L 9, N 2, replacing")
+    p("clear")
+    p("span 2 9")
+    p("make")
+    p("open")
+    for i, v in enumerate((0, 1, 0, 0, 0, 0, 0, 0)):
+        p("bytes %d" % (17 + i))
+        p("save %d" % v)
+    p("commit")
+
+    def start(l, n):
+        p("# L %d, N %d, NWA 2" % (l, n))
+        p("clear")
+        p("span 2 %d" % l)
+        p("make")
+        p("bytes 17")
+        p("put 3 1")
+        p("fill none none none none")
+        p("held %d 2 0" % n)
+
+    def save(l, n, v):
+        start(l, n)
+        p("save %s" % v)
+        p("commit")
+
+    def commit(l, n):
+        start(l, n)
+        p("commit")
+
+    p("# line 16, d for the N after a save")
+    for l, n, v in ((3, 458, 457), (4, 458, 457), (4, 458, 458), (5, 458, 458), (5, 503, 503), (6, 503, 503)):
+        save(l, n, v)
+    for l, n in ((3, 459), (4, 459), (11, 4096), (12, 4096)):
+        commit(l, n)
+    p("# line 12 of a save")
+    for n, v in ((3, 2), (3, 3), (3, 4), (3, "none"), (4095, 4095), (4096, 4095), (4096, 4096)):
+        save(20, n, v)
+    p("# lines 12, 13 and 14 of reading and freeing: entries 1, unused, 2 (unreadable), 3 (blank)")
+    start(20, 4)
+    p("mark 4 2")
+    p("mark 6 1")
+    p("entry 0 1")
+    p("entry 2 2")
+    p("entry 3 3")
+    p("held 4 5 0")
+    for v in ("0", "1", "2", "3", "4", "none"):
+        p("read " + v)
+    for v in (4, 1, 2, 2):
+        p("free %d" % v)
+    p("read 2")
+    p("table")
+    p("# 01, example l: NWA 3, L 64")
+    start(64, 0)
+    p("mark 4 2")
+    p("held 0 3 0")
+    p("fullness")
+
+
+def refused():
+    def start():
+        p("clear")
+        p("make")
+        p("bytes 17")
+        p("put 3 1")
+        p("entry 0 1")
+        p("held 1 2 0")
+        p("commit")
+
+    def every(make=True):
+        for c in ("read 0", "fullness", "free 0", "save 0", "commit"):
+            p(c)
+        if make:
+            p("open")
+            p("make")
+
+    def case(name, *lines):
+        p("# " + name)
+        start()
+        for c in lines:
+            p(c)
+        every()
+
+    ALL = (4390912, 2144, 4096, 70, 2048, 65536)
+
+    def lend(disc=4390912, marks=2144, table=4096, list=70, block=2048, packet=65536):
+        return "lend %d %d %d %d %d %d" % (disc, marks, table, list, block, packet)
+
+    case("line 1: a byte short", lend(disc=4390911))
+    case("line 1: a mark short", lend(marks=2143))
+    case("line 1: no sectors", lend(disc=0, marks=0))
+    case("line 1: a mark of 3", "mark 2143 3")
+    case("line 1 before line 2", "mark 2143 3", "span 2 0")
+    case("line 2: L 0", "span 2 0")
+    case("line 2: S + L one too many", "span 2 2143")
+    case("line 2: S at the end", "span 2144 1")
+    case("line 2: S + L over 32 bits", "span 4294967295 4294967295")
+    case("line 2 before line 3", "span 2 0", lend(table=4095))
+    case("line 3: 4,095 entries", lend(table=4095))
+    case("line 3: a block of 2,047 bytes", lend(block=2047))
+    case("line 3: a block of 2,049 bytes", lend(block=2049))
+    case("line 3 before line 4", lend(table=4095, list=69))
+    case("line 4: a map cut short", lend(list=69))
+    case("line 4: a map of length 0", "list 7 0")
+    case("line 5: no map", lend(list=0))
+    case("line 5: one map", lend(list=6))
+    case("line 5: two partition numbers", "list 44 8")
+    case("line 6: rewritable, S 2", "rewritable 1 2048 64", "span 2 32")
+    case("line 6: rewritable, the table in the partition", "rewritable 1 2048 64", "span 64 32")
+    case("line 7: rewritable", "rewritable 1 2048 64", "span 96 32")
+
+    def record(name, *lines):
+        p("# line 11: " + name)
+        start()
+        for c in lines:
+            p(c)
+        every(False)
+
+    record("NWA 2", "held 1 2 0")
+    record("NWA 4", "held 1 4 2")
+    record("the last ICB at NWA", "held 1 3 3")
+    record("no last ICB", "held 1 3 none")
+    record("N 4,097", "held 4097 3 2")
+    record("an entry at NWA", "entry 0 3")
+    record("an entry 0xfffffffe", "entry 0 4294967294")
+    record("a record of the other kind", "kept 1 0")
+    p("# an entry one below NWA")
+    start()
+    p("entry 0 2")
+    p("read 0")
+    p("# line 8: a blank disc")
+    p("clear")
+    p("held 1 3 2")
+    every()
+    p("open")
+    p("# line 8: an unreadable VAT ICB")
+    p("clear")
+    p("make")
+    p("mark 2 2")
+    p("open")
+    p("# line 21: sectors outside and inside the partition")
+    for q, m in ((1, 1), (2, 1), (2, 2), (21, 1), (21, 2), (22, 2)):
+        p("clear")
+        p("mark %d %d" % (q, m))
+        p("make")
+
+
+def volume(T, spares="192 224 256", size=2048):
+    p("clear")
+    p("span 64 64")
+    p("rewritable %d %d 0 32 128 160" % (T, size))
+    p(("make " + spares).strip())
+    p("open")
+
+
+def packet(b, byte):
+    p("blocks %d" % byte)
+    p("packet %d" % b)
+
+
+def spare(b, byte):
+    p("blocks %d" % byte)
+    p("spare %d" % b)
+
+
+def change(b, byte):
+    p("bytes %d" % byte)
+    p("change %d" % b)
+
+
+def reads(*bs):
+    for b in bs:
+        p("read %s" % b)
+
+
+def copies():
+    for q in (0, 32, 128, 160):
+        p("show %d" % q)
+
+
+def spared():
+    p("# 01, example k: entries (64, 2,048), two free at 2,080 and 2,112; sparing 32")
+    p("clear")
+    p("span 512 96")
+    p("rewritable 2 2048 0 32")
+    p("make 2048 2080 2112")
+    p("fill 7 7 7 7")
+    p("open")
+    p("numbers 7")
+    spare(64, 16)
+    p("numbers 7")
+    spare(32, 48)
+    p("numbers 7")
+    reads(32, 63, 64, 95, 31)
+    for q in (2048, 2079, 2080, 2111, 2112):
+        p("show %d" % q)
+    p("# 01, example i: S 512, L 64, 32 mapped to 1,024")
+    p("clear")
+    p("span 512 64")
+    p("rewritable 2 2048 0 32")
+    p("make 1024")
+    p("open")
+    packet(0, 0)
+    spare(32, 32)
+    reads(31, 63, 64)
+    for q in (543, 1055):
+        p("show %d" % q)
+    for T in (2, 4):
+        p("# %d tables: made, saved, spared twice" % T)
+        volume(T)
+        p("numbers 6")
+        copies()
+        reads(0)
+        change(5, 85)
+        reads(4, 5)
+        change(63, 102)
+        reads(63)
+        packet(32, 128)
+        reads(31, 32, 63)
+        spare(32, 64)
+        p("numbers 6")
+        copies()
+        reads(32)
+        change(33, 119)
+        reads(33, 63)
+        p("show 97")
+        p("show 193")
+        p("open")
+        spare(0, 32)
+        p("numbers 6")
+        p("fill 7 7 7 7")
+        p("open")
+        p("numbers 7")
+        reads(0, 31, 32, 33)
+    for T in (2, 3, 4):
+        p("# %d tables: power failures in a sparing; then opened, the other packet spared" % T)
+        for c, e in [(c, e) for c in [1, 32] + list(range(33, 33 + T)) for e in EFFECTS] + [(33 + T, "unreadable")]:
+            volume(T)
+            packet(32, 128)
+            p("cut %d %s" % (c, e))
+            spare(32, 64)
+            p("cut 0 old")
+            p("open")
+            reads(32, 63)
+            spare(0, 32)
+            p("open")
+            reads(0, 32)
+    p("# two sparings in a row: the first leaves a new copy, an unreadable one and an old one; the second writes the new one last")
+    for c, e in [(c, e) for c in (33, 34, 35) for e in EFFECTS]:
+        volume(3)
+        p("cut 34 unreadable")
+        spare(32, 64)
+        p("open")
+        p("cut %d %s" % (c, e))
+        spare(0, 32)
+        copies()
+        p("cut 0 old")
+        p("open")
+        p("numbers 6")
+        reads(0, 32)
+
+    def heal():
+        p("cut 0 old")
+        p("open")
+        reads(5, 7)
+        change(5, 102)
+        packet(0, 32)
+        reads(5, 7)
+
+    p("# power failures in the save of a block, and the packet healed")
+    CS = [(c, e) for c in (6, 8) for e in EFFECTS] + [(1, "unreadable"), (32, "unreadable"), (33, "unreadable")]
+    for c, e in CS:
+        volume(2)
+        packet(0, 128)
+        p("cut %d %s" % (c, e))
+        change(5, 85)
+        heal()
+    p("# power failures in the save of a packet")
+    for c, e in CS:
+        volume(2)
+        packet(0, 128)
+        p("cut %d %s" % (c, e))
+        packet(0, 64)
+        heal()
+    p("# and of a packet that is spared")
+    volume(2)
+    spare(0, 128)
+    p("cut 8 unreadable")
+    change(5, 85)
+    heal()
+
+
+def turned():
+    def every(make="make 192 224 256"):
+        for c in ("read 0", "change 0", "packet 0", "spare 0", "open", make):
+            p(c)
+
+    def case(name, *lines):
+        p("# " + name)
+        volume(2)
+        for c in lines:
+            p(c)
+        every()
+
+    def lend(disc=4390912, marks=2144, table=4096, list=64, block=2048, packet=65536):
+        return "lend %d %d %d %d %d %d" % (disc, marks, table, list, block, packet)
+
+    case("rewritable, line 1: a byte short", lend(disc=4390911))
+    case("line 1: a mark of 3", "mark 2143 3")
+    case("line 2: L 0", "span 64 0")
+    case("line 2: S + L one too many", "span 64 2081")
+    case("line 3: 4,095 entries", lend(table=4095))
+    case("line 3: a block of 2,047 bytes, a packet of 65,535", lend(block=2047, packet=65535))
+    case("line 3: a block of 2,049 bytes, a packet of 65,537", lend(block=2049, packet=65537))
+    case("line 4: the map cut short", lend(list=63))
+    case("line 5: no map", lend(list=0))
+    case("line 5: packet length 16", "list 40 16")
+    case("line 5: no tables", "list 42 0")
+    case("line 5: 5 tables", "list 42 5")
+    case("line 5: tables of 55 bytes", "list 44 55", "list 45 0")
+    case("line 5: tables of 2,049 bytes", "list 44 1")
+    case("line 6: S 65", "span 65 64")
+    case("line 6: L 63", "span 64 63")
+    case("line 6: a table at 33", "list 52 33")
+    case("line 6: a table twice", "list 52 0")
+    case("line 6: a table in the partition's first packet", "list 52 64")
+    case("line 6: a table in the partition's last packet", "list 52 96")
+    case("a table behind the partition", "list 52 128")
+    case("line 6: a table off the disc", "list 52 96", "list 53 8")
+    case("a table in the disc's last packet", "list 52 64", "list 53 8")
+    case("line 7: write-once", "once")
+    case("line 8: no copy recorded", "mark 0 0", "mark 32 2")
+    case("line 10: copies that differ", "poke 32 60 224", "poke 32 68 192")
+    case("line 10: a copy with one entry fewer", "poke 32 48 2")
+    case("copies that differ in their sequence too", "poke 32 60 224", "poke 32 68 192", "poke 32 52 1", "open")
+    case("line 11: R 2", "kept 2 0")
+    case("line 11: R 4", "kept 4 0")
+    case("line 11: sequence 1", "kept 3 1")
+    case("line 11: an original", "entry 4 0")
+    case("line 11: a mapped", "entry 5 224")
+    case("a number behind the entries", "entry 6 0")
+    case("line 11: a record of the other kind", "held 3 0 0")
+    p("# line 12")
+    volume(2)
+    for c in ("read 63", "read 64", "read none", "change 63", "change 64", "packet 31", "packet 32", "packet 64",
+              "packet 4294967264", "spare 1", "spare 64", "spare 32"):
+        p(c)
+    p("# line 14")
+    for m in (0, 2):
+        volume(2)
+        packet(0, 128)
+        p("mark 69 %d" % m)
+        for c in ("read 4", "read 5", "change 4", "read 4", "change 5", "read 5", "change 4"):
+            p(c)
+    p("# line 17: one table only")
+    volume(1)
+    spare(32, 64)
+    change(32, 85)
+    reads(32)
+    p("# line 18 before line 19, and line 19")
+    volume(2, "192")
+    spare(32, 64)
+    spare(32, 96)
+    spare(0, 96)
+    reads(32, 0)
+    p("# line 19: no spares at all")
+    volume(2, "")
+    spare(0, 96)
+    change(0, 85)
+    reads(0)
+    p("# line 20: sequences at the end, compared without wrap")
+    volume(2)
+    p("poke 0 52 4294967294")
+    p("open")
+    spare(32, 64)
+    p("open")
+    spare(0, 96)
+    change(0, 85)
+    p("open")
+    reads(0, 32)
+    copies()
+    p("# spares that break the copy rule (line 6), and others that don't")
+    for s in ("64", "96", "0", "32", "128", "200", "192 192", "192 224 256 288", "2112", "2144", "4294967264", "2048 2080 2112 128"):
+        volume(2, s)
+    p("# room for so many spares in a table")
+    for size, s in ((56, ""), (56, "192"), (63, "192"), (64, "192"), (71, "192 224"), (72, "192 224")):
+        volume(2, s, size)
+
+
+def counting():
+    p("# what makes a copy count: the one at sector 0 has sequence 5, the other one sequence 0")
+    for name, lines in (
+            ("as it is", []),
+            ("byte 0", ["poke 0 0 1"]),
+            ("byte 1", ["poke 0 0 256"]),
+            ("byte 2 is not looked at", ["poke 0 0 65536"]),
+            ("byte 15 is not looked at", ["poke 0 12 16777216"]),
+            ("regid flags", ["poke 0 16 %d" % int.from_bytes(b"\x01*OS", "little")]),
+            ("regid identifier", ["poke 0 16 %d" % int.from_bytes(b"\x00*OT", "little")]),
+            ("regid suffix is not looked at", ["poke 0 40 1"]),
+            ("R 0", ["poke 0 48 0"]),
+            ("R 2", ["poke 0 48 2"]),
+            ("R 3 and byte 50", ["poke 0 48 65539"]),
+            ("R 4, the last used", ["poke 0 48 4"]),
+            ("R 4, the last free", ["poke 0 48 4", "poke 0 80 none", "poke 0 84 128"]),
+            ("R 250", ["poke 0 48 250"]),
+            ("original 0", ["poke 0 56 0"]),
+            ("original 16", ["poke 0 56 16"]),
+            ("original 32", ["poke 0 56 32"]),
+            ("original 64", ["poke 0 56 64"]),
+            ("originals 0 and 32", ["poke 0 56 0", "poke 0 64 32"]),
+            ("originals 32 and 0", ["poke 0 56 32", "poke 0 64 0"]),
+            ("originals 32 and 32", ["poke 0 56 32", "poke 0 64 32"]),
+            ("a used entry behind a free one", ["poke 0 64 0"]),
+            ("mapped 200", ["poke 0 60 200"]),
+            ("mapped 224 twice", ["poke 0 60 224"]),
+            ("mapped 64, in the partition", ["poke 0 60 64"]),
+            ("mapped 96, in the partition", ["poke 0 60 96"]),
+            ("mapped 128, behind the partition", ["poke 0 60 128"]),
+            ("mapped 32, a table's packet", ["poke 0 60 32"]),
+            ("mapped 2,112, the last packet", ["poke 0 60 2112"]),
+            ("mapped 2,144, off the disc", ["poke 0 60 2144"]),
+            ("mapped 4,294,967,264", ["poke 0 60 4294967264"]),
+            ("unreadable", ["mark 0 2"]),
+            ("blank", ["mark 0 0"])):
+        p("# " + name)
+        volume(2)
+        p("poke 0 52 5")
+        for c in lines:
+            p(c)
+        p("open")
+
+
+if __name__ == "__main__":
+    for name in sys.argv[1:] or ["tables", "sizes", "cuts", "forged", "rooms", "refused", "spared", "turned", "counting"]:
+        globals()[name]()
+    sys.stdout.write("\n".join(o) + "\n")

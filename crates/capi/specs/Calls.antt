@@ -1,0 +1,76 @@
+-- What C sees of the calls on a disc (document 01, "Calls and their sector writes"): the number that each returns and every lent thing after
+-- it, by the definitions of the calls themselves. C lends the record as five numbers; one of another length belongs to line 3, and so does
+-- a result of another length than stated.
+use Prim.Native.Nat.{ℕ}
+use mathlib.Core.Path.{_≡_}
+use mathlib.Core.Bool.{Bool, cond, _&&_}
+use mathlib.Core.List.{List, [], _∷_}
+use lib.ListN.{length}
+use lib.Dec.{eqb}
+use Rattle.refusal.specs.Number.{numberOf}
+use Rattle.model.specs.declared.Cut.{Cut}
+use Rattle.model.specs.declared.Opened.{Opened}
+use Rattle.model.specs.declared.Given.{Given}
+use Rattle.model.specs.Disc.{Disc}
+use Rattle.model.specs.Examine.{Setting}
+use Rattle.model.specs.Plan.{Plan, refuse, replyOf, discAfter, tableAfter}
+use Rattle.model.specs.Both.{opening, openedTable, reading, readBytes}
+use Rattle.write_once.specs.declared.Measured.{Measured}
+use Rattle.write_once.specs.Calls.{fullnessOf}
+use Rattle.numbers.specs.Numbers.{recordOf, recordAfter, replyNumber, lengthRefusal}
+
+-- whether a lent record has its length
+abbrev pub isRecord : List ℕ → Bool
+isRecord k = eqb (length k) 5
+
+-- ---- the writing calls
+
+-- the plan of a call that is lent the record k
+unfoldable pub lentPlan : Setting → Disc → List ℕ → Plan → Plan
+lentPlan e d k p = cond (isRecord k) p (refuse (lengthRefusal e d))
+
+-- what C sees, the number n, the disc d, the table t and the record k, are those of the plan p under the cut c, from d₀, t₀ and k₀
+pub record Seen (p : Plan) (c : Cut) (d₀ : Disc) (t₀ k₀ : List ℕ) (n : ℕ) (d : Disc) (t k : List ℕ) : Type 0 where
+  pub number : n ≡ replyNumber (replyOf p c)
+  pub disc : d ≡ discAfter p c d₀
+  pub table : t ≡ tableAfter p c t₀
+  pub kept : k ≡ recordAfter (replyOf p c) k₀
+
+-- ---- opening
+
+-- what opening answers that is lent the table t and the record k
+unfoldable pub lentOpening : Setting → Disc → List ℕ → List ℕ → Opened
+lentOpening e d t k = cond (isRecord k) (opening e d t) (Opened.Refused (lengthRefusal e d))
+
+-- the table after it
+unfoldable pub lentOpenedTable : Setting → Disc → List ℕ → List ℕ → List ℕ
+lentOpenedTable e d t k = cond (isRecord k) (openedTable e d t) t
+
+-- ---- reading
+
+-- what reading answers that is lent the table t, the record k and `out`
+unfoldable pub lentReading : Setting → Disc → List ℕ → List ℕ → ℕ → List ℕ → Given
+lentReading e d t k v out = cond (isRecord k) (reading e d t (recordOf k) v out) (Given.Refused (lengthRefusal e d))
+
+-- the lent bytes after it
+unfoldable pub lentReadBytes : Setting → Disc → List ℕ → List ℕ → ℕ → List ℕ → List ℕ
+lentReadBytes e d t k v out = cond (isRecord k) (readBytes e d t (recordOf k) v out) out
+
+-- ---- fullness: one number
+
+-- the number of its answer
+abbrev pub measuredNumber : Measured → ℕ
+measuredNumber (Measured.PerMille n) = 0
+measuredNumber (Measured.Refused why) = numberOf why
+
+-- the lent result after it
+abbrev pub measuredAfter : Measured → List ℕ → List ℕ
+measuredAfter (Measured.PerMille n) result = n ∷ []
+measuredAfter (Measured.Refused why) result = result
+
+-- what fullness answers that is lent the table t, the record k and the result
+unfoldable pub lentFullness : Setting → Disc → List ℕ → List ℕ → List ℕ → Measured
+lentFullness e d t k result =
+    cond (isRecord k && eqb (length result) 1)
+    (fullnessOf e d t (recordOf k))
+    (Measured.Refused (lengthRefusal e d))

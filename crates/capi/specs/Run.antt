@@ -1,0 +1,36 @@
+-- What C sees of a list of calls (document 01, "The plain store", second paragraph): the number that is returned, what its own opening answers,
+-- and every lent thing after it. C lends the record as five numbers; one of another length belongs to line 3.
+use Prim.Native.Nat.{ℕ}
+use mathlib.Core.Path.{_≡_}
+use mathlib.Core.Bool.{cond}
+use mathlib.Core.List.{List}
+use Rattle.refusal.specs.Number.{numberOf}
+use Rattle.model.specs.Disc.{Disc}
+use Rattle.model.specs.Examine.{Setting}
+use Rattle.store.specs.declared.Ran.{Ran}
+use Rattle.store.specs.Outcome.{Outcome, outcome, ran}
+use Rattle.numbers.specs.Numbers.{numbersOf, lengthRefusal}
+use Rattle.capi.specs.Calls.{isRecord}
+
+-- the number of its answer
+abbrev pub ranNumber : Ran → ℕ
+ranNumber (Ran.Ended held passed) = 0
+ranNumber (Ran.Refused why) = numberOf why
+
+-- the lent record after it: the record in force, with passed over of the last opening that was accepted
+abbrev pub ranRecord : Ran → List ℕ → List ℕ
+ranRecord (Ran.Ended held passed) k = numbersOf held passed
+ranRecord (Ran.Refused why) k = k
+
+-- the outcome of a run that is lent the table t, the record k, calls as numbers with a pool of bytes, and a place for replies
+unfoldable pub lentRan : Setting → Disc → List ℕ → List ℕ → List ℕ → List ℕ → List ℕ → Outcome
+lentRan e d t k calls pool replies =
+    cond (isRecord k) (ran e d t calls pool replies) (outcome (Ran.Refused (lengthRefusal e d)) d t replies)
+
+-- what C sees, the number n, the disc d, the table t, the replies told and the record k, which came as k₀, are those of the outcome o
+pub record SeenRun (o : Outcome) (k₀ : List ℕ) (n : ℕ) (d : Disc) (t told k : List ℕ) : Type 0 where
+  pub number : n ≡ ranNumber (o .result)
+  pub disc : d ≡ o .disc
+  pub table : t ≡ o .table
+  pub replies : told ≡ o .replies
+  pub kept : k ≡ ranRecord (o .result) k₀

@@ -1,0 +1,335 @@
+/*
+ * tuormik.h - the block layer of CD UDF discs, for C and C++.
+ *
+ * The numbers and words are those of document 01, "The CD UDF block layer"; "line n" is line n of its section "Why a call is turned
+ * down".
+ *
+ * Lent to most calls:
+ *   disc     2,048 bytes a sector
+ *   marks    one byte a sector: 0 blank, 1 recorded, 2 unreadable
+ *   maps     the map list of the logical volume descriptor, which tells the kind of the volume
+ *   s, l     the partition's first sector S and its number of sectors L
+ *   table    at least 4,096 numbers: the entries of the VAT, or original and mapped by turns of the sparing table
+ *   record   5 numbers, as below
+ *
+ * A slice is a pointer and the number of its elements. A slice through a pointer to const is never written.
+ *
+ * What no callee can examine, and the caller answers for: every pointer is not null, also where the length is 0; it is aligned for its
+ * type and has as many elements behind it as the length says; and no two lent slices of one call overlap where one of them may be
+ * written.
+ *
+ * Every call returns a number: 0 (TUORMIK_DONE), a refusal (the line of 01, 1 to 21), or 255 (TUORMIK_CUT) where the power failed in it.
+ * Refusals are tested in the order of their numbers. On a refusal nothing lent has changed. Every call returns, whatever it is lent.
+ */
+#ifndef TUORMIK_H
+#define TUORMIK_H
+
+#include <stddef.h>
+#include <stdint.h>
+
+#ifdef __cplusplus
+extern "C" {
+#endif
+
+/* ---- answers */
+
+#define TUORMIK_DONE 0u
+
+/* Disc bytes are not 2,048 times the marks, sectors exceed 1,048,576 or are none, or a mark exceeds 2. */
+#define TUORMIK_DISC_SHAPE 1u
+/* L is 0 or S + L exceeds the sectors. */
+#define TUORMIK_SPAN_OUTSIDE 2u
+/* The lent table has under 4,096 entries, or a block, packet, map list to be written, record or result has the wrong length. */
+#define TUORMIK_LENT_LENGTH 3u
+/* A map is cut short, or of length 0. */
+#define TUORMIK_MAP_CUT 4u
+/* The map list, read or to be written, is neither kind. */
+#define TUORMIK_NEITHER_KIND 5u
+/* Rewritable: S, L or a table sector is not a multiple of 32, a table's packet is off the disc, in the partition or named twice, or
+   spares to be made break the copy rule. */
+#define TUORMIK_MISALIGNED 6u
+/* The call is for the other kind. */
+#define TUORMIK_OTHER_KIND 7u
+/* No VAT ICB or counting copy exists; a lent VAT file is none. */
+#define TUORMIK_NO_TABLE 8u
+/* The VAT has over 4,096 entries. */
+#define TUORMIK_TOO_MANY_ENTRIES 9u
+/* Current copies of the sparing table differ in entries. */
+#define TUORMIK_COPIES_DIFFER 10u
+/* The record does not go with the disc and the lent table. */
+#define TUORMIK_STALE_RECORD 11u
+/* The block number is outside, or a packet start is not a multiple of 32 below L. */
+#define TUORMIK_NUMBER_OUTSIDE 12u
+/* The entry to be read or freed is unused. */
+#define TUORMIK_UNUSED_ENTRY 13u
+/* A sector to be read is not recorded. */
+#define TUORMIK_NOT_RECORDED 14u
+/* The block would pass as a VAT ICB at NWA. */
+#define TUORMIK_PASSES_AS_ICB 15u
+/* The partition has no room for this and a commit after it. */
+#define TUORMIK_NO_ROOM 16u
+/* Sparing with one table only. */
+#define TUORMIK_ONE_TABLE 17u
+/* The packet is already spared. */
+#define TUORMIK_ALREADY_SPARED 18u
+/* No entry is free. */
+#define TUORMIK_NO_SPARE 19u
+/* The sequence is 0xffffffff. */
+#define TUORMIK_LAST_SEQUENCE 20u
+/* A write-once partition to be made is not blank. */
+#define TUORMIK_NOT_BLANK 21u
+
+/* The power failed in the call: record and table are left as they came, and the next call is an opening. */
+#define TUORMIK_CUT 255u
+
+/* ---- marks, kinds, cuts and sizes */
+
+#define TUORMIK_BLANK 0u
+#define TUORMIK_RECORDED 1u
+#define TUORMIK_UNREADABLE 2u
+
+#define TUORMIK_WRITE_ONCE 0u
+#define TUORMIK_REWRITABLE 1u
+
+/* cut_at is the number of the sector write at which the power fails, counted from 1; 0, or a number past the call's last write, is no
+   cut. Writes before it are done and later ones are not made; cut_effect says what becomes of that write itself: */
+#define TUORMIK_OLD 0u          /* the sector is as it was */
+#define TUORMIK_SPOILT 1u       /* its mark is 2, its bytes are as they were */
+#define TUORMIK_WHOLE 2u        /* it is written (any other number too) */
+
+#define TUORMIK_SECTOR 2048u      /* bytes of a sector and of a block */
+#define TUORMIK_PACKET 32u        /* sectors of a packet */
+#define TUORMIK_PACKET_BYTES 65536u
+#define TUORMIK_TABLE_LENGTH 4096u /* places that a lent table has at least */
+#define TUORMIK_NONE 0xffffffffu  /* an unused entry; no previous ICB; a free spare */
+
+/* ---- the record: TUORMIK_RECORD_LENGTH numbers, filled by an opening and kept up by the calls after it */
+
+#define TUORMIK_RECORD_LENGTH 5u
+#define TUORMIK_RECORD_KIND 0   /* 0 write-once, 1 rewritable; any other number is a record that line 11 refuses */
+#define TUORMIK_RECORD_COUNT 1  /* N, or R */
+#define TUORMIK_RECORD_NEXT 2   /* NWA, or the sequence */
+#define TUORMIK_RECORD_LAST 3   /* the last ICB's logical block; 0 on rewritable discs */
+#define TUORMIK_RECORD_PASSED 4 /* how many sectors the opening passed over; set by an opening, else kept */
+
+/* ---- both kinds */
+
+/*
+ * Opens the disc. Write-once: goes down from the last sector of the partition that is not blank to the first VAT ICB. Rewritable: takes
+ * the current sparing table.
+ * Leaves: the table filled from its start, places beyond kept; the record. The disc is only read.
+ * Refuses: 1 to 6, 8, 9 (write-once), 10 (rewritable).
+ */
+uint32_t tuormik_open(const uint8_t *disc, size_t disc_length,
+                      const uint8_t *marks, size_t marks_length,
+                      const uint8_t *maps, size_t maps_length,
+                      uint32_t s, uint32_t l,
+                      uint32_t *table, size_t table_length,
+                      uint32_t *record, size_t record_length);
+
+/*
+ * Reads a block: virtual block `number` of a write-once disc, logical block `number` of a rewritable one.
+ * Leaves: its 2,048 bytes in out, whose length is 2,048.
+ * Refuses: 1 to 6, 8 and 10 (rewritable), 11, 12, 13 (write-once), 14.
+ */
+uint32_t tuormik_read(const uint8_t *disc, size_t disc_length,
+                      const uint8_t *marks, size_t marks_length,
+                      const uint8_t *maps, size_t maps_length,
+                      uint32_t s, uint32_t l,
+                      const uint32_t *table, size_t table_length,
+                      const uint32_t *record, size_t record_length,
+                      uint32_t number,
+                      uint8_t *out, size_t out_length);
+
+/*
+ * Makes a disc: a blank write-once partition gets an empty VAT (1 sector); a rewritable one gets packets of zeros, the free spares whose
+ * packets begin at the sectors `spares`, and tables of sequence 0. On a write-once disc the spares are not looked at. It hands back no
+ * record: open the disc after it.
+ * Leaves: disc and marks written.
+ * Refuses: 1, 2, 4, 5, 6 (rewritable), 21 (write-once).
+ */
+uint32_t tuormik_make(uint8_t *disc, size_t disc_length,
+                      uint8_t *marks, size_t marks_length,
+                      const uint8_t *maps, size_t maps_length,
+                      uint32_t s, uint32_t l,
+                      const uint32_t *spares, size_t spares_length);
+
+/* ---- write-once */
+
+/*
+ * Saves 2,048 bytes as virtual block v, which is at most N; v = N adds a block. One sector write, at NWA. What is saved is found after
+ * an opening only if a commit came between.
+ * Leaves: disc and marks written; entry v of the table is the block's place; the record.
+ * Refuses: 1 to 7, 11, 12, 15, 16.
+ */
+uint32_t tuormik_save_virtual(uint8_t *disc, size_t disc_length,
+                              uint8_t *marks, size_t marks_length,
+                              const uint8_t *maps, size_t maps_length,
+                              uint32_t s, uint32_t l,
+                              uint32_t *table, size_t table_length,
+                              uint32_t *record, size_t record_length,
+                              uint32_t v,
+                              const uint8_t *block, size_t block_length,
+                              uint32_t cut_at, uint32_t cut_effect);
+
+/*
+ * Frees virtual block v. No sector write.
+ * Leaves: entry v of the table is TUORMIK_NONE.
+ * Refuses: 1 to 7, 11, 12, 13.
+ */
+uint32_t tuormik_free_virtual(const uint8_t *disc, size_t disc_length,
+                              const uint8_t *marks, size_t marks_length,
+                              const uint8_t *maps, size_t maps_length,
+                              uint32_t s, uint32_t l,
+                              uint32_t *table, size_t table_length,
+                              uint32_t *record, size_t record_length,
+                              uint32_t v);
+
+/*
+ * Commits the table: the VAT's data sectors upward from NWA, if it is not embedded, then its ICB.
+ * Leaves: disc and marks written; the record. The table is only read.
+ * Refuses: 1 to 7, 11, 16.
+ */
+uint32_t tuormik_commit(uint8_t *disc, size_t disc_length,
+                        uint8_t *marks, size_t marks_length,
+                        const uint8_t *maps, size_t maps_length,
+                        uint32_t s, uint32_t l,
+                        const uint32_t *table, size_t table_length,
+                        uint32_t *record, size_t record_length,
+                        uint32_t cut_at, uint32_t cut_effect);
+
+/*
+ * Tells how full a write-once disc is: 1,000 times NWA / L, rounded down.
+ * Leaves: that number in result, whose length is 1.
+ * Refuses: 1 to 7, 11.
+ */
+uint32_t tuormik_fullness(const uint8_t *disc, size_t disc_length,
+                          const uint8_t *marks, size_t marks_length,
+                          const uint8_t *maps, size_t maps_length,
+                          uint32_t s, uint32_t l,
+                          const uint32_t *table, size_t table_length,
+                          const uint32_t *record, size_t record_length,
+                          uint32_t *result, size_t result_length);
+
+/* ---- rewritable */
+
+/*
+ * Saves 2,048 bytes as logical block b: its packet is read, the block replaced, and 32 sectors are written upward.
+ * Leaves: disc and marks written; the record. The table is only read.
+ * Refuses: 1 to 8, 10 to 12, 14 where another sector of the packet is not recorded.
+ */
+uint32_t tuormik_save_block(uint8_t *disc, size_t disc_length,
+                            uint8_t *marks, size_t marks_length,
+                            const uint8_t *maps, size_t maps_length,
+                            uint32_t s, uint32_t l,
+                            const uint32_t *table, size_t table_length,
+                            uint32_t *record, size_t record_length,
+                            uint32_t b,
+                            const uint8_t *block, size_t block_length,
+                            uint32_t cut_at, uint32_t cut_effect);
+
+/*
+ * Saves 65,536 bytes as the packet that begins at logical block b: 32 sectors are written upward. Nothing is read, so that a packet with
+ * unreadable sectors is healed by it.
+ * Leaves: disc and marks written; the record. The table is only read.
+ * Refuses: 1 to 8, 10 to 12.
+ */
+uint32_t tuormik_save_packet(uint8_t *disc, size_t disc_length,
+                             uint8_t *marks, size_t marks_length,
+                             const uint8_t *maps, size_t maps_length,
+                             uint32_t s, uint32_t l,
+                             const uint32_t *table, size_t table_length,
+                             uint32_t *record, size_t record_length,
+                             uint32_t b,
+                             const uint8_t *packet, size_t packet_length,
+                             uint32_t cut_at, uint32_t cut_effect);
+
+/*
+ * Spares the packet that begins at logical block b: 65,536 bytes are written upward to the free spare of lowest index, then the new
+ * table, of sequence plus 1, to every copy: those that were not current first, then the others, each in map order.
+ * Leaves: disc and marks written; the new table in the lent one, places beyond kept; the record.
+ * Refuses: 1 to 8, 10 to 12, 17 to 20.
+ */
+uint32_t tuormik_spare_packet(uint8_t *disc, size_t disc_length,
+                              uint8_t *marks, size_t marks_length,
+                              const uint8_t *maps, size_t maps_length,
+                              uint32_t s, uint32_t l,
+                              uint32_t *table, size_t table_length,
+                              uint32_t *record, size_t record_length,
+                              uint32_t b,
+                              const uint8_t *packet, size_t packet_length,
+                              uint32_t cut_at, uint32_t cut_effect);
+
+/* ---- map lists and VAT files */
+
+#define TUORMIK_MAPS_RESULT_LENGTH 8u
+
+/*
+ * Reads a map list.
+ * Leaves: in result, whose length is 8: kind, partition number, number of tables, bytes of each table, and four table sectors (0 where
+ * there is none; of a write-once volume all but the first two are 0).
+ * Refuses: 3, 4, 5, and 6 where a table sector is not a multiple of 32 or is named twice.
+ */
+uint32_t tuormik_read_maps(const uint8_t *maps, size_t maps_length,
+                           uint32_t *result, size_t result_length);
+
+#define TUORMIK_WRITE_ONCE_MAPS_LENGTH 70u
+#define TUORMIK_REWRITABLE_MAPS_LENGTH 64u
+
+/*
+ * Writes a map list: kind 0 write-once, 1 rewritable with the table sectors `tables`. For a write-once volume table_bytes and tables are
+ * not looked at.
+ * Leaves: the list in out, whose length is 70 (write-once) or 64 (rewritable).
+ * Refuses: 3; 5 where the kind is above 1 (whatever the length of out), there are not 1 to 4 tables or table_bytes is not 56 to 2,048; 6
+ * where a table sector is not a multiple of 32 or is named twice.
+ */
+uint32_t tuormik_write_maps(uint32_t kind, uint16_t partition, uint32_t table_bytes,
+                            const uint32_t *tables, size_t tables_length,
+                            uint8_t *out, size_t out_length);
+
+/*
+ * Looks up virtual block v in the bytes of a VAT file.
+ * Leaves: the logical block in result, whose length is 1.
+ * Refuses: 3, 8 where the file breaks the rule of its length or its regid, 9, 12, 13.
+ */
+uint32_t tuormik_look_up(const uint8_t *file, size_t file_length,
+                         uint32_t v,
+                         uint32_t *result, size_t result_length);
+
+/* ---- lists of calls */
+
+#define TUORMIK_CALL_LENGTH 6u
+
+#define TUORMIK_CALL_SAVE_VIRTUAL 0u
+#define TUORMIK_CALL_FREE_VIRTUAL 1u
+#define TUORMIK_CALL_COMMIT 2u
+#define TUORMIK_CALL_SAVE_BLOCK 3u
+#define TUORMIK_CALL_SAVE_PACKET 4u
+#define TUORMIK_CALL_SPARE_PACKET 5u
+#define TUORMIK_CALL_OPEN 6u /* any other number too */
+
+/*
+ * Opens the disc and carries out a list of calls on it.
+ * A call is 6 numbers: kind (as above), number (v or b), cut_at, cut_effect, from, count. Its block or packet is the part of `bytes` that
+ * begins at `from` and is `count` bytes long, as far as `bytes` reaches. A call does not look at what it has no use for. Fewer than 6
+ * numbers left over are no call. After a cut the next call is taken as an opening, whatever it is.
+ * Replies are one number a call, from the start of `replies`: 0, a refusal, or 255. Those that do not fit are not written, while the
+ * calls still run; places beyond the last call are kept.
+ * Leaves: disc, marks and table as the last call left them; the record in force, with passed over of the last opening that was accepted.
+ * Returns: what its own opening answers (0, or 1 to 6, 8 to 10). Where that is a refusal no call is carried out.
+ */
+uint32_t tuormik_run(uint8_t *disc, size_t disc_length,
+                     uint8_t *marks, size_t marks_length,
+                     const uint8_t *maps, size_t maps_length,
+                     uint32_t s, uint32_t l,
+                     uint32_t *table, size_t table_length,
+                     uint32_t *record, size_t record_length,
+                     const uint32_t *calls, size_t calls_length,
+                     const uint8_t *bytes, size_t bytes_length,
+                     uint32_t *replies, size_t replies_length);
+
+#ifdef __cplusplus
+}
+#endif
+
+#endif

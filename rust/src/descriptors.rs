@@ -1,0 +1,193 @@
+//! The volume descriptors of an image (ECMA-167, part 3), as far as they tell a volume's map list, S and L. They are no part of document
+//! 01: what they say is handed to its calls, which examine it.
+
+use crate::{plain, read_maps, Maps, SECTOR};
+
+/// The map list, S and L of a volume.
+#[derive(Clone, Debug, PartialEq, Eq)]
+pub struct Volume {
+    pub maps: Vec<u8>,
+    pub start: u32,
+    pub length: u32,
+}
+
+const ANCHOR: u16 = 2;
+const PARTITION: u16 = 5;
+const LOGICAL_VOLUME: u16 = 6;
+const TERMINATOR: u16 = 8;
+
+const PRIMARY_EXTENT_AT: usize = 16;
+const RESERVE_EXTENT_AT: usize = 24;
+/// of the two descriptors below: which of several prevails
+const SEQUENCE_AT: usize = 16;
+const PARTITION_NUMBER_AT: usize = 22;
+const PARTITION_START_AT: usize = 188;
+const PARTITION_LENGTH_AT: usize = 192;
+const BLOCK_SIZE_AT: usize = 212;
+const MAP_LENGTH_AT: usize = 264;
+const MAP_COUNT_AT: usize = 268;
+const MAPS_AT: usize = 440;
+
+/// Sectors of a volume descriptor sequence that are looked at.
+const MOST_DESCRIPTORS: usize = 1024;
+
+fn u16_at(b: &[u8], at: usize) -> u16 {
+    u16::from_le_bytes([b[at], b[at + 1]])
+}
+
+fn u32_at(b: &[u8], at: usize) -> u32 {
+    u32::from_le_bytes([b[at], b[at + 1], b[at + 2], b[at + 3]])
+}
+
+fn sector(image: &[u8], at: usize) -> Option<&[u8]> {
+    image.get(SECTOR.checked_mul(at)?..)?.get(..SECTOR)
+}
+
+/// The identifier of a descriptor's tag, if checksum, CRC and location are right.
+fn identifier(descriptor: &[u8], at: usize) -> Option<u16> {
+    let sum = descriptor[..16].iter().fold(0u8, |sum, &b| sum.wrapping_add(b)).wrapping_sub(descriptor[4]);
+    let covered = descriptor.get(16..16 + usize::from(u16_at(descriptor, 10)))?;
+    let fits = sum == descriptor[4] && u32_at(descriptor, 12) as usize == at && plain::crc(covered) == u16_at(descriptor, 8);
+    fits.then(|| u16_at(descriptor, 0))
+}
+
+/// Where an anchor may stand on a disc of n sectors.
+fn anchor_places(sectors: usize) -> impl Iterator<Item = usize> {
+    [Some(256), Some(512), sectors.checked_sub(256)].into_iter().flatten()
+}
+
+/// The volume that an image's descriptors tell; where they tell none, why.
+pub fn find_volume(image: &[u8]) -> Result<Volume, String> {
+    let mut why = "no anchor volume descriptor pointer stands at sector 256, 512 or n - 256".to_string();
+    for at in anchor_places(image.len() / SECTOR) {
+        let Some(anchor) = sector(image, at).filter(|a| identifier(a, at) == Some(ANCHOR)) else {
+            continue;
+        };
+        for extent in [PRIMARY_EXTENT_AT, RESERVE_EXTENT_AT] {
+            let count = u32_at(anchor, extent) as usize / SECTOR;
+            match read_sequence(image, u32_at(anchor, extent + 4) as usize, count) {
+                Ok(volume) => return Ok(volume),
+                Err(words) => why = words,
+            }
+        }
+    }
+    Err(why)
+}
+
+/// The volume that a volume descriptor sequence tells.
+fn read_sequence(image: &[u8], from: usize, count: usize) -> Result<Volume, String> {
+    let mut logical: Option<&[u8]> = None;
+    let mut partitions: Vec<&[u8]> = Vec::new();
+    let prevails = |new: &[u8], old: &[u8]| u32_at(new, SEQUENCE_AT) >= u32_at(old, SEQUENCE_AT);
+    for at in from..from.saturating_add(count.min(MOST_DESCRIPTORS)) {
+        let Some(descriptor) = sector(image, at) else {
+            break;
+        };
+        match identifier(descriptor, at) {
+            Some(PARTITION) => {
+                let number = u16_at(descriptor, PARTITION_NUMBER_AT);
+                match partitions.iter_mut().find(|p| u16_at(p, PARTITION_NUMBER_AT) == number) {
+                    Some(old) if prevails(descriptor, old) => *old = descriptor,
+                    Some(_) => {}
+                    None => partitions.push(descriptor),
+                }
+            }
+            Some(LOGICAL_VOLUME) if logical.is_none_or(|old| prevails(descriptor, old)) => logical = Some(descriptor),
+            Some(TERMINATOR) => break,
+            _ => {}
+        }
+    }
+    let logical = logical.ok_or("the volume descriptor sequence has no logical volume descriptor")?;
+    if u32_at(logical, BLOCK_SIZE_AT) as usize != SECTOR {
+        return Err(format!("the logical volume has blocks of {} bytes, not 2,048", u32_at(logical, BLOCK_SIZE_AT)));
+    }
+    let length = u32_at(logical, MAP_LENGTH_AT) as usize;
+    let maps = logical[MAPS_AT..].get(..length).ok_or("the map list does not fit its logical volume descriptor")?;
+    // a list of neither kind still names a partition, for the calls to turn it down by
+    let number = match read_maps(maps) {
+        Ok(Maps::WriteOnce { partition } | Maps::Rewritable { partition, .. }) => Some(partition),
+        Err(_) => None,
+    };
+    let named = partitions.iter().find(|p| number.is_none_or(|n| u16_at(p, PARTITION_NUMBER_AT) == n));
+    let partition = named.ok_or("the volume descriptor sequence has no descriptor of the partition that the map list names")?;
+    Ok(Volume { maps: maps.to_vec(), start: u32_at(partition, PARTITION_START_AT), length: u32_at(partition, PARTITION_LENGTH_AT) })
+}
+
+/// Where [`write_volume`] puts the descriptors: an anchor, and a sequence of three.
+const ANCHOR_PLACE: usize = 256;
+const SEQUENCE_PLACE: usize = 257;
+/// One past the last sector that [`write_volume`] writes.
+pub const DESCRIPTORS_END: usize = 260;
+
+/// Descriptors that tell a volume, in the sectors from 256 to 259: enough for [`find_volume`], not for a file system.
+pub fn write_volume(volume: &Volume, partition: u16) -> Option<Vec<(usize, [u8; SECTOR])>> {
+    let mut anchor = [0; SECTOR];
+    for extent in [PRIMARY_EXTENT_AT, RESERVE_EXTENT_AT] {
+        put(&mut anchor, extent, &(3 * SECTOR as u32).to_le_bytes());
+        put(&mut anchor, extent + 4, &(SEQUENCE_PLACE as u32).to_le_bytes());
+    }
+    let mut part = [0; SECTOR];
+    put(&mut part, PARTITION_NUMBER_AT, &partition.to_le_bytes());
+    put(&mut part, PARTITION_START_AT, &volume.start.to_le_bytes());
+    put(&mut part, PARTITION_LENGTH_AT, &volume.length.to_le_bytes());
+    let mut logical = [0; SECTOR];
+    put(&mut logical, BLOCK_SIZE_AT, &(SECTOR as u32).to_le_bytes());
+    put(&mut logical, MAP_LENGTH_AT, &(volume.maps.len() as u32).to_le_bytes());
+    let count = if volume.maps.len() > 64 { 2u32 } else { 1 };
+    put(&mut logical, MAP_COUNT_AT, &count.to_le_bytes());
+    logical[MAPS_AT..].get_mut(..volume.maps.len())?.copy_from_slice(&volume.maps);
+    let sectors = [(ANCHOR, anchor), (PARTITION, part), (LOGICAL_VOLUME, logical), (TERMINATOR, [0; SECTOR])];
+    Some(
+        sectors
+            .into_iter()
+            .enumerate()
+            .map(|(i, (identifier, mut sector))| {
+                put_tag(&mut sector, identifier, ANCHOR_PLACE + i);
+                (ANCHOR_PLACE + i, sector)
+            })
+            .collect(),
+    )
+}
+
+fn put(b: &mut [u8], at: usize, bytes: &[u8]) {
+    b[at..at + bytes.len()].copy_from_slice(bytes);
+}
+
+fn put_tag(sector: &mut [u8; SECTOR], identifier: u16, at: usize) {
+    const COVERED: usize = 496;
+    put(sector, 0, &identifier.to_le_bytes());
+    sector[2] = 2;
+    let crc = plain::crc(&sector[16..16 + COVERED]);
+    put(sector, 8, &crc.to_le_bytes());
+    put(sector, 10, &(COVERED as u16).to_le_bytes());
+    put(sector, 12, &(at as u32).to_le_bytes());
+    sector[4] = sector[..16].iter().fold(0u8, |sum, &b| sum.wrapping_add(b));
+}
+
+#[cfg(test)]
+mod tests {
+    use super::*;
+    use crate::write_maps;
+
+    #[test]
+    fn written_descriptors_are_found() {
+        let maps = write_maps(&Maps::WriteOnce { partition: 7 }).expect("a map list");
+        let volume = Volume { maps, start: 288, length: 100 };
+        let mut image = vec![0; 400 * SECTOR];
+        assert!(find_volume(&image).is_err());
+        for (at, bytes) in write_volume(&volume, 7).expect("descriptors") {
+            put(&mut image, SECTOR * at, &bytes);
+        }
+        assert_eq!(find_volume(&image), Ok(volume));
+        // a damaged anchor is none
+        image[SECTOR * 256 + 20] ^= 1;
+        assert!(find_volume(&image).is_err());
+    }
+
+    #[test]
+    fn no_image_is_too_short() {
+        for n in [0, 1, 2047, 2048, 256 * SECTOR, 256 * SECTOR + 1, 257 * SECTOR] {
+            assert!(find_volume(&vec![0; n]).is_err());
+        }
+    }
+}

@@ -1,0 +1,136 @@
+//! The proved block layer of CD UDF discs, from Rust.
+//!
+//! [`Disc`] is a lent disc, [`Open`] an open one: its calls are those of document 01, "The CD UDF block layer", with types for record,
+//! cut and refusal. [`calls`] has the same calls over plain slices and numbers, as they stand in `include/tuormik.h`. [`plain`] is a
+//! second implementation of document 01, to hold the first against.
+//!
+//! ```
+//! use tuormik::{write_maps, Cut, Disc, Maps};
+//!
+//! let maps = write_maps(&Maps::WriteOnce { partition: 0 })?;
+//! let (mut bytes, mut marks) = (vec![0; 2048 * 100], vec![0; 100]);
+//! let mut disc = Disc { bytes: &mut bytes, marks: &mut marks, maps: &maps, start: 0, length: 100 };
+//! disc.make(&[])?;
+//! let mut open = disc.open()?;
+//! open.save_virtual(0, &[7; 2048], Cut::NONE)?;
+//! open.commit(Cut::NONE)?;
+//! assert_eq!(open.read(0)?, [7; 2048]);
+//! # Ok::<(), tuormik::Error>(())
+//! ```
+
+pub mod calls;
+pub mod compare;
+pub mod descriptors;
+mod ffi;
+pub mod layer;
+mod marks;
+mod open;
+pub mod plain;
+mod refusal;
+#[cfg(feature = "stand-in")]
+pub mod stand_in;
+
+pub use marks::marks_by_rule;
+pub use open::{look_up, read_maps, write_maps, Call, Disc, Maps, Open, Ran};
+pub use refusal::{Error, Refusal};
+
+/// Bytes of a sector, and of a block.
+pub const SECTOR: usize = 2048;
+/// Sectors of a packet.
+pub const PACKET: usize = 32;
+/// Bytes of a packet.
+pub const PACKET_BYTES: usize = PACKET * SECTOR;
+/// The most sectors a disc can have.
+pub const MOST_SECTORS: usize = 1 << 20;
+/// The most entries a VAT can have, and the places of a lent table.
+pub const MOST_ENTRIES: usize = 4096;
+/// An unused entry; a free spare; no previous ICB.
+pub const NONE: u32 = u32::MAX;
+
+/// The mark of a blank sector.
+pub const BLANK: u8 = 0;
+/// The mark of a recorded sector.
+pub const RECORDED: u8 = 1;
+/// The mark of an unreadable sector.
+pub const UNREADABLE: u8 = 2;
+
+/// What an opening hands back, and each accepted call after it.
+#[derive(Clone, Copy, Debug, PartialEq, Eq)]
+pub struct Record {
+    pub held: Held,
+    /// How many sectors the opening passed over.
+    pub passed_over: u32,
+}
+
+/// What a record holds of a disc of each kind.
+#[derive(Clone, Copy, Debug, PartialEq, Eq)]
+pub enum Held {
+    /// N, NWA and the last ICB's logical block.
+    WriteOnce { entries: u32, next: u32, last: u32 },
+    /// R and the sequence.
+    Rewritable { entries: u32, sequence: u32 },
+}
+
+impl Record {
+    /// The record as the five numbers of the C interface.
+    pub fn numbers(self) -> [u32; 5] {
+        match self.held {
+            Held::WriteOnce { entries, next, last } => [0, entries, next, last, self.passed_over],
+            Held::Rewritable { entries, sequence } => [1, entries, sequence, 0, self.passed_over],
+        }
+    }
+
+    /// The record of five numbers; those of no kind are taken as a rewritable disc's.
+    pub fn from_numbers(numbers: [u32; 5]) -> Record {
+        let [kind, entries, next, last, passed_over] = numbers;
+        let held = match kind {
+            0 => Held::WriteOnce { entries, next, last },
+            _ => Held::Rewritable { entries, sequence: next },
+        };
+        Record { held, passed_over }
+    }
+
+    /// N or R.
+    pub fn entries(self) -> u32 {
+        match self.held {
+            Held::WriteOnce { entries, .. } | Held::Rewritable { entries, .. } => entries,
+        }
+    }
+}
+
+/// What becomes of the sector write at which the power fails.
+#[derive(Clone, Copy, Debug, PartialEq, Eq)]
+pub enum Effect {
+    /// The sector is as it was.
+    Old,
+    /// The sector is unreadable; its bytes are as they were.
+    Unreadable,
+    /// The sector is written.
+    Whole,
+}
+
+/// The sector write at which the power fails in a call, counted from 1; 0, or a number past the last write, is no cut.
+#[derive(Clone, Copy, Debug, PartialEq, Eq)]
+pub struct Cut {
+    pub at: u32,
+    pub effect: Effect,
+}
+
+impl Cut {
+    /// The power stays on.
+    pub const NONE: Cut = Cut { at: 0, effect: Effect::Old };
+
+    /// The power fails at a write.
+    pub const fn at(at: u32, effect: Effect) -> Cut {
+        Cut { at, effect }
+    }
+
+    fn numbers(self) -> (u32, u32) {
+        let effect = match self.effect {
+            Effect::Old => 0,
+            Effect::Unreadable => 1,
+            Effect::Whole => 2,
+        };
+        (self.at, effect)
+    }
+}

@@ -1,0 +1,170 @@
+//! The words of a command line.
+
+use super::Failure;
+use std::ffi::OsString;
+use std::path::{Path, PathBuf};
+use tuormik::descriptors::{find_volume, Volume};
+use tuormik::{read_maps, write_maps, Cut, Effect, Maps};
+
+/// A command's words: those in their places, and the options.
+#[derive(Default)]
+pub struct Args {
+    words: Vec<OsString>,
+    next: usize,
+    options: Vec<(String, Option<OsString>)>,
+}
+
+/// Options that take no value.
+const FLAGS: [&str; 9] = ["--help", "--hex", "--no-commit", "--packet", "--all", "--write-once", "--zeros", "--force", "--no-descriptors"];
+/// Options that take one.
+const VALUES: [&str; 11] =
+    ["--marks", "--start", "--length", "--maps", "--tables", "--table-bytes", "--partition", "--spares", "--sectors", "--cut", "--output"];
+
+fn usage(words: String) -> Failure {
+    Failure::Usage(words)
+}
+
+impl Args {
+    pub fn new(words: impl Iterator<Item = OsString>) -> Result<Args, Failure> {
+        let mut args = Args::default();
+        let mut words = words;
+        let mut only_words = false;
+        while let Some(word) = words.next() {
+            let name = word.to_string_lossy().into_owned();
+            if only_words || !name.starts_with('-') || name == "-" {
+                args.words.push(word);
+            } else if name == "--" {
+                only_words = true;
+            } else if name == "-h" || FLAGS.contains(&name.as_str()) {
+                args.options.push((if name == "-h" { "--help".into() } else { name }, None));
+            } else if let Some((option, value)) = name.split_once('=').filter(|(option, _)| VALUES.contains(option)) {
+                args.options.push((option.to_string(), Some(value.into())));
+            } else if name == "-o" || VALUES.contains(&name.as_str()) {
+                let value = words.next().ok_or_else(|| usage(format!("{name} needs a value")))?;
+                args.options.push((if name == "-o" { "--output".into() } else { name }, Some(value)));
+            } else {
+                return Err(usage(format!("there is no option {name}")));
+            }
+        }
+        Ok(args)
+    }
+
+    pub fn has(&self, flag: &str) -> bool {
+        self.options.iter().any(|(name, _)| name == flag)
+    }
+
+    fn value(&self, option: &str) -> Option<&OsString> {
+        self.options.iter().rev().find(|(name, _)| name == option).and_then(|(_, value)| value.as_ref())
+    }
+
+    pub fn path(&self, option: &str) -> Option<&Path> {
+        self.value(option).map(Path::new)
+    }
+
+    /// The options given must be among those that a command knows.
+    pub fn only(&self, known: &[&str]) -> Result<(), Failure> {
+        match self.options.iter().find(|(name, _)| name != "--help" && !known.contains(&name.as_str())) {
+            Some((name, _)) => Err(usage(format!("this command has no option {name}"))),
+            None => Ok(()),
+        }
+    }
+
+    pub fn number(&self, option: &str) -> Result<Option<u32>, Failure> {
+        self.value(option).map(|word| number(&word.to_string_lossy(), option)).transpose()
+    }
+
+    /// Numbers with commas between them.
+    pub fn numbers(&self, option: &str) -> Result<Option<Vec<u32>>, Failure> {
+        let Some(words) = self.value(option) else {
+            return Ok(None);
+        };
+        let words = words.to_string_lossy();
+        let words = words.split(',').filter(|word| !word.is_empty());
+        words.map(|word| number(word, option)).collect::<Result<_, _>>().map(Some)
+    }
+
+    pub fn next_word(&mut self) -> Option<OsString> {
+        let word = self.words.get(self.next)?.clone();
+        self.next += 1;
+        Some(word)
+    }
+
+    pub fn next_path(&mut self, what: &str) -> Result<PathBuf, Failure> {
+        self.next_word().map(PathBuf::from).ok_or_else(|| usage(format!("{what} is missing")))
+    }
+
+    pub fn next_number(&mut self, what: &str) -> Result<u32, Failure> {
+        let word = self.next_word().ok_or_else(|| usage(format!("{what} is missing")))?;
+        number(&word.to_string_lossy(), what)
+    }
+
+    pub fn end(&self) -> Result<(), Failure> {
+        match self.words.get(self.next) {
+            Some(word) => Err(usage(format!("{} is a word too many", word.to_string_lossy()))),
+            None => Ok(()),
+        }
+    }
+
+    /// Where the power is to fail: `WRITE:old`, `WRITE:unreadable` or `WRITE:whole`.
+    pub fn cut(&self) -> Result<Cut, Failure> {
+        let Some(word) = self.value("--cut") else {
+            return Ok(Cut::NONE);
+        };
+        let word = word.to_string_lossy();
+        let (at, effect) = word.split_once(':').unwrap_or((&word, "old"));
+        let effect = match effect {
+            "old" => Effect::Old,
+            "unreadable" => Effect::Unreadable,
+            "whole" => Effect::Whole,
+            _ => return Err(usage(format!("--cut {word}: a write becomes old, unreadable or whole"))),
+        };
+        Ok(Cut::at(number(at, "--cut")?, effect))
+    }
+
+    /// The map list that the options give: a file, or the kind.
+    fn maps(&self) -> Result<Option<Vec<u8>>, Failure> {
+        if let Some(path) = self.path("--maps") {
+            return std::fs::read(path).map(Some).map_err(|e| Failure::file(path, &e));
+        }
+        let partition = self.number("--partition")?.unwrap_or(0);
+        let partition = u16::try_from(partition).map_err(|_| usage(format!("--partition {partition} is above 65,535")))?;
+        let maps = match (self.has("--write-once"), self.numbers("--tables")?) {
+            (true, Some(_)) => return Err(usage("--write-once and --tables are of different kinds".into())),
+            (true, None) => Maps::WriteOnce { partition },
+            (false, Some(tables)) => Maps::Rewritable { partition, table_bytes: self.number("--table-bytes")?.unwrap_or(2048), tables },
+            (false, None) => return Ok(None),
+        };
+        write_maps(&maps).map(Some).map_err(Failure::Refused)
+    }
+
+    /// The volume: what the options give, and for the rest what the image's descriptors tell.
+    pub fn volume(&self, image: &[u8]) -> Result<Volume, Failure> {
+        let (maps, start, length) = (self.maps()?, self.number("--start")?, self.number("--length")?);
+        if let (Some(maps), Some(start), Some(length)) = (&maps, start, length) {
+            return Ok(Volume { maps: maps.clone(), start, length });
+        }
+        let found = find_volume(image).map_err(|why| {
+            usage(format!("{why}; give the volume by hand: --start S --length L and --write-once, --tables T,.. or --maps FILE"))
+        })?;
+        Ok(Volume { maps: maps.unwrap_or(found.maps), start: start.unwrap_or(found.start), length: length.unwrap_or(found.length) })
+    }
+
+    /// The volume that a disc to be made gets, and its partition number.
+    pub fn new_volume(&self, start: u32, length: u32) -> Result<(Volume, u16), Failure> {
+        let maps = self.maps()?.ok_or_else(|| usage("which kind? --write-once, --tables T,.. or --maps FILE".into()))?;
+        let partition = match read_maps(&maps).map_err(Failure::Refused)? {
+            Maps::WriteOnce { partition } | Maps::Rewritable { partition, .. } => partition,
+        };
+        Ok((Volume { maps, start, length }, partition))
+    }
+}
+
+/// A number in decimal, or in hexadecimal after 0x; commas between digits are not looked at.
+fn number(word: &str, what: &str) -> Result<u32, Failure> {
+    let digits: String = word.chars().filter(|c| *c != ',' && *c != '_').collect();
+    let number = match digits.strip_prefix("0x") {
+        Some(hex) => u32::from_str_radix(hex, 16),
+        None => digits.parse(),
+    };
+    number.map_err(|_| usage(format!("{what}: {word} is no number from 0 to 4,294,967,295")))
+}

@@ -1,0 +1,289 @@
+//! The tool, run as a program: what it prints, its status, and what becomes of the files.
+
+use std::path::{Path, PathBuf};
+use std::process::{Command, Output, Stdio};
+
+/// A folder of one test.
+struct Folder(PathBuf);
+
+impl Folder {
+    fn new(name: &str) -> Folder {
+        let path = std::env::temp_dir().join(format!("tuormik-{name}-{}", std::process::id()));
+        let _ = std::fs::remove_dir_all(&path);
+        std::fs::create_dir_all(&path).expect("a folder");
+        Folder(path)
+    }
+
+    fn command(&self, words: &[&str]) -> Command {
+        let mut command = Command::new(env!("CARGO_BIN_EXE_tuormik"));
+        command.args(words).current_dir(&self.0).stdin(Stdio::null());
+        command
+    }
+
+    fn run(&self, words: &[&str]) -> (i32, String, String) {
+        let Output { status, stdout, stderr } = self.command(words).output().expect("the tool runs");
+        let text = |bytes| String::from_utf8_lossy(bytes).into_owned();
+        let (out, err) = (text(&stdout), text(&stderr));
+        assert!(!err.contains("panicked"), "{words:?}: {err}");
+        (status.code().expect("a status"), out, err)
+    }
+
+    /// Runs it and expects status 0.
+    fn does(&self, words: &[&str]) -> String {
+        let (status, out, err) = self.run(words);
+        assert_eq!(status, 0, "{words:?}: {err}");
+        out
+    }
+
+    /// Runs it and expects a refusal by a line of 01.
+    fn refuses(&self, line: u32, words: &[&str]) {
+        let (status, _, err) = self.run(words);
+        assert_eq!(status, 1, "{words:?}: {err}");
+        assert!(err.contains(&format!("(01, line {line})")), "{words:?}: {err}");
+    }
+
+    fn usage(&self, words: &[&str]) {
+        let (status, out, err) = self.run(words);
+        assert_eq!((status, out.as_str()), (2, ""), "{words:?}");
+        assert!(err.starts_with("tuormik: "), "{words:?}: {err}");
+    }
+
+    fn write(&self, name: &str, bytes: &[u8]) {
+        std::fs::write(self.0.join(name), bytes).expect("a file");
+    }
+
+    fn bytes(&self, name: &str) -> Vec<u8> {
+        std::fs::read(self.0.join(name)).expect("a file")
+    }
+
+    fn names(&self) -> Vec<String> {
+        let entries = std::fs::read_dir(&self.0).expect("a folder");
+        let mut names: Vec<String> = entries.map(|e| e.expect("an entry").file_name().to_string_lossy().into_owned()).collect();
+        names.sort();
+        names
+    }
+}
+
+impl Drop for Folder {
+    fn drop(&mut self) {
+        let _ = std::fs::remove_dir_all(&self.0);
+    }
+}
+
+fn has(text: &str, line: &str) {
+    let squeezed = |l: &str| l.split_whitespace().collect::<Vec<_>>().join(" ");
+    assert!(text.lines().any(|l| squeezed(l) == line), "'{line}' is not in\n{text}");
+}
+
+const COMMANDS: [&str; 11] = ["info", "list", "read", "save", "free", "commit", "spare", "make", "history", "map", "demo"];
+
+#[test]
+fn every_command_has_help() {
+    let folder = Folder::new("help");
+    let all = folder.does(&["--help"]);
+    for command in COMMANDS {
+        assert!(all.contains(command));
+        let help = folder.does(&[command, "--help"]);
+        assert!(help.starts_with(&format!("tuormik {command}")), "{help}");
+    }
+    folder.usage(&[]);
+    folder.usage(&["dance"]);
+    for command in COMMANDS {
+        folder.usage(&[command, "--no-such-option"]);
+        folder.usage(&[command, "a", "b", "c", "d", "e"]);
+        if command != "demo" {
+            folder.usage(&[command]);
+            folder.usage(&[command, "no-such-image", "0", "no-such-file"]);
+        }
+    }
+}
+
+#[test]
+fn a_write_once_disc_lives() {
+    let folder = Folder::new("once");
+    folder.does(&["make", "d.img", "--sectors", "400", "--write-once"]);
+    folder.usage(&["make", "d.img", "--sectors", "400", "--write-once"]);
+    has(&folder.does(&["info", "d.img"]), "NWA 1");
+    folder.write("text", b"the first block");
+    let out = folder.does(&["save", "d.img", "new", "text"]);
+    has(&out, "committed: N 1, NWA 3, last ICB 2");
+    folder.write("two", &[7; 2049]);
+    has(&folder.does(&["save", "d.img", "new", "two"]), "committed: N 3, NWA 6, last ICB 5");
+    let block = folder.does(&["read", "d.img", "0"]);
+    assert_eq!(block.trim_end_matches('\0'), "the first block");
+    assert_eq!(block.len(), 2048);
+    folder.does(&["read", "d.img", "1", "2", "--output", "out"]);
+    let mut expected = vec![7; 2049];
+    expected.resize(4096, 0);
+    assert_eq!(folder.bytes("out"), expected);
+    assert!(folder.does(&["read", "d.img", "0", "--hex"]).contains("the first block"));
+    let list = folder.does(&["list", "d.img"]);
+    has(&list, "0 1 289 recorded");
+    has(&list, "2 4 292 recorded");
+    folder.does(&["free", "d.img", "1"]);
+    has(&folder.does(&["list", "d.img"]), "1 - - unused");
+    folder.refuses(13, &["read", "d.img", "1"]);
+    folder.refuses(13, &["free", "d.img", "1"]);
+    folder.refuses(12, &["read", "d.img", "3"]);
+    folder.refuses(12, &["save", "d.img", "4", "text"]);
+    folder.refuses(7, &["spare", "d.img", "0"]);
+    folder.refuses(3, &["spare", "d.img", "0", "text"]);
+    folder.refuses(7, &["save", "d.img", "0", "text", "--packet"]);
+    let history = folder.does(&["history", "d.img"]);
+    assert_eq!(history.lines().count(), 5, "{history}");
+    // everything is still told by the rule, so no marks file and nothing else is there
+    assert_eq!(folder.names(), ["d.img", "out", "text", "two"]);
+}
+
+#[test]
+fn what_is_not_committed_is_passed_over() {
+    let folder = Folder::new("passed");
+    folder.does(&["make", "d.img", "--sectors", "400", "--write-once"]);
+    folder.write("text", b"one");
+    folder.does(&["save", "d.img", "new", "text", "--no-commit"]);
+    let info = folder.does(&["info", "d.img"]);
+    has(&info, "passed over 1");
+    assert!(info.contains("warning"));
+    has(&folder.does(&["commit", "d.img"]), "committed: N 0, NWA 3, last ICB 2");
+    assert!(!folder.does(&["info", "d.img"]).contains("warning"));
+    // a commit that is cut: the image is the disc as the cut left it
+    let (status, _, err) = folder.run(&["save", "d.img", "new", "text", "--cut", "1:unreadable"]);
+    assert_eq!((status, err.as_str()), (1, "tuormik: The power failed in the call.\n"));
+    has(&folder.does(&["info", "d.img"]), "passed over 2");
+    assert!(folder.names().contains(&"d.img.marks".to_string()));
+}
+
+#[test]
+fn a_block_of_zeros_needs_a_marks_file() {
+    let folder = Folder::new("zeros");
+    folder.does(&["make", "d.img", "--sectors", "400", "--write-once"]);
+    folder.write("zeros", &[0; 2048]);
+    folder.does(&["save", "d.img", "new", "zeros", "--no-commit"]);
+    has(&folder.does(&["info", "d.img"]), "passed over 1");
+    assert_eq!(folder.names(), ["d.img", "d.img.marks", "zeros"]);
+    // marks that go with another image are not taken
+    folder.does(&["make", "e.img", "--sectors", "401", "--write-once"]);
+    std::fs::copy(folder.0.join("d.img.marks"), folder.0.join("e.img.marks")).expect("a copy");
+    folder.usage(&["info", "e.img"]);
+    // those of an image that came to its place before they did are
+    folder.does(&["commit", "d.img"]);
+    std::fs::rename(folder.0.join("d.img.marks"), folder.0.join("d.img.marks.new")).expect("a rename");
+    folder.write("d.img.marks", b"tuormik marks\nimage 0\n");
+    has(&folder.does(&["info", "d.img"]), "passed over 0");
+}
+
+#[test]
+fn marks_by_hand() {
+    let folder = Folder::new("marks");
+    folder.does(&["make", "d.img", "--sectors", "400", "--write-once"]);
+    folder.write("text", b"one");
+    folder.does(&["save", "d.img", "new", "text"]);
+    folder.write("m", b"tuormik marks\nrecorded 256 35\nunreadable 289 1\n");
+    folder.refuses(14, &["read", "d.img", "0", "--marks", "m"]);
+    has(&folder.does(&["list", "d.img", "--marks", "m"]), "0 1 289 unreadable");
+    folder.usage(&["info", "d.img", "--marks", "text"]);
+    folder.usage(&["info", "d.img", "--marks", "not-there"]);
+}
+
+#[test]
+fn a_rewritable_disc_lives() {
+    let folder = Folder::new("rewritable");
+    let make = ["make", "d.img", "--sectors", "640", "--tables", "0,32,64", "--spares", "96,128", "--length", "64"];
+    folder.does(&make);
+    let info = folder.does(&["info", "d.img"]);
+    has(&info, "R 2 (0 used, 2 free)");
+    folder.write("text", b"a block");
+    folder.does(&["save", "d.img", "40", "text"]);
+    assert!(folder.does(&["read", "d.img", "40"]).starts_with("a block"));
+    has(&folder.does(&["spare", "d.img", "32"]), "spared the packet of block 32: it is now at sector 96");
+    assert!(folder.does(&["read", "d.img", "40"]).starts_with("a block"));
+    has(&folder.does(&["info", "d.img"]), "sequence 1");
+    let list = folder.does(&["list", "d.img"]);
+    has(&list, "32 to 63 96 to 127 spared, 32 recorded, 0 unreadable, 0 blank");
+    has(&list, "1 packets in place, recorded");
+    folder.refuses(18, &["spare", "d.img", "32"]);
+    folder.refuses(12, &["spare", "d.img", "64"]);
+    folder.refuses(3, &["spare", "d.img", "0", "text"]);
+    folder.refuses(7, &["commit", "d.img"]);
+    folder.refuses(7, &["history", "d.img"]);
+    folder.does(&["spare", "d.img", "0"]);
+    // a cut save leaves a sector unreadable; saving the packet heals it
+    assert_eq!(folder.run(&["save", "d.img", "3", "text", "--cut", "9:unreadable"]).0, 1);
+    folder.refuses(14, &["read", "d.img", "8"]);
+    folder.refuses(14, &["save", "d.img", "3", "text"]);
+    folder.does(&["save", "d.img", "0", "text", "--packet"]);
+    assert!(folder.does(&["read", "d.img", "0"]).starts_with("a block"));
+    for picture in ["p.svg", "p.ppm"] {
+        let words = folder.does(&["map", "d.img", picture]);
+        assert!(words.contains("3 sparing table, 64 used spare"), "{words}");
+    }
+    assert!(folder.bytes("p.svg").starts_with(b"<svg"));
+    assert!(folder.bytes("p.ppm").starts_with(b"P6\n"));
+    folder.usage(&["map", "d.img", "p.png"]);
+}
+
+#[test]
+fn volumes_by_hand() {
+    let folder = Folder::new("hand");
+    let volume = ["--start", "0", "--length", "20", "--write-once"];
+    let with = |words: &[&'static str]| [words, &volume].concat();
+    let out = folder.does(&with(&["make", "d.img", "--sectors", "20"]));
+    assert!(out.contains("by hand"), "{out}");
+    folder.usage(&["info", "d.img"]);
+    has(&folder.does(&with(&["info", "d.img"])), "L 20");
+    folder.refuses(2, &["info", "d.img", "--start", "0", "--length", "0", "--write-once"]);
+    folder.refuses(6, &["info", "d.img", "--start", "0", "--length", "20", "--tables", "1"]);
+    folder.refuses(5, &["info", "d.img", "--start", "0", "--length", "20", "--tables", "0,32,64,96,128"]);
+    folder.refuses(6, &["make", "e.img", "--sectors", "640", "--tables", "0", "--spares", "0", "--length", "64"]);
+    folder.refuses(2, &["make", "e.img", "--sectors", "100", "--write-once"]);
+    folder.refuses(1, &["make", "e.img", "--sectors", "1048577", "--write-once"]);
+    folder.refuses(1, &["make", "e.img", "--sectors", "0", "--write-once"]);
+    folder.write("maps", &[1, 0]);
+    folder.refuses(4, &["info", "d.img", "--start", "0", "--length", "20", "--maps", "maps"]);
+    folder.write("odd", &[1; 2049]);
+    folder.refuses(1, &["info", "odd", "--start", "0", "--length", "1", "--write-once"]);
+    folder.write("empty", &[]);
+    folder.refuses(8, &["info", "empty", "--start", "0", "--length", "1", "--write-once"]);
+    folder.refuses(2, &["info", "d.img", "--start", "4294967295", "--length", "4294967295", "--write-once"]);
+    assert!(!Path::new(&folder.0.join("e.img")).exists());
+}
+
+/// Where the image cannot be replaced it stays as it was, and no half of a new one is left.
+#[test]
+fn an_image_is_replaced_whole_or_not_at_all() {
+    let folder = Folder::new("whole");
+    folder.does(&["make", "d.img", "--sectors", "400", "--write-once"]);
+    folder.write("text", b"one");
+    let before = folder.bytes("d.img");
+    // a folder stands where the new image is to be written
+    std::fs::create_dir(folder.0.join("d.img.new")).expect("a folder");
+    folder.usage(&["save", "d.img", "new", "text"]);
+    assert_eq!(folder.bytes("d.img"), before);
+    std::fs::remove_dir(folder.0.join("d.img.new")).expect("a folder");
+    // a half of one that a crash left is written over
+    folder.write("d.img.new", &[9; 100]);
+    folder.does(&["save", "d.img", "new", "text"]);
+    assert_eq!(folder.names(), ["d.img", "text"]);
+    // a refused call leaves the file alone
+    let before = folder.bytes("d.img");
+    folder.refuses(12, &["save", "d.img", "9", "text"]);
+    assert_eq!(folder.bytes("d.img"), before);
+}
+
+#[test]
+fn the_demo_finds_every_block() {
+    let folder = Folder::new("demo");
+    let out = folder.does(&["demo"]);
+    assert!(out.ends_with("Every block was found again after every cut.\n"), "{out}");
+    assert!(folder.names().is_empty());
+}
+
+#[test]
+fn nobody_has_to_read_the_output() {
+    let folder = Folder::new("pipe");
+    let mut child = folder.command(&["demo"]).stdout(Stdio::piped()).stderr(Stdio::piped()).spawn().expect("the tool runs");
+    drop(child.stdout.take());
+    let output = child.wait_with_output().expect("the tool ends");
+    assert!(!String::from_utf8_lossy(&output.stderr).contains("panicked"));
+    assert_eq!(output.status.code(), Some(0));
+}

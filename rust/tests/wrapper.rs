@@ -1,0 +1,161 @@
+//! The safe wrapper: records, cuts, refusals, lists of calls.
+
+use tuormik::{
+    look_up, read_maps, write_maps, Call, Cut, Disc, Effect, Error, Held, Maps, Open, Record, Refusal, BLANK, NONE, PACKET_BYTES, SECTOR,
+};
+
+struct Memory {
+    bytes: Vec<u8>,
+    marks: Vec<u8>,
+    maps: Vec<u8>,
+    start: u32,
+    length: u32,
+}
+
+impl Memory {
+    fn new(sectors: usize, start: u32, length: u32, maps: &Maps, spares: &[u32]) -> Memory {
+        let maps = write_maps(maps).expect("a map list");
+        let mut memory = Memory { bytes: vec![0; SECTOR * sectors], marks: vec![BLANK; sectors], maps, start, length };
+        memory.disc().make(spares).expect("a disc");
+        memory
+    }
+
+    fn once() -> Memory {
+        Memory::new(60, 5, 50, &Maps::WriteOnce { partition: 1 }, &[])
+    }
+
+    fn rewritable() -> Memory {
+        let maps = Maps::Rewritable { partition: 1, table_bytes: 2048, tables: vec![0, 32] };
+        Memory::new(224, 96, 64, &maps, &[64, 192])
+    }
+
+    fn disc(&mut self) -> Disc<'_> {
+        Disc { bytes: &mut self.bytes, marks: &mut self.marks, maps: &self.maps, start: self.start, length: self.length }
+    }
+}
+
+const fn refused(why: Refusal) -> Error {
+    Error::Refused(why)
+}
+
+fn once(entries: u32, next: u32, last: u32, passed_over: u32) -> Record {
+    Record { held: Held::WriteOnce { entries, next, last }, passed_over }
+}
+
+#[test]
+fn a_write_once_disc() {
+    let mut memory = Memory::once();
+    let mut open = memory.disc().open().expect("it opens");
+    assert_eq!(open.record(), once(0, 1, 0, 0));
+    assert_eq!(open.save_virtual(0, &[1; SECTOR], Cut::NONE), Ok(()));
+    assert_eq!(open.save_virtual(1, &[2; SECTOR], Cut::NONE), Ok(()));
+    assert_eq!(open.save_virtual(3, &[2; SECTOR], Cut::NONE), Err(refused(Refusal::NumberOutside)));
+    assert_eq!(open.save_virtual(2, &[2; 7], Cut::NONE), Err(refused(Refusal::LentLength)));
+    assert_eq!(open.free_virtual(0), Ok(()));
+    assert_eq!(open.table(), [NONE, 2]);
+    assert_eq!(open.read(0), Err(refused(Refusal::UnusedEntry)));
+    assert_eq!(open.commit(Cut::NONE), Ok(()));
+    assert_eq!(open.record(), once(2, 4, 3, 0));
+    assert_eq!(open.fullness(), Ok(80));
+    assert_eq!(open.spare_packet(0, &[0; PACKET_BYTES], Cut::NONE), Err(refused(Refusal::OtherKind)));
+    assert_eq!(open.save_packet(0, &[0; PACKET_BYTES], Cut::NONE), Err(refused(Refusal::OtherKind)));
+    assert_eq!(open.save_block(0, &[0; SECTOR], Cut::NONE), Err(refused(Refusal::OtherKind)));
+    assert_eq!(open.record(), once(2, 4, 3, 0));
+}
+
+#[test]
+fn after_a_cut_the_disc_is_opened_again() {
+    let mut memory = Memory::once();
+    let mut open = memory.disc().open().expect("it opens");
+    assert_eq!(open.save_virtual(0, &[1; SECTOR], Cut::NONE), Ok(()));
+    assert_eq!(open.commit(Cut::NONE), Ok(()));
+    assert_eq!(open.save_virtual(0, &[2; SECTOR], Cut::at(1, Effect::Unreadable)), Err(Error::Cut));
+    assert_eq!(open.read(0), Err(Error::PowerOff));
+    assert_eq!(open.commit(Cut::NONE), Err(Error::PowerOff));
+    assert_eq!(open.fullness(), Err(Error::PowerOff));
+    assert_eq!(open.open_again(), Ok(()));
+    assert_eq!(open.record(), once(1, 4, 2, 1));
+    assert_eq!(open.read(0), Ok([1; SECTOR]));
+    // a cut past the last write is none
+    assert_eq!(open.commit(Cut::at(2, Effect::Old)), Ok(()));
+}
+
+#[test]
+fn a_rewritable_disc() {
+    let mut memory = Memory::rewritable();
+    let mut open = memory.disc().open().expect("it opens");
+    let record = |sequence| Record { held: Held::Rewritable { entries: 2, sequence }, passed_over: 0 };
+    assert_eq!(open.record(), record(0));
+    assert_eq!(open.table(), [NONE, 64, NONE, 192]);
+    assert_eq!(open.save_block(33, &[5; SECTOR], Cut::NONE), Ok(()));
+    assert_eq!(open.spare_packet(32, &[6; PACKET_BYTES], Cut::NONE), Ok(()));
+    assert_eq!((open.record(), open.table()), (record(1), [32, 64, NONE, 192].as_slice()));
+    assert_eq!(open.read(33), Ok([6; SECTOR]));
+    assert_eq!(open.save_packet(32, &[7; PACKET_BYTES], Cut::at(2, Effect::Whole)), Err(Error::Cut));
+    assert_eq!(open.open_again(), Ok(()));
+    assert_eq!((open.read(32), open.read(33), open.read(34)), (Ok([7; SECTOR]), Ok([7; SECTOR]), Ok([6; SECTOR])));
+    assert_eq!(open.save_virtual(0, &[0; SECTOR], Cut::NONE), Err(refused(Refusal::OtherKind)));
+    assert_eq!(open.free_virtual(0), Err(refused(Refusal::OtherKind)));
+    assert_eq!(open.commit(Cut::NONE), Err(refused(Refusal::OtherKind)));
+    assert_eq!(open.fullness(), Err(refused(Refusal::OtherKind)));
+}
+
+#[test]
+fn a_list_of_calls() {
+    let mut memory = Memory::once();
+    let calls = [
+        Call::SaveVirtual { v: 0, block: &[1; SECTOR], cut: Cut::NONE },
+        Call::Commit { cut: Cut::NONE },
+        Call::SaveVirtual { v: 1, block: &[2; SECTOR], cut: Cut::NONE },
+        Call::Commit { cut: Cut::at(1, Effect::Old) },
+        Call::FreeVirtual { v: 0 },
+        Call::FreeVirtual { v: 1 },
+        Call::SaveBlock { b: 0, block: &[0; SECTOR], cut: Cut::NONE },
+    ];
+    let ran = memory.disc().run(&calls).expect("it opens");
+    // the call after the cut is taken as an opening
+    let answers = [Ok(()), Ok(()), Ok(()), Err(Error::Cut), Ok(()), Err(refused(Refusal::NumberOutside)), Err(refused(Refusal::OtherKind))];
+    assert_eq!(ran.replies, answers);
+    assert_eq!(ran.record, once(1, 4, 2, 1));
+    let open = Open::resume(memory.disc(), &ran.table, ran.record);
+    assert_eq!(open.read(0), Ok([1; SECTOR]));
+    let blank = &mut [BLANK; 60];
+    let mut disc = Disc { marks: blank, ..memory.disc() };
+    assert_eq!(disc.run(&calls).err(), Some(refused(Refusal::NoTable)));
+}
+
+#[test]
+fn a_stale_record_is_refused() {
+    let mut memory = Memory::once();
+    let mut open = Open::resume(memory.disc(), &[], once(0, 9, 0, 0));
+    assert_eq!(open.commit(Cut::NONE), Err(refused(Refusal::StaleRecord)));
+    let mut open = Open::resume(memory.disc(), &[], once(u32::MAX, 1, 0, 0));
+    assert_eq!(open.commit(Cut::NONE), Err(refused(Refusal::StaleRecord)));
+    assert_eq!(open.table().len(), 4096);
+}
+
+#[test]
+fn map_lists_and_vat_files() {
+    let all = [
+        Maps::WriteOnce { partition: 513 },
+        Maps::Rewritable { partition: 0, table_bytes: 56, tables: vec![32] },
+        Maps::Rewritable { partition: 65_535, table_bytes: 2048, tables: vec![96, 0, 64, 1 << 20] },
+    ];
+    for maps in all {
+        assert_eq!(read_maps(&write_maps(&maps).expect("a map list")), Ok(maps));
+    }
+    assert_eq!(read_maps(&[]), Err(refused(Refusal::NeitherKind)));
+    assert_eq!(read_maps(&[1]), Err(refused(Refusal::MapCut)));
+    let none = Maps::Rewritable { partition: 0, table_bytes: 56, tables: vec![] };
+    assert_eq!(write_maps(&none), Err(refused(Refusal::NeitherKind)));
+    assert_eq!(look_up(&[], 0), Err(refused(Refusal::NoTable)));
+}
+
+#[test]
+fn words_of_refusals() {
+    assert_eq!(refused(Refusal::NoTable).to_string(), "No VAT ICB or counting copy exists. (01, line 8)");
+    assert_eq!(Error::check(0), Ok(()));
+    assert_eq!(Error::check(21), Err(refused(Refusal::NotBlank)));
+    assert_eq!(Error::check(255), Err(Error::Cut));
+    assert_eq!(Error::check(77), Err(Error::Unknown(77)));
+}
