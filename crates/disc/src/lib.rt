@@ -85,9 +85,9 @@ fn skip_blank(marks: &[u8], s: u32, l: u32) -> u32
     let mut k = l;
     while STEP <= k {
         let below = k - STEP;
-        let from = (s + below) as usize;
-        let to = (s + k) as usize;
-        if highest_mark(&marks[from..to]) != BLANK {
+        let low = (s + below) as usize;
+        let high = (s + k) as usize;
+        if highest_mark(&marks[low..high]) != BLANK {
             return k;
         }
         k = below;

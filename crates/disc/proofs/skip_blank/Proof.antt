@@ -18,17 +18,17 @@ abbrev μ-loop : tie.MeasureT-loop
 loop-holds : tie.Need-loop-holds Inv-loop μ-loop
 loop-holds c = (omega arith, λ bytes. refl)
 
-add-from : tie.Need-add-from Inv-loop μ-loop
-add-from c = search needs
+add-low : tie.Need-add-low Inv-loop μ-loop
+add-low c = search needs
 
-cast-from : tie.Need-cast-from Inv-loop μ-loop
-cast-from c = search needs
+cast-low : tie.Need-cast-low Inv-loop μ-loop
+cast-low c = search needs
 
-add-to : tie.Need-add-to Inv-loop μ-loop
-add-to c = search needs
+add-high : tie.Need-add-high Inv-loop μ-loop
+add-high c = search needs
 
-cast-to : tie.Need-cast-to Inv-loop μ-loop
-cast-to c = search needs
+cast-high : tie.Need-cast-high Inv-loop μ-loop
+cast-high c = search needs
 
 sub-highest-mark : tie.Need-sub-highest-mark Inv-loop μ-loop
 sub-highest-mark c = search needs
@@ -64,10 +64,10 @@ skip-blank-spec =
     Inv-loop
     μ-loop
     loop-holds
-    add-from
-    cast-from
-    add-to
-    cast-to
+    add-low
+    cast-low
+    add-high
+    cast-high
     sub-highest-mark
     part-highest-mark-start
     part-highest-mark-end
