@@ -1,8 +1,9 @@
 //! Document 01 a second time, in plain Rust over lent slices.
 //!
-//! It was written from document 01 and shares no code with the proved layer. The tests hold the two against each other, and the
-//! benchmarks take it as their baseline. Each function is the one of the same name in `include/tuormik.h`, with slices for pointers and
-//! lengths. "Line n" is line n of 01, "Why a call is turned down"; a call is turned down by `Err(n)`.
+//! It was written from document 01, with the readings of open points in `docs/DECISIONS.md`, and shares no code with the proved layer.
+//! The tests hold the two against each other, and the benchmarks take it as their baseline. Each function is the one of the same name in
+//! `include/tuormik.h`, with slices for pointers and lengths. "Line n" is line n of 01, "Why a call is turned down"; a call is turned
+//! down by `Err(n)`.
 #![allow(clippy::too_many_arguments)]
 
 const SECTOR: usize = 2048;

@@ -137,7 +137,7 @@ fn the_upper_bits_of_a_length() {
 
 /// Extents that name the same blocks over and over make a VAT of more than 2^32 entries, which is one all the same: line 9.
 #[test]
-#[ignore = "reads 17 GB of entries"]
+#[ignore = "reads 17 GB of entries, which takes minutes"]
 fn more_than_32_bits_of_entries() {
     both(|layer| {
         const BLOCKS: u32 = 36_010;
