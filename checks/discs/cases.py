@@ -17,6 +17,8 @@ ICB = (
 
 def tables():
     icb = bytes.fromhex(ICB)
+    p("# Worked discs of document 01. A line prepares a disc or what is lent, or it is a call: make, open, read, save, free,")
+    p("# commit, fullness, change (save a block), packet (save a packet), spare. The sources say what each name means.")
     p("# 004, table 14: the partition starts at sector 257; the VAT ICB is another writer's")
     p("clear")
     p("span 257 31")
@@ -390,6 +392,11 @@ def refused():
     p("make")
     p("mark 2 2")
     p("open")
+    p("# blank and unreadable sectors above the VAT ICB are all passed over")
+    p("clear")
+    p("make")
+    p("mark 5 2")
+    p("open")
     p("# line 21: sectors outside and inside the partition")
     for q, m in ((1, 1), (2, 1), (2, 2), (21, 1), (21, 2), (22, 2)):
         p("clear")
@@ -683,7 +690,16 @@ def counting():
         p("open")
 
 
+def sized():
+    p("# the map's size bounds R: three entries take 80 bytes")
+    volume(2, "192 224 256", 80)
+    p("list 44 79")
+    p("open")
+    p("list 44 80")
+    p("open")
+
+
 if __name__ == "__main__":
-    for name in sys.argv[1:] or ["tables", "sizes", "cuts", "forged", "rooms", "refused", "spared", "turned", "counting"]:
+    for name in sys.argv[1:] or ["tables", "sizes", "cuts", "forged", "rooms", "refused", "spared", "turned", "counting", "sized"]:
         globals()[name]()
     sys.stdout.write("\n".join(o) + "\n")

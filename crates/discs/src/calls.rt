@@ -272,8 +272,71 @@ fn spare_packet(
     replied(reply, state)
 }
 
-// make, with the spares; open; read V; save V; free V; commit; fullness; and on a rewritable disc change B, which saves
-// a block, packet B, which saves one, and spare B.
+// On a rewritable disc: change B, which saves a block; packet B, which saves one; spare B.
+fn call_rewritable(
+    disc: &mut [u8],
+    marks: &mut [u8],
+    table: &mut [u32],
+    list: &[u8],
+    block: &[u8],
+    packet: &[u8],
+    state: State,
+    n: u32,
+    name: u32,
+) -> State {
+    match name {
+        CHANGE => save_block(disc, marks, table, list, block, state, n),
+        PACKET => save_packet(disc, marks, table, list, packet, state, n),
+        SPARE => spare_packet(disc, marks, table, list, packet, state, n),
+        _ => state,
+    }
+}
+
+// On a write-once disc: save V; free V; commit.
+fn call_once(
+    disc: &mut [u8],
+    marks: &mut [u8],
+    table: &mut [u32],
+    list: &[u8],
+    block: &[u8],
+    state: State,
+    n: u32,
+    name: u32,
+) -> State {
+    match name {
+        SAVE => save(disc, marks, table, list, block, state, n),
+        FREE => free(disc, marks, table, list, state, n),
+        COMMIT => commit(disc, marks, table, list, state),
+        _ => state,
+    }
+}
+
+// The calls that write nothing: open; read V; fullness.
+fn look(
+    disc: &[u8],
+    marks: &[u8],
+    table: &mut [u32],
+    list: &[u8],
+    block: &mut [u8],
+    state: State,
+    n: u32,
+    name: u32,
+) -> State {
+    match name {
+        OPEN => open(disc, marks, table, list, state),
+        READ => {
+            read(disc, marks, table, list, block, state, n);
+            state
+        }
+        FULLNESS => {
+            fullness(disc, marks, table, list, state);
+            state
+        }
+        _ => state,
+    }
+}
+
+// make, with the spares; and the calls above.
 pub fn call(
     disc: &mut [u8],
     marks: &mut [u8],
@@ -291,21 +354,8 @@ pub fn call(
             make(disc, marks, list, state, words);
             state
         }
-        OPEN => open(disc, marks, table, list, state),
-        READ => {
-            read(disc, marks, table, list, block, state, n);
-            state
-        }
-        SAVE => save(disc, marks, table, list, block, state, n),
-        FREE => free(disc, marks, table, list, state, n),
-        COMMIT => commit(disc, marks, table, list, state),
-        FULLNESS => {
-            fullness(disc, marks, table, list, state);
-            state
-        }
-        CHANGE => save_block(disc, marks, table, list, block, state, n),
-        PACKET => save_packet(disc, marks, table, list, packet, state, n),
-        SPARE => spare_packet(disc, marks, table, list, packet, state, n),
-        _ => state,
+        OPEN | READ | FULLNESS => look(disc, marks, table, list, block, state, n, name),
+        SAVE | FREE | COMMIT => call_once(disc, marks, table, list, block, state, n, name),
+        _ => call_rewritable(disc, marks, table, list, block, packet, state, n, name),
     }
 }

@@ -1,6 +1,7 @@
 // What every call is lent: as much of each as the state says.
 use crate::calls;
 use crate::state::State;
+ghost use Prim.Native.Nat.{_≤_};
 
 // The disc of 2,144 sectors, its marks, the table, the map list, a block and a packet, these two with a byte to spare.
 pub type Disc = [u8; 4390912];
@@ -15,7 +16,17 @@ pub type Block = [u8; 2049];
 
 pub type Packet = [u8; 65537];
 
-// Lends the first elements of each to a call.
+// The smaller of two lengths.
+fn smaller(a: usize, b: usize) -> usize
+    ensures { λ r. ⌜ r ≤ b ⌝ }
+{
+    if a < b {
+        return a;
+    }
+    b
+}
+
+// Lends the first elements of each to a call, at most what there is.
 fn lend_parts(
     disc: &mut [u8],
     marks: &mut [u8],
@@ -27,30 +38,12 @@ fn lend_parts(
     words: &[u8],
     name: u32,
 ) -> State {
-    let bytes = state.disc;
-    let sectors = state.marks;
-    let entries = state.table;
-    let listed = state.list;
-    let blocked = state.block;
-    let packed = state.packet;
-    if disc.len() < bytes {
-        return state;
-    }
-    if marks.len() < sectors {
-        return state;
-    }
-    if table.len() < entries {
-        return state;
-    }
-    if list.len() < listed {
-        return state;
-    }
-    if block.len() < blocked {
-        return state;
-    }
-    if packet.len() < packed {
-        return state;
-    }
+    let bytes = smaller(state.disc, disc.len());
+    let sectors = smaller(state.marks, marks.len());
+    let entries = smaller(state.table, table.len());
+    let listed = smaller(state.list, list.len());
+    let blocked = smaller(state.block, block.len());
+    let packed = smaller(state.packet, packet.len());
     calls::call(
         &mut disc[0..bytes],
         &mut marks[0..sectors],

@@ -100,43 +100,52 @@ module _ (g : Geometry) (n i : ℕ) (l : List ℕ) where
   unfolding allOutside
   outside-none h = sym (ap (allOutside g) (left-none n i l h))
 
--- ---- entries below NWA, from place i on
+-- ---- entries below NWA: what was found, and those from place i on
 
 -- from place 0 on it is all of them
-pub below-all : (k n : ℕ) (l : List ℕ) → allBelow k (take (n - 0) (drop 0 l)) ≡ allBelow k (take n l)
+pub below-all : (k n : ℕ) (l : List ℕ) → true && allBelow k (take (n - 0) (drop 0 l)) ≡ allBelow k (take n l)
 below-all k n l = ap (allBelow k) (left-all n l)
 
-module _ (k n i : ℕ) (l : List ℕ) where
-  -- one that is used and not below
-  pub below-stop : i < n → i < length l → (getD l i 0 ≡ 0xffffffff → ⊥) → k ≤ getD l i 0 → false ≡ allBelow k (take (n - i) (drop i l))
-  unfolding allBelow belowOrNone none
-  below-stop h p u q =
-      let a = ne-eqb (getD l i 0) 0xffffffff u in
-      let b = le-ltb (getD l i 0) k q in
-      sym (ap (allBelow k) (left-next n i l h p) ∙ rw (a, b))
+module _ (k n i : ℕ) (l : List ℕ) (all all′ : Bool) {whole : Bool} (w : all && allBelow k (take (n - i) (drop i l)) ≡ whole) where
+  module _ (h : i < n) (p : i < length l) where
+    -- the first that is left, and those after it
+    below-one : all && (belowOrNone k (getD l i 0) && allBelow k (take (n - (i + 1)) (drop (i + 1) l))) ≡ whole
+    unfolding allBelow
+    below-one = sym (ap (λ (t : List ℕ). all && allBelow k t) (left-next n i l h p)) ∙ w
 
-  -- one that is unused or below
-  below-go : i < n → i < length l → belowOrNone k (getD l i 0) ≡ true → allBelow k (take (n - (i + 1)) (drop (i + 1) l)) ≡ allBelow k (take (n - i) (drop i l))
-  unfolding allBelow
-  below-go h p e = sym (ap (allBelow k) (left-next n i l h p) ∙ rw e)
+    -- one that is used and not below
+    pub below-stop : (getD l i 0 ≡ 0xffffffff → ⊥) → k ≤ getD l i 0 → all′ ≡ false → all′ && allBelow k (take (n - (i + 1)) (drop (i + 1) l)) ≡ whole
+    unfolding belowOrNone none
+    below-stop u q f =
+        let a = ne-eqb (getD l i 0) 0xffffffff u in
+        let b = le-ltb (getD l i 0) k q in
+        let x : belowOrNone k (getD l i 0) ≡ false = rw (a, b) in
+        and-false-left _ f ∙ sym (and-false all (and-false-left _ x)) ∙ below-one
 
-  -- one that is unused
-  pub below-unused : i < n → i < length l → getD l i 0 ≡ 0xffffffff → allBelow k (take (n - (i + 1)) (drop (i + 1) l)) ≡ allBelow k (take (n - i) (drop i l))
-  unfolding belowOrNone none
-  below-unused h p e = below-go h p (or-left _ (eq-eqb (getD l i 0) 0xffffffff e))
+    -- one that is unused or below
+    below-go : belowOrNone k (getD l i 0) ≡ true → all′ ≡ all → all′ && allBelow k (take (n - (i + 1)) (drop (i + 1) l)) ≡ whole
+    below-go e f =
+        ap (λ (b : Bool). b && allBelow k (take (n - (i + 1)) (drop (i + 1) l))) f
+        ∙ sym (ap (λ (b : Bool). all && (b && allBelow k (take (n - (i + 1)) (drop (i + 1) l)))) e)
+        ∙ below-one
 
-  -- one that is below, and used
-  pub below-next : i < n → i < length l → (getD l i 0 ≡ 0xffffffff → ⊥) → getD l i 0 < k → allBelow k (take (n - (i + 1)) (drop (i + 1) l)) ≡ allBelow k (take (n - i) (drop i l))
-  unfolding belowOrNone none
-  below-next h p u q =
-      let a = ne-eqb (getD l i 0) 0xffffffff u in
-      let b = lt-ltb (getD l i 0) k q in
-      below-go h p (rw (a, b))
+    -- one that is unused
+    pub below-unused : getD l i 0 ≡ 0xffffffff → all′ ≡ all → all′ && allBelow k (take (n - (i + 1)) (drop (i + 1) l)) ≡ whole
+    unfolding belowOrNone none
+    below-unused e = below-go (or-left _ (eq-eqb (getD l i 0) 0xffffffff e))
 
-  -- none is left
-  pub below-none : n ≤ i → true ≡ allBelow k (take (n - i) (drop i l))
-  unfolding allBelow
-  below-none h = sym (ap (allBelow k) (left-none n i l h))
+    -- one that is below, and used
+    pub below-next : (getD l i 0 ≡ 0xffffffff → ⊥) → getD l i 0 < k → all′ ≡ all → all′ && allBelow k (take (n - (i + 1)) (drop (i + 1) l)) ≡ whole
+    unfolding belowOrNone none
+    below-next u q =
+        let a = ne-eqb (getD l i 0) 0xffffffff u in
+        let b = lt-ltb (getD l i 0) k q in
+        below-go (rw (a, b))
+
+-- none is left
+pub below-none : (k n i : ℕ) (l : List ℕ) (all : Bool) {whole : Bool} → all && allBelow k (take (n - i) (drop i l)) ≡ whole → n ≤ i → all ≡ whole
+unfolding allBelow
+below-none k n i l all w h = sym (and-true all) ∙ sym (ap (λ (t : List ℕ). all && allBelow k t) (left-none n i l h)) ∙ w
 
 -- ---- line 6 on a rewritable disc
 

@@ -223,22 +223,23 @@ pub fn examine(disc: &[u8], marks: &[u8], maps: &[u8], s: u32, l: u32, lent: boo
     }
 }
 
-// Whether each of the first n entries is unused or below NWA.
+// Whether each of the first n entries is unused or below NWA. It counts those that are not, with no early way out.
 fn are_below(table: &[u32], n: u32, next: u32) -> bool
     requires { ⌜ n ≤ length (now table) ⌝ }
     ensures { λ r. ⌜ r ≡ allBelow next (take n (now (table .entry))) ⌝ }
 {
+    let mut over: u32 = 0;
     let mut i: usize = 0;
     while i < n as usize {
         let entry = table[i];
         if entry != NONE {
             if next <= entry {
-                return false;
+                over += 1;
             }
         }
         i += 1;
     }
-    true
+    over == 0
 }
 
 // Line 11 on a write-once disc: whether the record goes with the disc and the lent table.

@@ -1,11 +1,13 @@
-// How a case is printed: its group and its name, a colon, each part of what came out after a blank.
+// How the test programs print a case: its group and its name, a colon, each part of what came out after a blank.
 use libc::STDOUT_FILENO;
 use refusal::Verdict;
 
+// A text as it is.
 pub fn text(part: &[u8]) {
     io::write_all(STDOUT_FILENO, part);
 }
 
+// How a case's line begins.
 pub fn case(group: &[u8], name: &[u8]) {
     text(group);
     text(b" ");
@@ -13,25 +15,30 @@ pub fn case(group: &[u8], name: &[u8]) {
     text(b":");
 }
 
+// The line's end.
 pub fn end() {
     text(b"\n");
 }
 
+// A text after a blank.
 pub fn word(w: &[u8]) {
     text(b" ");
     text(w);
 }
 
+// A number in decimal.
 pub fn decimal(n: u64) {
     text(b" ");
     io::print_decimal(STDOUT_FILENO, n);
 }
 
+// A number in hexadecimal, of so many digits at least.
 pub fn hex(n: u64, width: usize) {
     text(b" ");
     io::print_hex(STDOUT_FILENO, n, width);
 }
 
+// Yes or no, as true or false.
 pub fn truth(b: bool) {
     if b {
         word(b"true");
@@ -48,6 +55,7 @@ pub fn verdict(v: Verdict) {
     }
 }
 
+// The two digits of a byte.
 fn digits(b: u8) {
     io::print_hex(STDOUT_FILENO, b as u64, 2);
 }

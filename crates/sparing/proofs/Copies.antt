@@ -13,7 +13,7 @@ use Rattle.refusal.specs.declared.Verdict.the-variants.{Go, Stop}
 use Rattle.refusal.proofs.Laws.{goes, stops}
 use Rattle.fields.specs.Bytes.{part, same}
 use Rattle.fields.specs.Number.{field, words}
-use Rattle.fields.proofs.Laws.{AllBytes, field-part, same-false-of-length}
+use Rattle.fields.proofs.Laws.{AllBytes, field-part, same-equal, same-false, same-false-of-length}
 use Rattle.model.specs.Disc.{Disc, disc as discOf, sector, mark, recorded}
 use Rattle.model.specs.Sparing.{Geometry, entries, countIn, sequenceIn, tableIn, copyFits, counts, countingOf, counting, sequenceAt, tableAt, highest, withSequence, current, currentSequence, currentTable, firstTable, agree}
 use Rattle.model.specs.Rewrite.{isNone}
@@ -93,10 +93,14 @@ module _ (d : Disc) (g : Geometry) (t : ℕ) (n : Newest) where
   unfolding newerOf
   newer-uncounted e = rw e
 
-  -- it is older
-  pub newer-older : counts d g t ≡ true → sequenceAt d t < n .sequence → n ≡ newerOf d g t n
+  -- it is older, whether it counts or not
+  pub newer-older : sequenceAt d t < n .sequence → n ≡ newerOf d g t n
   unfolding newerOf
-  newer-older e h = rw (e, lt-ltb (sequenceAt d t) (n .sequence) h)
+  newer-older h = rw (lt-ltb (sequenceAt d t) (n .sequence) h) (go (counts d g t))
+    where
+      go : (b : Bool) → n ≡ cond b n n
+      go true = refl
+      go false = refl
 
   -- it is not
   pub newer-first : counts d g t ≡ true → n .sequence ≤ sequenceAt d t → record { found = true; at = t; sequence = sequenceAt d t } ≡ newerOf d g t n
@@ -177,23 +181,49 @@ newest-on d g (t ∷ ts) k h q =
     (λ _. newest-on d g ts k (λ i l. h (suc i) (omega arith)))
     q
 
+-- it counts
+newest-counts : (d : Disc) (g : Geometry) (ts : List ℕ) → newestOf d g ts .found ≡ true → counts d g (newestOf d g ts .at) ≡ true
+unfolding newestOf newerOf
+newest-counts d g [] q = absurd (false≢true q)
+newest-counts d g (t ∷ ts) q =
+    cond-elim (λ (r : Newest). r .found ≡ true → counts d g (r .at) ≡ true) (counts d g t)
+    (λ e. cond-elim (λ (r : Newest). r .found ≡ true → counts d g (r .at) ≡ true) (ltb (sequenceAt d t) (newestOf d g ts .sequence))
+    (λ _. newest-counts d g ts)
+    (λ _ _. e))
+    (λ _. newest-counts d g ts)
+    q
+
 -- ---- copies of one sequence agree
 
 module _ (d : Disc) (g : Geometry) (p n t : ℕ) where
-  -- a copy that does not count
-  pub agrees-uncounted : counts d g t ≡ false → true ≡ agrees d g p n t
+  -- a copy of another sequence, whether it counts or not
+  pub agrees-other : (sequenceAt d t ≡ n → ⊥) → true ≡ agrees d g p n t
   unfolding agrees
-  agrees-uncounted e = rw e
+  agrees-other q = rw (ne-eqb (sequenceAt d t) n q) (go (counts d g t))
+    where
+      go : (b : Bool) → true ≡ cond b true true
+      go true = refl
+      go false = refl
 
-  -- one of another sequence
-  pub agrees-other : counts d g t ≡ true → (sequenceAt d t ≡ n → ⊥) → true ≡ agrees d g p n t
+  -- one with the same table, too
+  pub agrees-same : tableAt d p ≡ tableAt d t → true ≡ agrees d g p n t
   unfolding agrees
-  agrees-other e q = rw (e, ne-eqb (sequenceAt d t) n q)
+  agrees-same e = rw (same-equal (tableAt d t) (tableAt d p) (sym e)) (go (counts d g t) (eqb (sequenceAt d t) n))
+    where
+      go : (b c : Bool) → true ≡ cond b (cond c true true) true
+      go true true = refl
+      go true false = refl
+      go false c = refl
 
-  -- one of this sequence
-  pub agrees-same : (r : Bool) → counts d g t ≡ true → sequenceAt d t ≡ n → r ≡ same (tableAt d t) (tableAt d p) → r ≡ agrees d g p n t
+  -- one of this sequence with another table, where it does not count
+  pub agrees-uncounted : (r : Bool) → sequenceAt d t ≡ n → (tableAt d p ≡ tableAt d t → ⊥) → r ≡ counts d g t → not r ≡ agrees d g p n t
   unfolding agrees
-  agrees-same r e q s = rw (e, eq-eqb (sequenceAt d t) n q) s
+  agrees-uncounted r q s e =
+      rw (← e, eq-eqb (sequenceAt d t) n q, same-false (tableAt d t) (tableAt d p) (λ k. s (sym k))) (go r)
+    where
+      go : (b : Bool) → not b ≡ cond b false true
+      go true = refl
+      go false = refl
 
   agreeing-first : (ts : List ℕ) → agreeing d g p n (t ∷ ts) ≡ agrees d g p n t && agreeing d g p n ts
   unfolding agreeing agrees countingOf withSequence agree
@@ -251,6 +281,12 @@ module _ (d : Disc) (g : Geometry) (n : Newest) (is : n ≡ newestOf d g (g .tab
     found-on h =
         let q : newestOf d g (g .tables) .found ≡ true = ap (λ (m : Newest). m .found) (sym is) ∙ f in
         rw is (newest-on d g (g .tables) (g .sectors) h q)
+
+    -- and counts
+    pub found-counts : counts d g (n .at) ≡ true
+    found-counts =
+        let q : newestOf d g (g .tables) .found ≡ true = ap (λ (m : Newest). m .found) (sym is) ∙ f in
+        rw is (newest-counts d g (g .tables) q)
 
     -- the current copies are those of its sequence, of which it is the first
     current-is : withSequence d (n .sequence) (counting d g) ≡ current d g

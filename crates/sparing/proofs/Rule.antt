@@ -1,6 +1,6 @@
 -- Laws of the copy rule, an entry at a time (document 01, "The sparing table"). Assumes nothing.
 use Prim.Native.Nat.{ℕ, _+_, _*_, _%_, _≤_, _<_}
-use mathlib.Core.Path.{_≡_, refl, sym, ap, _∙_}
+use mathlib.Core.Path.{_≡_, refl, sym, ap, ap₂, _∙_}
 use mathlib.Core.List.{List, [], _∷_}
 use mathlib.Core.Bool.{Bool, true, false, _&&_}
 use native.Mathlib.Omega.{arith}
@@ -15,6 +15,7 @@ use Rattle.maps.proofs.Tests.{fails, holds}
 use Rattle.model.specs.Vat.{none}
 use Rattle.model.specs.Sparing.{Geometry, Entry, isFree, originalsFit, ascending, apartFrom, outside, mappedOf, mappedFit, sparingName, entries, entriesFit, countIn, tableIn, copyFits}
 use Rattle.model.specs.Both.{spareEntries}
+use Rattle.model.proofs.Basics.{and-false, and-false-left}
 use Rattle.model.proofs.SparingLaws.{table-count}
 use Rattle.sparing.specs.Entries.{entriesIn, originalFits, follows, placed}
 use Rattle.sparing.proofs.Entries.{sector-table, length-spares}
@@ -23,6 +24,11 @@ use Rattle.sparing.proofs.Entries.{sector-table, length-spares}
 and-assoc : (a b c : Bool) → (a && b) && c ≡ a && (b && c)
 and-assoc true b c = refl
 and-assoc false b c = refl
+
+-- a test, with none after it
+and-end : (a : Bool) → a ≡ a && true
+and-end true = refl
+and-end false = refl
 
 -- ---- an original
 
@@ -58,9 +64,10 @@ module _ (es : List Entry) (i : ℕ) (h : drop i es ≡ []) where
   unfolding originalsFit
   originals-end l = sym (ap (originalsFit l) h)
 
-  pub absent-end : (m : ℕ) → true ≡ absent m (mappedOf (drop i es))
+  -- what was found is the whole answer
+  pub absent-end : (m : ℕ) (a whole : Bool) → a && absent m (mappedOf (drop i es)) ≡ whole → a ≡ whole
   unfolding absent mappedOf
-  absent-end m = sym (ap (λ (x : List Entry). absent m (mappedOf x)) h)
+  absent-end m a whole w = and-end a ∙ ap (λ (x : List Entry). a && absent m (mappedOf x)) (sym h) ∙ w
 
   pub mapped-end : (g : Geometry) → true ≡ mappedFit g (drop i es)
   unfolding mappedFit
@@ -89,15 +96,21 @@ module _ (es : List Entry) (i : ℕ) (e : Entry) (h : drop i es ≡ e ∷ drop (
   unfolding originalsFit originalFits isFree
   originals-next l o s q = sym (ap (originalsFit l) h ∙ rw (← s, q))
 
-  -- it is mapped to m
-  pub absent-found : (m : ℕ) → m ≡ e .mapped → false ≡ absent m (mappedOf (drop i es))
-  unfolding absent mappedOf
-  absent-found m q = sym (ap (λ (x : List Entry). absent m (mappedOf x)) h ∙ rw (eq-eqb m (e .mapped) q))
+  -- whether a holds and none of the entries left is mapped to m
+  module _ (m : ℕ) (a a′ whole : Bool) (w : a && absent m (mappedOf (drop i es)) ≡ whole) where
+    -- it is mapped to m
+    pub absent-found : m ≡ e .mapped → a′ ≡ false → a′ && absent m (mappedOf (drop (i + 1) es)) ≡ whole
+    unfolding absent mappedOf
+    absent-found q r =
+        and-false-left _ r
+        ∙ sym (and-false a (ap (λ (x : List Entry). absent m (mappedOf x)) h ∙ rw (eq-eqb m (e .mapped) q)))
+        ∙ w
 
-  -- it is not
-  pub absent-next : (m : ℕ) → (m ≡ e .mapped → ⊥) → absent m (mappedOf (drop (i + 1) es)) ≡ absent m (mappedOf (drop i es))
-  unfolding absent mappedOf
-  absent-next m q = sym (ap (λ (x : List Entry). absent m (mappedOf x)) h ∙ rw (ne-eqb m (e .mapped) q))
+    -- it is not
+    pub absent-next : (m ≡ e .mapped → ⊥) → a′ ≡ a → a′ && absent m (mappedOf (drop (i + 1) es)) ≡ whole
+    unfolding absent mappedOf
+    absent-next q r =
+        ap₂ _&&_ r (sym (ap (λ (x : List Entry). absent m (mappedOf x)) h ∙ rw (ne-eqb m (e .mapped) q))) ∙ w
 
   -- the rule for it, its place first
   grouped : (g : Geometry) (m : ℕ) → m ≡ e .mapped → mappedFit g (drop i es) ≡ placed g m && (absent m (mappedOf (drop (i + 1) es)) && mappedFit g (drop (i + 1) es))

@@ -5,6 +5,7 @@
 use refusal::Refusal;
 use refusal::Verdict;
 ghost use mathlib.Core.Path.{_≡_};
+ghost use mathlib.Core.Bool.{true};
 ghost use mathlib.Core.List.{List};
 ghost use Prim.Native.Nat.{ℕ, _+_, _*_, _≤_, _<_};
 ghost use lib.ListN.{length, drop};
@@ -241,14 +242,15 @@ fn is_absent(b: &[u8], from: usize, n: usize, m: u32) -> bool
     requires { ⌜ 56 + 8 * n ≤ length (now b) ⌝ }
     ensures { λ r. ⌜ r ≡ absent m (mappedOf (drop from (entriesIn (now (b .entry)) n))) ⌝ }
 {
+    let mut none = true;
     let mut i = from;
     while i < n {
         if m == mapped_at(b, i) {
-            return false;
+            none = false;
         }
         i += 1;
     }
-    true
+    none
 }
 
 // Whether the mapped starts of `n` entries may be spares, and none stands twice.
@@ -347,18 +349,19 @@ fn same_table(disc: &[u8], t: u32, other: u32) -> bool
     fields::same_bytes(&disc[a..end_a], &disc[b..end_b])
 }
 
-// The newest of copies of which the first is at sector `t`, and `newest` is the newest of the others.
+// The newest of copies of which the first is at sector `t`, and `newest` is the newest of the others. Whether
+// an older one counts is not asked.
 fn newer_copy(disc: &[u8], marks: &[u8], x: Layout, t: u32, newest: Newest) -> Newest
     requires { ⌜ (x .count ≤ 4) × (x .size ≤ 2048) ⌝ }
     requires { ⌜ length (now disc) ≡ 2048 * length (now marks) ⌝ }
     requires { ⌜ t < length (now marks) ⌝ }
     ensures { λ r. ⌜ r ≡ newerOf (discOf (now (disc .entry)) (now (marks .entry))) (geometryIn x) t newest ⌝ }
 {
-    if !copy_counts(disc, marks, x, t) {
-        return newest;
-    }
     let sequence = sequence_at(disc, t);
     if sequence < newest.sequence {
+        return newest;
+    }
+    if !copy_counts(disc, marks, x, t) {
         return newest;
     }
     Newest {
@@ -389,28 +392,34 @@ fn newest_copy(disc: &[u8], marks: &[u8], x: Layout) -> Newest
     newest
 }
 
-// Whether the copy at sector `t` does not count, is of another sequence, or has the table of that at `at`.
+// Whether the copy at sector `t` does not count, is of another sequence, or has the table of that at `at`,
+// which counts. Whether it counts is asked last, so that copies that agree are not tested again.
 fn copy_agrees(disc: &[u8], marks: &[u8], x: Layout, t: u32, at: u32, sequence: u32) -> bool
     requires { ⌜ (x .count ≤ 4) × (x .size ≤ 2048) ⌝ }
     requires { ⌜ length (now disc) ≡ 2048 * length (now marks) ⌝ }
     requires { ⌜ (t < length (now marks)) × (at < length (now marks)) ⌝ }
+    requires { ⌜ counts (discOf (now disc) (now marks)) (geometryIn x) at ≡ true ⌝ }
     ensures { λ r. ⌜ r ≡ agrees (discOf (now (disc .entry)) (now (marks .entry))) (geometryIn x) at sequence t ⌝ }
 {
-    if !copy_counts(disc, marks, x, t) {
+    if t == at {
         return true;
     }
     if sequence_at(disc, t) != sequence {
         return true;
     }
-    same_table(disc, t, at)
+    if same_table(disc, at, t) {
+        return true;
+    }
+    !copy_counts(disc, marks, x, t)
 }
 
-// Whether every copy that counts and is of this sequence has the table of the copy at `at`.
+// Whether every copy that counts and is of this sequence has the table of the copy at `at`, which counts.
 fn copies_agree(disc: &[u8], marks: &[u8], x: Layout, at: u32, sequence: u32) -> bool
     requires { ⌜ (x .count ≤ 4) × (x .size ≤ 2048) ⌝ }
     requires { ⌜ length (now disc) ≡ 2048 * length (now marks) ⌝ }
     requires { ⌜ (x .sectors ≡ length (now marks)) × TablesOn x ⌝ }
     requires { ⌜ at < length (now marks) ⌝ }
+    requires { ⌜ counts (discOf (now disc) (now marks)) (geometryIn x) at ≡ true ⌝ }
     ensures { λ r. ⌜ r ≡ agreeing (discOf (now (disc .entry)) (now (marks .entry))) (geometryIn x) at sequence (geometryIn x .tables) ⌝ }
 {
     let tables = x.tables;
@@ -468,14 +477,15 @@ pub fn find_current(disc: &[u8], marks: &[u8], x: Layout) -> Current
 fn is_absent_spare(spares: &[u32], from: usize, m: u32) -> bool
     ensures { λ r. ⌜ r ≡ absent m (mappedOf (drop from (spareEntries (now (spares .entry))))) ⌝ }
 {
+    let mut none = true;
     let mut i = from;
     while i < spares.len() {
         if m == spares[i] {
-            return false;
+            none = false;
         }
         i += 1;
     }
-    true
+    none
 }
 
 // Whether each of a list of packets may be a spare, and none stands twice.

@@ -1,10 +1,13 @@
--- `examine::are_below` meets its contract. The loop's invariant: the entries from i on are below exactly if all are. The measure is the
--- entries left. Assumes nothing.
-use Prim.Native.Nat.{_-_}
+-- `examine::are_below` meets its contract. The loop's invariant: that none was counted and that the entries left are below are together
+-- the whole. The measure is the entries left. Assumes nothing.
+use Prim.Native.Nat.{_-_, _≤_}
+use mathlib.Core.Bool.{_&&_}
 use mathlib.Core.Logic.{⊎-elim}
-use mathlib.Core.Path.{_≡_, _∙_}
+use mathlib.Core.Path.{_≡_, ap}
 use native.Mathlib.Omega.{arith}
 use borrow.Author.Needs.{scaled-fits}
+use borrow.Author.Tests.{ne-eqb}
+use lib.Dec.{eqb}
 use lib.ListN.{length, take, drop}
 use Rattle.model.specs.Vat.{allBelow}
 use Rattle.examine.proofs.Laws.{below-all, below-stop, below-unused, below-next, below-none}
@@ -12,13 +15,14 @@ use Rattle.examine.proofs.are_below.Statement.{statement}
 use Rattle.examine.proofs.are_below.Tie as tie
 
 abbrev Inv-loop : tie.InvT-loop
-Inv-loop table n next i₀ i = allBelow next (take (n - i) (drop i table)) ≡ allBelow next (take n table)
+Inv-loop table n next over₀ i₀ over i =
+    (over ≤ i) × (eqb over 0 && allBelow next (take (n - i) (drop i table)) ≡ allBelow next (take n table))
 
 abbrev μ-loop : tie.MeasureT-loop
-μ-loop table n next i₀ i = n - i
+μ-loop table n next over₀ i₀ over i = n - i
 
 loop-holds : tie.Need-loop-holds Inv-loop μ-loop
-loop-holds c = below-all _ (c .args .n) (c .args .table .now)
+loop-holds c = (omega arith, below-all _ (c .args .n) (c .args .table .now))
 
 mul-entry : tie.Need-mul-entry Inv-loop μ-loop
 mul-entry c = scaled-fits _ (length (c .before .before .args .table .now)) 4 (omega arith) (c .before .before .good .0 .1)
@@ -26,10 +30,8 @@ mul-entry c = scaled-fits _ (length (c .before .before .args .table .now)) 4 (om
 shared-slice-read-entry : tie.Need-shared-slice-read-entry Inv-loop μ-loop
 shared-slice-read-entry c = omega arith
 
-returns : tie.Need-returns Inv-loop μ-loop
-returns c =
-    let b = c .before .before .before in
-    below-stop (b .before .before .args .next) _ _ _ (b .loop-test .taken) (omega arith) (c .before .if1 .taken) (omega arith) ∙ b .before .loop .inv
+add-over : tie.Need-add-over Inv-loop μ-loop
+add-over c = omega arith
 
 add-i : tie.Need-add-i Inv-loop μ-loop
 add-i c = omega arith
@@ -39,14 +41,24 @@ loop-less c = omega arith
 
 loop-again : tie.Need-loop-again Inv-loop μ-loop
 loop-again c =
-    let b = c .before .before in
+    let more = c .before .before .loop-test .taken in
+    let l = c .before .before .before .loop in
+    let w = l .inv .1 in
     ⊎-elim
-    (λ w. below-next _ _ _ _ (b .loop-test .taken) (omega arith) (w .0 .taken) (w .1 .left) ∙ b .before .loop .inv)
-    (λ w. below-unused _ _ _ _ (b .loop-test .taken) (omega arith) (w .left) ∙ b .before .loop .inv)
+    (λ x. (
+      omega (arith, x .2),
+      below-stop _ _ _ _ (eqb (l .over) 0) _ w more (omega arith) (x .0 .taken) (omega (arith, x .1 .taken)) (ne-eqb (c .if1 .over) 0 (omega (arith, x .2))),
+    ))
+    (⊎-elim
+    (λ x. (
+      omega (arith, x .2),
+      below-next _ _ _ _ (eqb (l .over) 0) _ w more (omega arith) (x .0 .taken) (omega (arith, x .1 .left)) (ap (λ k. eqb k 0) (x .2)),
+    ))
+    λ x. (omega (arith, x .1), below-unused _ _ _ _ (eqb (l .over) 0) _ w more (omega arith) (x .0 .left) (ap (λ k. eqb k 0) (x .1))))
     (c .if1 .came)
 
-returns-2 : tie.Need-returns-2 Inv-loop μ-loop
-returns-2 c = below-none _ _ _ _ (c .loop-test .left) ∙ c .before .loop .inv
+returns : tie.Need-returns Inv-loop μ-loop
+returns c = below-none _ _ _ _ _ (c .before .loop .inv .1) (c .loop-test .left)
 
 pub are-below-spec : {M : Type 1} → statement M
 are-below-spec =
@@ -57,8 +69,8 @@ are-below-spec =
     loop-holds
     mul-entry
     shared-slice-read-entry
-    returns
+    add-over
     add-i
     loop-less
     loop-again
-    returns-2)
+    returns)

@@ -34,7 +34,7 @@ copy-agrees-requires : tie.Need-copy-agrees-requires Inv-loop μ-loop
 copy-agrees-requires c κs =
     let s = c .before .before .before .before .before .before in
     let i = c .before .loop .i in
-    (s .pre .0, (s .pre .1 .0, (omega (arith, s .pre .1 .1 .0 .1 i (omega arith)), s .pre .1 .1 .1)))
+    (s .pre .0, (s .pre .1 .0, ((omega (arith, s .pre .1 .1 .0 .1 i (omega arith)), s .pre .1 .1 .1 .0), s .pre .1 .1 .1 .1)))
 
 -- at most four tables are used
 few : (c : tie.After-wide8 Inv-loop μ-loop) → c .wide8 .result ≤ length (c .before .before .before .before .args .x .tables)

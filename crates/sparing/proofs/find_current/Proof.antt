@@ -5,7 +5,7 @@ use native.Mathlib.Omega.{arith}
 use borrow.Author.Needs.{needs}
 use borrow.Author.Tests.{not-true, not-false}
 use Rattle.sparing.proofs.Places.{tables-below}
-use Rattle.sparing.proofs.Copies.{none-found, found-on, differ-found, current-found}
+use Rattle.sparing.proofs.Copies.{none-found, found-on, found-counts, differ-found, current-found}
 use Rattle.sparing.proofs.find_current.Statement.{statement}
 use Rattle.sparing.proofs.find_current.Tie as tie
 
@@ -27,7 +27,7 @@ on c =
 copies-agree-requires : tie.Need-copies-agree-requires
 copies-agree-requires c κs =
     let s = c .before .before .before .before in
-    (s .pre .0, (s .pre .1 .0, (s .pre .1 .1, omega (arith, on c))))
+    (s .pre .0, (s .pre .1 .0, (s .pre .1 .1, (omega (arith, on c), found-counts _ _ _ (c .before .newest-copy .ensures) (not-false _ (c .if1 .left))))))
 
 no-current-requires-2 : tie.Need-no-current-requires-2
 no-current-requires-2 c κs = search needs
