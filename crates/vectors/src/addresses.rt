@@ -7,7 +7,7 @@ use address::ToPhysical;
 use address::VirtualAddress;
 use refusal::Refusal;
 
-fn say_refusal(why: Refusal) {
+pub fn say_refusal(why: Refusal) {
     say::word(b"refused");
     say::decimal(refusal::number(why) as u64);
 }

@@ -3,6 +3,7 @@
 mod addresses;
 mod crcs;
 mod damaged;
+mod files;
 mod lists;
 mod numbers;
 mod tags;
@@ -16,4 +17,5 @@ fn main() {
     damaged::run();
     unwritten::run();
     addresses::run();
+    files::run();
 }
