@@ -24,9 +24,9 @@ use Rattle.model.specs.Once.{nextOn, newestFile, openOnceTests, foundRecord, pa
 use Rattle.model.specs.Rewrite.{tableOn, copyTests, currentRecord, heldCurrent, rewritableVerdict, placeOf, blockTest, copiesTo}
 use Rattle.model.specs.Both.{openVerdict, recordOn, numbersOn, passedOn, openedBy, filledBy, opening, openedTable, entrySector, sectorOf, readOnceTests, readRewritableTests, readLent, readVerdict, givenBy, blockBy, reading, readBytes, spareEntries, makeTests, makeVerdict, makeWrites, madeBy, made}
 use Rattle.write_once.specs.Calls.{openOnceVerdict, openingOnce, openedOnce, readOnceVerdict, readingOnce, readOnceBytes}
-use Rattle.recording.specs.Making.{makeOnceVerdict, madeOnce}
+use Rattle.making.specs.WriteOnce.{makeOnceVerdict, madeOnce}
 use Rattle.rewritable.specs.Calls.{openRewritableVerdict, openingRewritable, openedRewritable, readBlockVerdict, readingBlock, readBlockBytes}
-use Rattle.rewriting.specs.Making.{makeRewritableVerdict, rewritableWrites, madeRewritable}
+use Rattle.making.specs.Rewritable.{makeRewritableVerdict, rewritableWrites, madeRewritable}
 
 -- ---- which kind it is; r is what reading the map list gave
 

@@ -21,11 +21,17 @@ ghost use Rattle.model.specs.Rewrite.{saveBlockPlan, savePacketPlan, sparePlan}
 ghost use Rattle.model.specs.Both.{opening, openedTable, reading, readBytes, makeVerdict, made};
 ghost use Rattle.write_once.specs.Calls.{fullnessOf};
 
+// The bytes of a rewritable volume's map list.
+const REWRITABLE: usize = 64;
+
 // Whether the map list is of a write-once volume. One that is refused counts as such: each half refuses it
-// with the same line.
+// with the same line. The length tells a write-once list at once.
 fn is_write_once(maps: &[u8]) -> bool
     ensures { λ r. ⌜ ((s l : ℕ) → r ≡ writeOnce (setting (now (maps .entry)) s l)) ⌝ }
 {
+    if maps.len() != REWRITABLE {
+        return true;
+    }
     let read = maps::read_maps(maps);
     let volume = read.volume;
     let kind = volume.kind;
@@ -87,9 +93,9 @@ pub fn make(
     ensures { λ _. ⌜ (discOf (now (disc .exit)) (now (marks .exit))) ≡ made (setting (now (maps .entry)) s l) (discOf (now (disc .entry)) (now (marks .entry))) (now (spares .entry)) ⌝ }
 {
     if is_write_once(maps) {
-        return recording::make_write_once(disc, marks, maps, s, l);
+        return making::make_write_once(disc, marks, maps, s, l);
     }
-    rewriting::make_rewritable(disc, marks, maps, s, l, spares)
+    making::make_rewritable(disc, marks, maps, s, l, spares)
 }
 
 // ---- write-once discs
@@ -141,7 +147,7 @@ pub fn commit(
 ) -> Reply
     ensures { λ r. ⌜ Meets (commitPlan (setting (now (maps .entry)) s l) (discOf (now (disc .entry)) (now (marks .entry))) (now (table .entry)) held) cut (discOf (now (disc .entry)) (now (marks .entry))) (now (table .entry)) r (discOf (now (disc .exit)) (now (marks .exit))) (now (table .entry)) ⌝ }
 {
-    recording::commit(disc, marks, maps, s, l, table, held, cut)
+    committing::commit(disc, marks, maps, s, l, table, held, cut)
 }
 
 // How full the partition is, in per mille.
@@ -212,5 +218,5 @@ pub fn spare_packet(
 ) -> Reply
     ensures { λ r. ⌜ Meets (sparePlan (setting (now (maps .entry)) s l) (discOf (now (disc .entry)) (now (marks .entry))) (now (table .entry)) held b (now (packet .entry))) cut (discOf (now (disc .entry)) (now (marks .entry))) (now (table .entry)) r (discOf (now (disc .exit)) (now (marks .exit))) (now (table .exit)) ⌝ }
 {
-    rewriting::spare_packet(disc, marks, maps, s, l, table, held, b, packet, cut)
+    spare::spare_packet(disc, marks, maps, s, l, table, held, b, packet, cut)
 }

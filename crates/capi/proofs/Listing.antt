@@ -20,7 +20,8 @@ use Rattle.maps.specs.declared.Kind.the-variants.{WriteOnce, Rewritable}
 use Rattle.maps.specs.declared.Volume.{Volume}
 use Rattle.maps.specs.declared.MapsRead.{MapsRead}
 use Rattle.maps.specs.Kinds.{readMaps, volumeWith, tablesInRange}
-use Rattle.maps.specs.Written.{writeTests, writeVerdict, writtenOr, kindInRange, mapBytes}
+use Rattle.maps.specs.Written.{kindInRange}
+use Rattle.maps_written.specs.Writing.{writeTests, writeVerdict, writtenOr, mapBytes}
 use Rattle.model.proofs.Basics.{cond-elim}
 use Rattle.vat_file.specs.File.{lookedUp}
 use Rattle.numbers.specs.Numbers.{verdictNumber}

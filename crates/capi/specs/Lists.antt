@@ -15,7 +15,7 @@ use Rattle.maps.specs.declared.Kind.{Kind}
 use Rattle.maps.specs.declared.Kind.the-variants.{WriteOnce, Rewritable}
 use Rattle.maps.specs.declared.Volume.{Volume}
 use Rattle.maps.specs.Kinds.{readMaps, volumeWith}
-use Rattle.maps.specs.Written.{writeVerdict}
+use Rattle.maps_written.specs.Writing.{writeVerdict}
 use Rattle.vat_file.specs.File.{lookedUp}
 
 -- ---- a map list read: kind (0 write-once, 1 rewritable), partition number, number of tables, bytes of each, four table sectors

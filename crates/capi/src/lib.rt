@@ -18,7 +18,7 @@ ghost use Prim.Native.Nat.{ℕ};
 ghost use lib.ListN.{length, getD};
 ghost use lib.Dec.{ltb};
 ghost use Rattle.maps.specs.Kinds.{readMaps};
-ghost use Rattle.maps.specs.Written.{writtenOr};
+ghost use Rattle.maps_written.specs.Writing.{writtenOr};
 ghost use Rattle.model.specs.Disc.{disc as discOf};
 ghost use Rattle.model.specs.Examine.{setting};
 ghost use Rattle.model.specs.Once.{savePlan, freePlan, commitPlan};
@@ -393,7 +393,7 @@ fn write_rewritable(partition: u16, size: u32, tables: &[u32], out: &mut [u8]) -
         },
         tables: [a, b, c, d],
     };
-    numbers::number_of_verdict(maps::write_maps(volume, out))
+    numbers::number_of_verdict(maps_written::write_maps(volume, out))
 }
 
 // Writes the map list of a write-once volume.
@@ -407,7 +407,7 @@ fn write_once_maps(partition: u16, out: &mut [u8]) -> u32
         kind: Kind::WriteOnce { partition },
         tables: [0; 4],
     };
-    numbers::number_of_verdict(maps::write_maps(volume, out))
+    numbers::number_of_verdict(maps_written::write_maps(volume, out))
 }
 
 // Writes a map list.

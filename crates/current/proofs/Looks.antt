@@ -14,7 +14,7 @@ use Rattle.maps.specs.declared.Kind.the-variants.{WriteOnce, Rewritable}
 use Rattle.maps.specs.declared.Volume.{Volume}
 use Rattle.maps.proofs.Laws.{read-fine}
 use Rattle.model.specs.declared.Record.{Record}
-use Rattle.model.specs.Disc.{Disc, disc, sector}
+use Rattle.model.specs.Disc.{Disc, sector}
 use Rattle.model.specs.Sparing.{Geometry, entries, countIn, tableAt}
 use Rattle.model.specs.Examine.{Setting, volume, writeOnce, geometry, allOutside}
 use Rattle.model.specs.Rewrite.{tableOn, entriesOn, sequenceOn, countOn, copyTests, heldCurrent, rewritableVerdict}
@@ -23,9 +23,9 @@ use Rattle.model.proofs.Verdicts.{stop-test, next-test}
 use Rattle.model.proofs.Ground.{Ground, ground}
 use Rattle.model.proofs.SparingLaws.{table-count}
 use Rattle.sparing.specs.declared.Layout.{Layout}
-use Rattle.sparing.specs.declared.Current.{Current}
+use Rattle.copies.specs.declared.Current.{Current}
 use Rattle.sparing.specs.Layout.{geometryIn, TablesOn}
-use Rattle.sparing.specs.Copies.{FoundCurrent}
+use Rattle.copies.specs.Copies.{FoundCurrent}
 use Rattle.sparing.proofs.Laws.{tables-on}
 use Rattle.examine.specs.declared.Examined.{Examined}
 use Rattle.examine.specs.Ground.{groundOf, examinedOf}
@@ -50,6 +50,7 @@ module _ (e : Setting) (d : Disc) (lent : Bool) where
         layout = λ g. stop-go s g;
         copies = λ g. stop-go s g;
         place = λ g. stop-go s g;
+        counted = λ g. stop-go s g;
         table = λ g. stop-go s g;
         sequence = λ g. stop-go s g;
         count = λ g. stop-go s g;
@@ -123,6 +124,7 @@ module _ (e : Setting) (d : Disc) (lent : Bool) where
               layout = λ _. geometry-is;
               copies = λ _. count ∙ sym copies ∙ ap (λ (y : Geometry). length (y .tables)) geometry-is;
               place = g .place;
+              counted = g .counted;
               table = g .table;
               sequence = g .sequence;
               count = g .count;
@@ -139,7 +141,14 @@ look-count e d lent {x} s h =
 module _ (e : Setting) (d : Disc) (t : List ℕ) (lent : Bool) (held : Record) {x : Looked} (s : Sees e d lent x) where
   -- what a call is judged to be where a line turns it down
   judge-stopped : {r : Judged} {why : Refusal} → r .verdict ≡ Stop why → rewritableVerdict e d t lent held [] ≡ Stop why → Judges e d t lent held r
-  judge-stopped k h = record { verdict = k ∙ sym h; layout = λ g. stop-go k g; copies = λ g. stop-go k g }
+  judge-stopped k h =
+      record {
+        verdict = k ∙ sym h;
+        layout = λ g. stop-go k g;
+        copies = λ g. stop-go k g;
+        place = λ g. stop-go k g;
+        counted = λ g. stop-go k g;
+      }
 
   -- lines 1 to 8 and 10
   pub judge-looked : {r : Judged} {why : Refusal} → x .verdict ≡ Stop why → r .verdict ≡ Stop why → Judges e d t lent held r
@@ -161,6 +170,12 @@ module _ (e : Setting) (d : Disc) (t : List ℕ) (lent : Bool) (held : Record) {
       judge-stale f k = judge-stopped k (line-eleven ∙ stop-test StaleRecord [] (sym q ∙ f))
 
       -- none of the lines
-      pub judge-fits : b ≡ true → Judges e d t lent held (record { verdict = Go; layout = x .layout })
+      pub judge-fits : b ≡ true → Judges e d t lent held (record { verdict = Go; layout = x .layout; at = x .at })
       judge-fits f =
-          record { verdict = sym (line-eleven ∙ next-test StaleRecord [] (sym q ∙ f)); layout = λ _. s .layout h; copies = λ _. s .copies h }
+          record {
+            verdict = sym (line-eleven ∙ next-test StaleRecord [] (sym q ∙ f));
+            layout = λ _. s .layout h;
+            copies = λ _. s .copies h;
+            place = λ _. s .place h;
+            counted = λ _. s .counted h;
+          }

@@ -36,10 +36,12 @@ pub struct Looked {
     pub entries: u32,
 }
 
-// What a call is judged to be: a verdict, and where it says Go the layout.
+// What a call is judged to be: a verdict, and where it says Go the layout and the sector of a current copy of
+// the sparing table.
 pub struct Judged {
     pub verdict: Verdict,
     pub layout: Layout,
+    pub at: u32,
 }
 
 // What a rewritable volume lies in.
@@ -97,7 +99,7 @@ pub fn look(disc: &[u8], marks: &[u8], maps: &[u8], s: u32, l: u32, lent: bool) 
             size,
         } => {
             let layout = layout_of(s, l, marks.len(), tables, n, size);
-            let found = sparing::find_current(disc, marks, layout);
+            let found = copies::find_current(disc, marks, layout);
             let current = found.verdict;
             Looked {
                 verdict: current,
@@ -169,6 +171,7 @@ pub fn judge(
         return Judged {
             verdict: Verdict::Stop(why),
             layout,
+            at: 0,
         };
     }
     if !is_current(
@@ -182,11 +185,13 @@ pub fn judge(
         return Judged {
             verdict: Verdict::Stop(Refusal::StaleRecord),
             layout,
+            at: 0,
         };
     }
     Judged {
         verdict: Verdict::Go,
         layout,
+        at: looked.at,
     }
 }
 

@@ -273,7 +273,7 @@ fn write_once(list: &mut [u8]) {
         kind: Kind::WriteOnce { partition: 7 },
         tables: [0; 4],
     };
-    maps::write_maps(volume, list);
+    maps_written::write_maps(volume, list);
 }
 
 fn rewritable(list: &mut [u8], words: &[u8]) {
@@ -296,7 +296,7 @@ fn rewritable(list: &mut [u8], words: &[u8]) {
     if list.len() < 64 {
         return;
     }
-    maps::write_maps(volume, &mut list[0..64]);
+    maps_written::write_maps(volume, &mut list[0..64]);
 }
 
 // blocks BYTE: a packet whose first block has this byte in every place, the next one the next byte, and so on.

@@ -193,8 +193,8 @@ fn stopped(why: Refusal) -> Examined
 pub fn examine(disc: &[u8], marks: &[u8], maps: &[u8], s: u32, l: u32, lent: bool) -> Examined
     ensures { λ r. ⌜ r ≡ examinedOf (setting (now (maps .entry)) s l) (discOf (now (disc .entry)) (now (marks .entry))) lent ⌝ }
 {
-    let shapely = disc::is_shapely(disc, marks);
-    let inside = disc::is_inside(marks, s, l);
+    let shapely = marks::is_shapely(disc, marks);
+    let inside = marks::is_inside(marks, s, l);
     if !shapely {
         return stopped(Refusal::DiscShape);
     }
@@ -261,7 +261,7 @@ fn is_held(marks: &[u8], s: u32, l: u32, table: &[u32], held: Record) -> bool
             if next <= last {
                 return false;
             }
-            if !disc::is_next(marks, s, l, next) {
+            if !marks::is_next(marks, s, l, next) {
                 return false;
             }
             are_below(table, entries, next)

@@ -528,6 +528,11 @@ same-false a b n = not-so (same a b) (λ e. n (same-true a b e))
 pub same-false-of-difference : (a b : List ℕ) (i : ℕ) → (getD a i 0 ≡ getD b i 0 → ⊥) → same a b ≡ false
 same-false-of-difference a b i n = same-false a b (λ e. n (ap (λ (l : List ℕ). getD l i 0) e))
 
+-- what tells whether two lists are equal
+pub same-told : (t : Bool) (a b : List ℕ) → (t ≡ true → a ≡ b) → (t ≡ false → same a b ≡ false) → t ≡ same a b
+same-told true a b f g = sym (same-equal a b (f refl))
+same-told false a b f g = sym (g refl)
+
 -- lists of other lengths are not the same
 pub same-false-of-length : (a b : List ℕ) → (length a ≡ length b → ⊥) → same a b ≡ false
 same-false-of-length a b n = same-false a b (λ e. n (ap (λ (l : List ℕ). length l) e))

@@ -168,19 +168,20 @@ pub fn clear(s: &mut [u8])
     }
 }
 
-// Whether two runs of bytes are the same, lengths and all.
+// Whether two runs of bytes are the same, lengths and all. It looks at each byte, with no early way out.
 pub fn same_bytes(a: &[u8], b: &[u8]) -> bool
     ensures { λ r. ⌜ r ≡ same (now (a .entry)) (now (b .entry)) ⌝ }
 {
     if a.len() != b.len() {
         return false;
     }
+    let mut alike = true;
     let mut i: usize = 0;
     while i < a.len() {
         if a[i] != b[i] {
-            return false;
+            alike = false;
         }
         i += 1;
     }
-    true
+    alike
 }

@@ -2,5 +2,4 @@ pub mod Tests
 pub mod Walk
 pub mod Tables
 pub mod Reading
-pub mod Writing
 pub mod Laws

@@ -14,10 +14,11 @@ use Rattle.refusal.specs.Tests.{first, need}
 use Rattle.fields.specs.Number.{field}
 use Rattle.fields.proofs.Laws.{field-take}
 use Rattle.maps.specs.declared.Kind.the-variants.{WriteOnce, Rewritable}
+use Rattle.maps.specs.declared.MapsRead.{MapsRead}
 use Rattle.maps.specs.Walk.{Walked, short, maps, firstLength, walk}
 use Rattle.maps.specs.Kinds.{virtualName, sparableName, typeOne, typeTwo, words, tablesInRange, isWriteOnce, isRewritable, used, volumeWith, noVolume, volumeOf, tablesApart, tablesIn, tablesOf, kindTests, judged, answered, volumeIn, readMaps}
 use Rattle.maps.specs.Told.{isCut, onMaps, oneTypeTwo}
-use Rattle.maps.proofs.Tests.{both, together, alike}
+use Rattle.maps.proofs.Tests.{both, together, alike, by-test}
 use Rattle.maps.proofs.Walk.{whole, walked-first, walked-one, walk-more, walk-one}
 use Rattle.maps.proofs.Tables.{few-tables}
 
@@ -214,3 +215,17 @@ module _ (s : List ℕ) (m : RewritableMap s) where
   pub read-rewritable : tablesApart (take (getD s 42 0) (used (getD s 42 0) (words s 48 4))) ≡ true → answered Go (volumeWith (Rewritable (field s 38 2) (getD s 42 0) (field s 44 4)) (used (getD s 42 0) (words s 48 4))) ≡ readMaps s
   unfolding kindTests need tablesOf tablesIn volumeOf volumeWith
   read-rewritable a = sym (simp (told-rewritable, a)) ∙ by-maps s (s ∷ []) (m .walked)
+
+-- a list of another length than a rewritable one's is write-once, or refused
+pub read-other-length : {C : Type 0} (s : List ℕ) → (length s ≡ 64 → ⊥) → ((p : ℕ) → readMaps s .volume .kind ≡ WriteOnce p → C) → C
+unfolding answered noVolume volumeWith
+read-other-length s n f =
+    by-test (isCut (walk s))
+    (λ q. f 0 (ap (λ (m : MapsRead). m .volume .kind) (sym (read-cut s q))))
+    (λ q.
+    by-test (onMaps isWriteOnce (walk s))
+    (λ w. f (field (drop 6 s) 38 2) (ap (λ (m : MapsRead). m .volume .kind) (sym (read-write-once s (write-once-maps s w)))))
+    (λ w.
+    by-test (onMaps isRewritable (walk s))
+    (λ r. absurd (n (rewritable-map s r .long)))
+    (λ r. f 0 (ap (λ (m : MapsRead). m .volume .kind) (sym (read-neither s q w r))))))

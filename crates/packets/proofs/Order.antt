@@ -5,7 +5,7 @@ use mathlib.Core.Bool.{Bool, true, false, cond, not, _&&_, _||_}
 use mathlib.Core.List.{List, [], _∷_, _++_, append-assoc, append-nil}
 use native.Mathlib.Omega.{arith}
 use native.Mathlib.Numerals.{add-one}
-use borrow.Author.Tests.{eq-eqb, eqb-true}
+use borrow.Author.Tests.{eq-eqb, ne-eqb, eqb-true}
 use lib.Dec.{eqb}
 use lib.ListN.{length, getD, set, take, drop, length-append, length-set}
 use lib.Seq.{take-suc-set, getD-take}
@@ -14,22 +14,22 @@ use Rattle.model.specs.Sparing.{Geometry, counts, countingOf, counting, sequenc
 use Rattle.model.specs.Examine.{Setting, geometry}
 use Rattle.model.specs.Rewrite.{notIn, stale, copyOrder, sequenceOn}
 use Rattle.model.proofs.Basics.{cond-elim, and-false, or-right}
-use Rattle.maps.proofs.Tests.{fails, holds}
 use Rattle.sparing.proofs.Places.{table-step, table-end}
+use Rattle.sparing.proofs.Rule.{and-end}
 use Rattle.packets.specs.Order.{isOf, asWanted, chosen, copiesOf, orderOf}
 
 -- ---- one copy
 
 module _ (d : Disc) (g : Geometry) (n t : ℕ) where
-  -- a copy that does not count is of no sequence
-  pub is-of-none : counts d g t ≡ false → false ≡ isOf d g n t
+  -- a copy of another sequence is not of this one
+  pub is-of-other : (sequenceAt d t ≡ n → ⊥) → false ≡ isOf d g n t
   unfolding isOf
-  is-of-none e = fails _ e
+  is-of-other h = sym (and-false (counts d g t) (ne-eqb (sequenceAt d t) n h))
 
-  -- one that counts is of its own
-  pub is-of-own : (s : ℕ) → counts d g t ≡ true → s ≡ sequenceAt d t → eqb s n ≡ isOf d g n t
+  -- one of its own is where it counts
+  pub is-of-own : (r : Bool) → sequenceAt d t ≡ n → r ≡ counts d g t → r ≡ isOf d g n t
   unfolding isOf
-  is-of-own s e q = holds e (ap (λ (k : ℕ). eqb k n) q)
+  is-of-own r e q = q ∙ and-end (counts d g t) ∙ ap (λ (b : Bool). counts d g t && b) (sym (eq-eqb (sequenceAt d t) n e))
 
   -- that it is so is wanted,
   pub wanted-so : (w r : Bool) → w ≡ true → r ≡ isOf d g n t → r ≡ asWanted d g n w t

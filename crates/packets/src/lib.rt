@@ -6,13 +6,14 @@
 use model::Cut;
 use sparing::Layout;
 ghost use mathlib.Core.Path.{_≡_};
-ghost use mathlib.Core.Bool.{cond};
+ghost use mathlib.Core.Bool.{true, cond};
 ghost use mathlib.Core.List.{_++_};
 ghost use Prim.Native.Nat.{ℕ, _+_, _*_, _^_, _≤_, _<_};
 ghost use lib.ListN.{length, getD, take};
 ghost use lib.Dec.{eqb};
 ghost use Rattle.model.specs.Disc.{disc as discOf, sector};
 ghost use Rattle.model.specs.Writes.{write, writes};
+ghost use Rattle.model.specs.Sparing.{counts};
 ghost use Rattle.model.specs.Rewrite.{packetWrites, replaced, copiesTo};
 ghost use Rattle.sparing.specs.Layout.{geometryIn, TablesOn};
 ghost use Rattle.packets.specs.Order.{isOf, asWanted, chosen, orderOf};
@@ -103,29 +104,39 @@ pub fn write_copies(
     }
 }
 
-// Whether the copy at sector `t` counts and is of this sequence.
-// Inside the layers: the sector is one of the disc's, and lines 1 and 5 have been tested.
-fn is_of(disc: &[u8], marks: &[u8], x: Layout, t: u32, sequence: u32) -> bool
+// Whether the copy at sector `t` counts and is of this sequence, where the copy at sector `at` counts.
+// Inside the layers: the sectors are the disc's, and lines 1 and 5 have been tested.
+fn is_of(disc: &[u8], marks: &[u8], x: Layout, t: u32, sequence: u32, at: u32) -> bool
     requires { ⌜ (x .count ≤ 4) × (x .size ≤ 2048) ⌝ }
     requires { ⌜ length (now disc) ≡ 2048 * length (now marks) ⌝ }
-    requires { ⌜ t < length (now marks) ⌝ }
+    requires { ⌜ (t < length (now marks)) × (at < length (now marks)) ⌝ }
+    requires { ⌜ counts (discOf (now disc) (now marks)) (geometryIn x) at ≡ true ⌝ }
     ensures { λ r. ⌜ r ≡ isOf (discOf (now (disc .entry)) (now (marks .entry))) (geometryIn x) sequence t ⌝ }
 {
-    if !sparing::copy_counts(disc, marks, x, t) {
+    if fields::read32(disc, sparing::SECTOR * (t as usize) + sparing::SEQUENCE_AT) != sequence {
         return false;
     }
-    fields::read32(disc, sparing::SECTOR * (t as usize) + sparing::SEQUENCE_AT) == sequence
+    copies::counts_beside(disc, marks, x, t, at)
 }
 
-// Whether the copy at sector `t` is one of this sequence, or is none, as is wanted.
-// Inside the layers: the sector is one of the disc's, and lines 1 and 5 have been tested.
-fn is_wanted(disc: &[u8], marks: &[u8], x: Layout, t: u32, sequence: u32, wanted: bool) -> bool
+// Whether the copy at sector `t` is one of this sequence, or is none, as is wanted, where the copy at sector
+// `at` counts. Inside the layers: the sectors are the disc's, and lines 1 and 5 have been tested.
+fn is_wanted(
+    disc: &[u8],
+    marks: &[u8],
+    x: Layout,
+    t: u32,
+    sequence: u32,
+    at: u32,
+    wanted: bool,
+) -> bool
     requires { ⌜ (x .count ≤ 4) × (x .size ≤ 2048) ⌝ }
     requires { ⌜ length (now disc) ≡ 2048 * length (now marks) ⌝ }
-    requires { ⌜ t < length (now marks) ⌝ }
+    requires { ⌜ (t < length (now marks)) × (at < length (now marks)) ⌝ }
+    requires { ⌜ counts (discOf (now disc) (now marks)) (geometryIn x) at ≡ true ⌝ }
     ensures { λ r. ⌜ r ≡ asWanted (discOf (now (disc .entry)) (now (marks .entry))) (geometryIn x) sequence wanted t ⌝ }
 {
-    let is_so = is_of(disc, marks, x, t, sequence);
+    let is_so = is_of(disc, marks, x, t, sequence, at);
     if wanted {
         return is_so;
     }
@@ -133,11 +144,22 @@ fn is_wanted(disc: &[u8], marks: &[u8], x: Layout, t: u32, sequence: u32, wanted
 }
 
 // Some sectors, and after them, in map order, the tables of this sequence, or all others, as is wanted.
-// Inside the layers: lines 1, 5 and 6 have been tested, and there is room for them.
-fn gather(disc: &[u8], marks: &[u8], x: Layout, sequence: u32, wanted: bool, from: Chosen) -> Chosen
+// Inside the layers: lines 1, 5 and 6 have been tested, the copy at sector `at` counts, and there is room for
+// them.
+fn gather(
+    disc: &[u8],
+    marks: &[u8],
+    x: Layout,
+    sequence: u32,
+    at: u32,
+    wanted: bool,
+    from: Chosen,
+) -> Chosen
     requires { ⌜ (x .count ≤ 4) × (x .size ≤ 2048) ⌝ }
     requires { ⌜ length (now disc) ≡ 2048 * length (now marks) ⌝ }
     requires { ⌜ (x .sectors ≡ length (now marks)) × TablesOn x ⌝ }
+    requires { ⌜ at < length (now marks) ⌝ }
+    requires { ⌜ counts (discOf (now disc) (now marks)) (geometryIn x) at ≡ true ⌝ }
     requires { ⌜ from .count + length (chosen (discOf (now disc) (now marks)) (geometryIn x) sequence wanted (geometryIn x .tables)) ≤ 4 ⌝ }
     ensures { λ r. ⌜ r .count ≡ from .count + length (chosen (discOf (now (disc .entry)) (now (marks .entry))) (geometryIn x) sequence wanted (geometryIn x .tables)) ⌝ }
     ensures { λ r. ⌜ take (r .count) (r .places) ≡ take (from .count) (from .places) ++ chosen (discOf (now (disc .entry)) (now (marks .entry))) (geometryIn x) sequence wanted (geometryIn x .tables) ⌝ }
@@ -149,7 +171,7 @@ fn gather(disc: &[u8], marks: &[u8], x: Layout, sequence: u32, wanted: bool, fro
     let mut i: usize = 0;
     while i < n {
         let t = tables[i];
-        if is_wanted(disc, marks, x, t, sequence, wanted) {
+        if is_wanted(disc, marks, x, t, sequence, at, wanted) {
             places[count] = t;
             count += 1;
         }
@@ -159,11 +181,14 @@ fn gather(disc: &[u8], marks: &[u8], x: Layout, sequence: u32, wanted: bool, fro
 }
 
 // The order in which a sparing writes the copies: the tables that are not of the current sequence, then those
-// that are, each in map order. Inside the layers: lines 1, 5 and 6 have been tested.
-pub fn copy_order(disc: &[u8], marks: &[u8], x: Layout, sequence: u32) -> [u32; 4]
+// that are, each in map order. Inside the layers: lines 1, 5 and 6 have been tested, and the copy at sector
+// `at` counts.
+pub fn copy_order(disc: &[u8], marks: &[u8], x: Layout, sequence: u32, at: u32) -> [u32; 4]
     requires { ⌜ (x .count ≤ 4) × (x .size ≤ 2048) ⌝ }
     requires { ⌜ length (now disc) ≡ 2048 * length (now marks) ⌝ }
     requires { ⌜ (x .sectors ≡ length (now marks)) × TablesOn x ⌝ }
+    requires { ⌜ at < length (now marks) ⌝ }
+    requires { ⌜ counts (discOf (now disc) (now marks)) (geometryIn x) at ≡ true ⌝ }
     ensures { λ r. ⌜ take (x .count) r ≡ orderOf (discOf (now (disc .entry)) (now (marks .entry))) (geometryIn x) sequence ⌝ }
     ensures { λ r. ⌜ ((i : ℕ) → i < x .count → getD r i 0 < length (now (marks .entry))) ⌝ }
 {
@@ -171,7 +196,7 @@ pub fn copy_order(disc: &[u8], marks: &[u8], x: Layout, sequence: u32) -> [u32; 
         places: [0; 4],
         count: 0,
     };
-    let others = gather(disc, marks, x, sequence, false, none);
-    let all = gather(disc, marks, x, sequence, true, others);
+    let others = gather(disc, marks, x, sequence, at, false, none);
+    let all = gather(disc, marks, x, sequence, at, true, others);
     all.places
 }

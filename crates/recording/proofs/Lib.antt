@@ -1,3 +1,1 @@
 pub mod Saving
-pub mod Make
-pub mod Commits

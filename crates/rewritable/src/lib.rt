@@ -78,7 +78,7 @@ pub fn read_block(
     }
     let first = current::packet_place(table, held, s, b) as usize;
     let at = first + (b % PACKET) as usize;
-    if !disc::is_recorded(marks, at) {
+    if !marks::is_recorded(marks, at) {
         return Given::Refused(Refusal::NotRecorded);
     }
     let from = SECTOR * at;

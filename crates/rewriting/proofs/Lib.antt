@@ -1,4 +1,2 @@
 pub mod Laws
 pub mod Saves
-pub mod Spares
-pub mod Makes

@@ -2,5 +2,4 @@ pub mod Places
 pub mod Words
 pub mod Entries
 pub mod Rule
-pub mod Copies
 pub mod Laws

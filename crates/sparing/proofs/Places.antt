@@ -7,8 +7,8 @@ use native.Mathlib.Omega.{arith}
 use native.Mathlib.Numerals.{add-one}
 use borrow.Author.Tests.{le-leb, lt-leb, leb-true, eq-eqb, ne-eqb}
 use lib.Dec.{leb}
-use lib.ListN.{length, getD, take, drop, length-take, drop-of-length-le}
-use lib.Seq.{drop-cons, getD-take}
+use lib.ListN.{length, getD, take, drop, length-take, length-drop, drop-of-length-le}
+use lib.Seq.{drop-cons, getD-take, getD-drop}
 use Rattle.maps.proofs.Tests.{fails, holds, alike}
 use Rattle.model.specs.Sparing.{Geometry, apart, apartFrom, outside}
 use Rattle.sparing.specs.Entries.{placed}
@@ -90,6 +90,11 @@ pub tables-below : (t : List ℕ) (n k : ℕ) → ((i : ℕ) → i < n → getD 
 tables-below t n k f i l =
     let q : i < n = omega (arith, length-take n t) in
     rw (getD-take n t i 0 q) (f i q)
+
+-- and of those from a place on
+pub later-below : (t : List ℕ) (n j k : ℕ) → ((i : ℕ) → i < n → getD t i 0 < k) → (i : ℕ) → i < length (drop j (take n t)) → getD (drop j (take n t)) i 0 < k
+later-below t n j k f i l =
+    rw (getD-drop j (take n t) i 0) (tables-below t n k f (j + i) (omega (arith, length-drop j (take n t))))
 
 module _ (t : List ℕ) (n i : ℕ) (h : n ≤ length t) where
   -- the table at a place, and those after it

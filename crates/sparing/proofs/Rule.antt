@@ -1,13 +1,13 @@
 -- Laws of the copy rule, an entry at a time (document 01, "The sparing table"). Assumes nothing.
-use Prim.Native.Nat.{ℕ, _+_, _*_, _%_, _≤_, _<_}
+use Prim.Native.Nat.{ℕ, zero, suc, _+_, _-_, _*_, _/_, _%_, _≤_, _<_}
 use mathlib.Core.Path.{_≡_, refl, sym, ap, ap₂, _∙_}
 use mathlib.Core.List.{List, [], _∷_}
-use mathlib.Core.Bool.{Bool, true, false, _&&_}
+use mathlib.Core.Bool.{Bool, true, false, not, _&&_}
 use native.Mathlib.Omega.{arith}
 use borrow.Author.Tests.{eq-eqb, ne-eqb, le-leb, lt-leb}
-use lib.Dec.{leb, ltb}
-use lib.ListN.{length, drop}
-use lib.Seq.{drop-drop}
+use lib.Dec.{eqb, leb, ltb}
+use lib.ListN.{length, getD, set, drop, length-set}
+use lib.Seq.{drop-drop, getD-set-same, getD-set-other}
 use Rattle.fields.specs.Number.{field}
 use Rattle.fields.specs.Regid.{hasRegid}
 use Rattle.maps.specs.Kinds.{absent}
@@ -15,7 +15,7 @@ use Rattle.maps.proofs.Tests.{fails, holds}
 use Rattle.model.specs.Vat.{none}
 use Rattle.model.specs.Sparing.{Geometry, Entry, isFree, originalsFit, ascending, apartFrom, outside, mappedOf, mappedFit, sparingName, entries, entriesFit, countIn, tableIn, copyFits}
 use Rattle.model.specs.Both.{spareEntries}
-use Rattle.model.proofs.Basics.{and-false, and-false-left}
+use Rattle.model.proofs.Basics.{both, and-false, and-false-left}
 use Rattle.model.proofs.SparingLaws.{table-count}
 use Rattle.sparing.specs.Entries.{entriesIn, originalFits, follows, placed}
 use Rattle.sparing.proofs.Entries.{sector-table, length-spares}
@@ -26,7 +26,7 @@ and-assoc true b c = refl
 and-assoc false b c = refl
 
 -- a test, with none after it
-and-end : (a : Bool) → a ≡ a && true
+pub and-end : (a : Bool) → a ≡ a && true
 and-end true = refl
 and-end false = refl
 
@@ -120,16 +120,16 @@ module _ (es : List Entry) (i : ℕ) (e : Entry) (h : drop i es ≡ e ∷ drop (
       ∙ rw (← s) (sym (and-assoc (outside g m) (apartFrom m (g .tables)) (absent m (mappedOf (drop (i + 1) es)) && mappedFit g (drop (i + 1) es))))
 
   -- its mapped start is no spare's
-  pub mapped-off : (g : Geometry) (m : ℕ) → m ≡ e .mapped → placed g m ≡ false → false ≡ mappedFit g (drop i es)
-  mapped-off g m s q = sym (grouped g m s ∙ rw q)
+  pub mapped-off : (g : Geometry) (m : ℕ) → m ≡ e .mapped → (r : Bool) → r ≡ placed g m → r ≡ false → false ≡ mappedFit g (drop i es)
+  mapped-off g m s r p q = sym (grouped g m s ∙ rw (← p, q))
 
   -- its mapped start stands again behind it
-  pub mapped-twice : (g : Geometry) (m : ℕ) → m ≡ e .mapped → placed g m ≡ true → absent m (mappedOf (drop (i + 1) es)) ≡ false → false ≡ mappedFit g (drop i es)
-  mapped-twice g m s q a = sym (grouped g m s ∙ rw (q, a))
+  pub mapped-twice : (g : Geometry) (m : ℕ) → m ≡ e .mapped → (r a : Bool) → r ≡ placed g m → r ≡ true → a ≡ absent m (mappedOf (drop (i + 1) es)) → a ≡ false → false ≡ mappedFit g (drop i es)
+  mapped-twice g m s r a p q u v = sym (grouped g m s ∙ rw (← p, q, ← u, v))
 
   -- neither
-  pub mapped-next : (g : Geometry) (m : ℕ) → m ≡ e .mapped → placed g m ≡ true → absent m (mappedOf (drop (i + 1) es)) ≡ true → mappedFit g (drop (i + 1) es) ≡ mappedFit g (drop i es)
-  mapped-next g m s q a = sym (grouped g m s ∙ rw (q, a))
+  pub mapped-next : (g : Geometry) (m : ℕ) → m ≡ e .mapped → (r a : Bool) → r ≡ placed g m → r ≡ true → a ≡ absent m (mappedOf (drop (i + 1) es)) → a ≡ true → mappedFit g (drop (i + 1) es) ≡ mappedFit g (drop i es)
+  mapped-next g m s r a p q u v = sym (grouped g m s ∙ rw (← p, q, ← u, v))
 
   module _ (f : Entry) (k : drop (i + 1) es ≡ f ∷ drop (i + 1 + 1) es) (o p : ℕ) (s : o ≡ e .original) (t : p ≡ f .original) where
     -- the entry f after it does not follow it
@@ -141,6 +141,56 @@ module _ (es : List Entry) (i : ℕ) (e : Entry) (h : drop i es ≡ e ∷ drop (
     pub ascending-next : follows o p ≡ true → ascending (drop (i + 1) es) ≡ ascending (drop i es)
     unfolding ascending follows isFree
     ascending-next q = ap ascending k ∙ sym (ap ascending (h ∙ ap (λ (x : List Entry). e ∷ x) k) ∙ rw (← s, ← t, q))
+
+-- ---- the mapped starts passed, from the last down
+
+-- the entries from i on fit, and the slots of their packets are set
+pub record Passed (g : Geometry) (es : List Entry) (seen : List ℕ) (i : ℕ) : Type 0 where
+  pub fits : mappedFit g (drop i es) ≡ true
+  pub slots : length seen ≡ 256
+  -- a packet whose slot is not set is none of theirs
+  pub unseen : (m : ℕ) → getD seen (m / 32 % 256) 0 ≡ 0 → absent m (mappedOf (drop i es)) ≡ true
+
+module _ (g : Geometry) (es : List Entry) (seen : List ℕ) (i : ℕ) where
+  -- none is passed
+  pub passed-none : drop i es ≡ [] → length seen ≡ 256 → Passed g es seen i
+  unfolding mappedFit mappedOf absent
+  passed-none h l = record { fits = rw h; slots = l; unseen = λ m z. rw h }
+
+  -- those behind the entry before
+  pub passed-behind : 0 < i → Passed g es seen i → Passed g es seen (i - 1 + 1)
+  passed-behind z p = let e : i - 1 + 1 ≡ i = omega arith in rw e p
+
+  -- one more, whose mapped start m may be a spare and is none of theirs
+  module _ (e : Entry) (h : drop i es ≡ e ∷ drop (i + 1) es) (m s : ℕ) (em : m ≡ e .mapped) (t : s ≡ m / 32 % 256) (p : Passed g es seen (i + 1)) where
+    -- a packet whose slot is still not set has another
+    other-slot : (k : ℕ) → getD (set seen s 1) (k / 32 % 256) 0 ≡ 0 → k / 32 % 256 ≡ s → ⊥
+    other-slot k z w =
+        omega (arith, p .slots, ap (λ (j : ℕ). getD (set seen s 1) j 0) (sym w) ∙ z, getD-set-same seen s 1 0 (omega (arith, p .slots)))
+
+    still-unseen : (k : ℕ) → getD (set seen s 1) (k / 32 % 256) 0 ≡ 0 → absent k (mappedOf (drop i es)) ≡ true
+    unfolding mappedOf absent
+    still-unseen k z =
+        ap (λ (x : List Entry). absent k (mappedOf x)) h
+        ∙ rw (← em)
+        (both (ap not (ne-eqb k m (λ w. other-slot k z (ap (λ (j : ℕ). j / 32 % 256) w ∙ sym t))))
+        (p .unseen k (sym (getD-set-other seen s (k / 32 % 256) 1 0 (other-slot k z)) ∙ z)))
+
+    pub passed-next : (r a : Bool) → r ≡ placed g m → r ≡ true → a ≡ absent m (mappedOf (drop (i + 1) es)) → a ≡ true → Passed g es (set seen s 1) i
+    passed-next r a f q u v =
+        record {
+          fits = sym (mapped-next es i e h g m em r a f q u v) ∙ p .fits;
+          slots = length-set seen s 1 ∙ p .slots;
+          unseen = still-unseen;
+        }
+
+-- where entries from a place on do not fit, all do not
+pub mapped-rest : (g : Geometry) (es : List Entry) (i : ℕ) → false ≡ mappedFit g (drop i es) → false ≡ mappedFit g es
+unfolding mappedFit
+mapped-rest g es zero q = q
+mapped-rest g [] (suc i) q = q
+mapped-rest g (e ∷ es) (suc i) q =
+    sym (and-false (outside g (e .mapped)) (and-false (apartFrom (e .mapped) (g .tables)) (and-false (absent (e .mapped) (mappedOf es)) (sym (mapped-rest g es i q)))))
 
 -- ---- a copy, test by test
 

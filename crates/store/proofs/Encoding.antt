@@ -1,12 +1,11 @@
 -- Laws of calls as numbers: every list of calls is read back from its numbers and its pool. Assumes nothing.
-use Prim.Native.Nat.{ℕ, zero, suc, _+_, _-_, _<_, _≤_, min}
+use Prim.Native.Nat.{ℕ, zero, suc, _+_, _<_, _≤_}
 use mathlib.Core.Path.{_≡_, refl, sym, ap, ap₂, _∙_}
-use mathlib.Core.Bool.{Bool, true, false}
 use mathlib.Core.List.{List, [], _∷_, _++_, append-assoc}
 use native.Mathlib.Omega.{arith}
 use native.Mathlib.Numerals.{add-one}
-use lib.ListN.{length, getD, take, drop, length-append, length-drop, drop-of-length-le}
-use lib.Seq.{drop-cons, drop-append-seam, take-append-seam, take-all, take-length, take-nil, drop-length}
+use lib.ListN.{length, getD, take, drop, length-append, length-drop}
+use lib.Seq.{drop-cons, drop-append-seam, take-append-seam}
 use Rattle.fields.specs.Bytes.{part}
 use Rattle.model.specs.declared.Effect.{Effect}
 use Rattle.model.specs.declared.Cut.{Cut}
@@ -14,44 +13,8 @@ use Rattle.model.specs.Calls.{Call, saveVirtual, freeVirtual, commit, saveBlock
 use Rattle.model.specs.Store.{cutIn}
 use Rattle.model.specs.Demand.{Below}
 use Rattle.numbers.specs.Numbers.{effectOf, cutOf}
-use Rattle.store.specs.Encoded.{callOf, kindAfter, decode, callAt, effectNumber, kindOf, numberIn, bytesIn, encode, poolOf}
-use Rattle.store.specs.Listed.{mendedCall}
-use Rattle.model.proofs.Basics.{by-lt}
-
--- ---- the effect and the call of a number
-
--- any kind from 6 on is an opening
-pub call-open : (k n : ℕ) (c : Cut) (b : List ℕ) → 6 ≤ k → callOf k n c b ≡ openDisc
-call-open zero n c b h = absurd (omega arith)
-call-open (suc zero) n c b h = absurd (omega arith)
-call-open (suc (suc zero)) n c b h = absurd (omega arith)
-call-open (suc (suc (suc zero))) n c b h = absurd (omega arith)
-call-open (suc (suc (suc (suc zero)))) n c b h = absurd (omega arith)
-call-open (suc (suc (suc (suc (suc zero))))) n c b h = absurd (omega arith)
-call-open (suc (suc (suc (suc (suc (suc k)))))) n c b h = refl
-
--- after a cut the kind is that of an opening
-pub call-after : (down : Bool) (k n : ℕ) (c : Cut) (b : List ℕ) → callOf (kindAfter down k) n c b ≡ mendedCall down (callOf k n c b)
-call-after true k n c b = refl
-call-after false k n c b = refl
-
--- the bytes of a call as they are lent: from the smaller of two numbers on, as many as the pool still has
-pub part-lent : (pool : List ℕ) (f w from count : ℕ) → from ≡ min f (length pool) → count ≡ min w (length pool - from) → take count (drop from pool) ≡ part pool f w
-unfolding part
-part-lent pool f w from count a b =
-    by-lt f (length pool)
-    (λ h.
-    let e : from ≡ f = omega arith in
-    ap (λ (x : ℕ). take count (drop x pool)) e ∙ short (drop f pool) w count (simp length-drop (b ∙ ap (λ (x : ℕ). min w (length pool - x)) e)))
-    (λ h.
-    let e : from ≡ length pool = omega arith in
-    ap (λ (x : ℕ). take count (drop x pool)) e ∙ ap (take count) (drop-length pool) ∙ take-nil count ∙ sym (ap (take w) (drop-of-length-le pool h) ∙ take-nil w))
-  where
-    short : (l : List ℕ) (w n : ℕ) → n ≡ min w (length l) → take n l ≡ take w l
-    short l w n e =
-        by-lt w (length l)
-        (λ h. let q : n ≡ w = omega arith in ap (λ (x : ℕ). take x l) q)
-        (λ h. let q : n ≡ length l = omega arith in ap (λ (x : ℕ). take x l) q ∙ take-length l ∙ sym (take-all w l h))
+use Rattle.steps.specs.Stepped.{callOf}
+use Rattle.store.specs.Encoded.{decode, callAt, effectNumber, kindOf, numberIn, bytesIn, encode, poolOf}
 
 -- ---- reading on
 

@@ -15,11 +15,12 @@ use Rattle.model.specs.Both.{opening, openedTable, openVerdict, openedBy, fille
 use Rattle.model.specs.Calls.{Call, State, answers, final, Proper, isOpened, answerOfOpening}
 use Rattle.model.specs.Demand.{Below, afterOpening, Kept, seen, Demand3}
 use Rattle.model.proofs.Demand.{demand-3}
+use Rattle.steps.specs.Stepped.{stateOf}
 use Rattle.store.specs.declared.Ran.{Ran}
 use Rattle.store.specs.Encoded.{decode, encode, poolOf}
 use Rattle.store.specs.Listed.{mended}
 use Rattle.store.specs.Outcome.{Outcome, outcome, ran, ranBy, carriedOut, listed, answered}
-use Rattle.store.specs.Promise.{stateOf, DemandMet}
+use Rattle.store.specs.Promise.{DemandMet}
 use Rattle.store.proofs.Encoding.{decode-encode}
 use Rattle.store.proofs.Mending.{mended-proper, proper-mended}
 

@@ -1,6 +1,6 @@
 pub mod Encoding
 pub mod Mending
-pub mod Stepping
+pub mod Reading
 pub mod Turns
 pub mod Ending
 pub mod Example

@@ -14,12 +14,12 @@ use Rattle.model.specs.Disc.{Disc}
 use Rattle.model.specs.Examine.{Setting}
 use Rattle.model.specs.Calls.{Call, saveVirtual, freeVirtual, commit, saveBlock, savePacket, sparePacket, openDisc, Answer, answers, final, State, step, isCut, carried, answerOf, heldAfter, answerOfOpening, heldAfterOpening}
 use Rattle.model.proofs.Basics.{by-lt}
+use Rattle.steps.specs.declared.Answered.{Answered}
+use Rattle.steps.specs.Stepped.{answerOf as answerIs, numberFor, heldBy, passedBy, stateOf, Stepped}
 use Rattle.store.specs.declared.Ran.{Ran}
-use Rattle.store.specs.declared.Answered.{Answered}
 use Rattle.store.specs.Encoded.{decode, callAt}
-use Rattle.store.specs.Listed.{mendedCall, mended, numberFor, told, heldBy, passedBy, passedAfter}
-use Rattle.store.specs.Outcome.{Outcome, outcome, carriedOut, Stepped, answerOf as answerIs}
-use Rattle.store.specs.Promise.{stateOf}
+use Rattle.store.specs.Listed.{mendedCall, mended, told, passedAfter}
+use Rattle.store.specs.Outcome.{Outcome, outcome, carriedOut}
 use Rattle.store.proofs.Encoding.{decode-next, decode-end}
 
 -- what a list of calls comes to from a state on, where the replies before those of the list are `front`

@@ -1,28 +1,17 @@
 -- A list of calls as it is lent: six numbers a call, and a pool of bytes (document 01, "The plain store", second paragraph, speaks of such
 -- lists). The numbers are kind, number, the write at which the power fails, its effect, and where the call's bytes begin in the pool and
--- how many they are.
-use Prim.Native.Nat.{ℕ, zero, suc, _+_}
-use mathlib.Core.Bool.{Bool, true, false}
+-- how many they are; steps, Stepped.antt, has the call of a kind.
+use Prim.Native.Nat.{ℕ, _+_}
 use mathlib.Core.List.{List, [], _∷_, _++_}
 use lib.ListN.{length, getD}
 use Rattle.fields.specs.Bytes.{part}
 use Rattle.model.specs.declared.Effect.{Effect}
-use Rattle.model.specs.declared.Cut.{Cut}
 use Rattle.model.specs.Calls.{Call, saveVirtual, freeVirtual, commit, saveBlock, savePacket, sparePacket, openDisc}
 use Rattle.model.specs.Store.{cutIn}
 use Rattle.numbers.specs.Numbers.{cutOf}
+use Rattle.steps.specs.Stepped.{callOf}
 
 -- ---- reading them
-
--- the call of a kind: 0 saves a virtual block, 1 frees one, 2 commits, 3 saves a block, 4 saves a packet, 5 spares a packet, any other opens
-abbrev pub callOf : ℕ → ℕ → Cut → List ℕ → Call
-callOf zero n c b = saveVirtual n b c
-callOf (suc zero) n c b = freeVirtual n
-callOf (suc (suc zero)) n c b = commit c
-callOf (suc (suc (suc zero))) n c b = saveBlock n b c
-callOf (suc (suc (suc (suc zero)))) n c b = savePacket n b c
-callOf (suc (suc (suc (suc (suc zero))))) n c b = sparePacket n b c
-callOf (suc (suc (suc (suc (suc (suc k)))))) n c b = openDisc
 
 -- the calls that are lent; of bytes past the pool's end there is what the pool has, and fewer than six numbers are no call
 unfoldable pub decode : List ℕ → List ℕ → List Call
@@ -33,11 +22,6 @@ decode (k ∷ n ∷ c ∷ []) pool = []
 decode (k ∷ n ∷ c ∷ x ∷ []) pool = []
 decode (k ∷ n ∷ c ∷ x ∷ from ∷ []) pool = []
 decode (k ∷ n ∷ c ∷ x ∷ from ∷ count ∷ ns) pool = callOf k n (cutOf c x) (part pool from count) ∷ decode ns pool
-
--- the kind of the call that is carried out: after a cut an opening
-abbrev pub kindAfter : Bool → ℕ → ℕ
-kindAfter false k = k
-kindAfter true k = 6
 
 -- the call whose six numbers stand from `at` on
 unfoldable pub callAt : List ℕ → List ℕ → ℕ → Call

@@ -1,17 +1,15 @@
 -- What `run` answers and leaves (document 01, "The plain store", second paragraph): it opens the disc, and carries out the calls that it is
 -- lent, each with disc, marks and lent table as the last one left them and the record last handed back.
 use Prim.Native.Nat.{ℕ}
-use mathlib.Core.Path.{_≡_}
 use mathlib.Core.Bool.{false}
 use mathlib.Core.List.{List}
 use Rattle.model.specs.declared.Opened.{Opened}
 use Rattle.model.specs.Disc.{Disc}
 use Rattle.model.specs.Examine.{Setting}
 use Rattle.model.specs.Both.{opening}
-use Rattle.model.specs.Calls.{Call, Answer, State, step, answers, final}
+use Rattle.model.specs.Calls.{Call, Answer, State, answers, final}
 use Rattle.model.specs.Demand.{afterOpening}
 use Rattle.store.specs.declared.Ran.{Ran}
-use Rattle.store.specs.declared.Answered.{Answered}
 use Rattle.store.specs.Encoded.{decode}
 use Rattle.store.specs.Listed.{mended, told, passedAfter}
 
@@ -52,18 +50,3 @@ ranBy (Opened.Refused why) e d t numbers pool replies = outcome (Ran.Refused why
 -- the outcome of a run
 unfoldable pub ran : Setting → Disc → List ℕ → List ℕ → List ℕ → List ℕ → Outcome
 ran e d t numbers pool replies = ranBy (opening e d t) e d t numbers pool replies
-
--- ---- one call inside the layers
-
--- the answer of a call as it is told inside the layers
-abbrev pub answerOf : Answered → Answer
-answerOf (Answered.Done r) = Answer.done r
-answerOf Answered.Cut = Answer.cut
-answerOf (Answered.Refused why) = Answer.refused why
-answerOf (Answered.Opened r n) = Answer.opened r n
-
--- the answer a, the disc d and the table t are those of the call c in the state st
-pub record Stepped (e : Setting) (st : State) (c : Call) (a : Answered) (d : Disc) (t : List ℕ) : Type 0 where
-  pub answer : answerOf a ≡ step e st c .answer
-  pub disc : d ≡ step e st c .state .disc
-  pub table : t ≡ step e st c .state .table

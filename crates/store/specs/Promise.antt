@@ -8,15 +8,12 @@ use lib.ListN.{length, getD}
 use Rattle.model.specs.declared.Record.{Record}
 use Rattle.model.specs.Disc.{Disc}
 use Rattle.model.specs.Examine.{Setting}
-use Rattle.model.specs.Calls.{openDisc, cut, State, isOpened, endsCut}
+use Rattle.model.specs.Calls.{openDisc, cut, isOpened, endsCut}
 use Rattle.model.specs.Store.{start, shapeOf, look}
 use Rattle.model.specs.Demand.{followed, seen}
+use Rattle.steps.specs.Stepped.{stateOf}
 use Rattle.store.specs.declared.Ran.{Ran}
 use Rattle.store.specs.Outcome.{listed, answered}
-
--- a state of its parts
-abbrev pub stateOf : Disc → List ℕ → Record → State
-stateOf d t held = record { disc = d; table = t; held = held }
 
 -- what is promised of a run over the disc d₀ and the lent table t₀ that leaves the disc d and the table t, where its own opening was accepted
 pub record DemandMet (e : Setting) (d₀ : Disc) (t₀ numbers pool : List ℕ) (r : Ran) (d : Disc) (t : List ℕ) : Type 0 where

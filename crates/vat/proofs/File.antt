@@ -1,22 +1,24 @@
 -- Laws of the file of an ICB by position: the bytes of its extents stand where `placeOf` says, none of them outside the disc, and the file
 -- has F bytes. Assumes nothing.
-use Prim.Native.Nat.{ℕ, _+_, _-_, _*_, _%_, _^_, _≤_, _<_}
+use Prim.Native.Nat.{ℕ, _+_, _-_, _*_, _/_, _%_, _^_, _≤_, _<_}
 use mathlib.Core.Path.{_≡_, refl, sym, ap, ap₂, _∙_}
-use mathlib.Core.Bool.{true, _||_}
+use mathlib.Core.Bool.{true}
 use mathlib.Core.List.{List, [], _∷_, _++_}
 use native.Mathlib.Omega.{arith}
 use lib.Dec.{eqb, leb, ltb}
-use lib.ListN.{length, getD, length-append}
+use lib.ListN.{length, getD, take, drop, length-append}
 use lib.Seq.{length-take-le}
 use borrow.Author.Tests.{eq-eqb, ne-eqb, eqb-true, eqb-false, le-leb, leb-true, lt-ltb, le-ltb}
 use Rattle.fields.specs.Bytes.{part}
-use Rattle.fields.specs.Number.{field}
-use Rattle.fields.proofs.Laws.{length-part, getD-part, part-append, part-append-add, part-part, part-take, AllBytes, field-same, field-below}
+use Rattle.fields.specs.Number.{words}
+use Rattle.fields.proofs.Laws.{length-part, getD-part, part-append, part-append-add, part-part, part-take, AllBytes, field-below}
 use Rattle.model.specs.Disc.{Disc, disc, recordedRun, joined}
 use Rattle.model.specs.Vat.{Extent, form, fileLength, attributes, allocation, entryFits, extents, blocksIn, sizesFit, sizes, blocksFit, contents, allocationFits, fileOf}
 use Rattle.model.proofs.Basics.{and-true, both, by-bool, by-lt}
 use Rattle.model.proofs.SectorsRuns.{joined-bytes}
-use Rattle.vat.specs.File.{Lent, Filed, fileIn, placeOf, onDisc, allThere}
+use Rattle.icb.proofs.Entry.{entry-ends}
+use Rattle.vat.specs.File.{Lent, Filed, Together, fileIn, placeOf, leftOf, onDisc, allThere}
+use Rattle.vat.proofs.Table.{words-part}
 
 -- ---- the blocks of an extent
 
@@ -29,6 +31,53 @@ blocks-cover n = omega arith
 blocks-whole : (n : ℕ) → n % 2048 ≡ 0 → 2048 * blocksIn n ≡ n
 unfolding blocksIn
 blocks-whole n h = omega arith
+
+-- ---- how many bytes stand from one on
+
+-- where it is in the first extent, and where it is behind it
+left-first : (x : Extent) (l : List Extent) (o : ℕ) → o < x .size → leftOf (x ∷ l) o ≡ x .size - o
+unfolding leftOf
+left-first x l o lt = rw (lt-ltb _ _ lt)
+
+left-later : (x : Extent) (l : List Extent) (o : ℕ) → x .size ≤ o → leftOf (x ∷ l) o ≡ leftOf l (o - x .size)
+unfolding leftOf
+left-later x l o le = rw (le-ltb _ _ le)
+
+-- those of one sector
+left-sector : (l : List Extent) (o w : ℕ) → sizesFit l ≡ true → 0 < w → o + w ≤ sizes l → o % 2048 + w ≤ 2048 → w ≤ leftOf l o
+unfolding sizesFit sizes
+left-sector [] o w f z h k = absurd (omega arith)
+left-sector (x ∷ []) o w f z h k = omega (arith, left-first x [] o (omega arith))
+left-sector (x ∷ y ∷ l) o w f z h k =
+    let a = and-true (ltb (x .size) (2 ^ 30)) _ f in
+    let b = and-true (eqb (x .size % 2048) 0) _ (a .1) in
+    let m : x .size % 2048 ≡ 0 = eqb-true _ _ (b .0) in
+    by-lt o (x .size)
+    (λ lt. omega (arith, left-first x (y ∷ l) o lt))
+    (λ le. omega (arith, left-later x (y ∷ l) o le, left-sector (y ∷ l) (o - x .size) w (b .1) z (omega arith) (omega arith)))
+
+-- whole words, where they end before the file does
+left-words : (l : List Extent) (o w : ℕ) → sizesFit l ≡ true → o % 4 ≡ 0 → o + w ≤ sizes l → leftOf l o < w → leftOf l o % 4 ≡ 0
+unfolding sizesFit sizes
+left-words [] o w f z h k = absurd (omega arith)
+left-words (x ∷ []) o w f z h k =
+    by-lt o (x .size)
+    (λ lt. absurd (omega (arith, left-first x [] o lt)))
+    (λ le. absurd (omega arith))
+left-words (x ∷ y ∷ l) o w f z h k =
+    let a = and-true (ltb (x .size) (2 ^ 30)) _ f in
+    let b = and-true (eqb (x .size % 2048) 0) _ (a .1) in
+    let m : x .size % 2048 ≡ 0 = eqb-true _ _ (b .0) in
+    by-lt o (x .size)
+    (λ lt. omega (arith, left-first x (y ∷ l) o lt))
+    (λ le.
+    let e = left-later x (y ∷ l) o le in
+    let r = left-words (y ∷ l) (o - x .size) w (b .1) (omega arith) (omega arith) (omega arith) in
+    omega arith)
+
+-- w bytes of words from v on, none past word n or the end of the extent
+abbrev pub Some : List Extent → ℕ → ℕ → ℕ → Type 0
+Some l v n w = (0 < w) × (w % 4 ≡ 0) × (4 * v + w ≤ 4 * n) × (w ≤ leftOf l (4 * v))
 
 -- ---- the extents joined
 
@@ -76,24 +125,25 @@ module _ (d : Disc) (s : ℕ) where
         inside = omega (arith, st .inside);
       }
 
-  -- bytes of one sector stand together
-  pub stands : (l : List Extent) (o w : ℕ) → sizesFit l ≡ true → onDisc (length (d .bytes)) s l ≡ true → 0 < w → o + w ≤ sizes l → o % 2048 + w ≤ 2048 → Stands d s l o w
-  unfolding sizesFit onDisc sizes
-  stands [] o w f i z h k = absurd (omega arith)
-  stands (x ∷ []) o w f i z h k =
+  -- bytes of one extent stand together
+  pub stands : (l : List Extent) (o w : ℕ) → sizesFit l ≡ true → onDisc (length (d .bytes)) s l ≡ true → 0 < w → w ≤ leftOf l o → Stands d s l o w
+  unfolding sizesFit onDisc leftOf
+  stands [] o w f i z h = absurd (omega arith)
+  stands (x ∷ []) o w f i z h =
       let j = leb-true _ _ (and-true (leb (2048 * (s + x .block + blocksIn (x .size))) (length (d .bytes))) _ i .0) in
       let c = blocks-cover (x .size) in
-      in-first x [] o w j (omega arith) (omega arith)
-  stands (x ∷ y ∷ l) o w f i z h k =
+      by-lt o (x .size)
+      (λ lt. let r = rw (lt-ltb _ _ lt) at h in in-first x [] o w j lt (omega arith))
+      (λ le. let r = rw (le-ltb _ _ le) at h in absurd (omega arith))
+  stands (x ∷ y ∷ l) o w f i z h =
       let a = and-true (ltb (x .size) (2 ^ 30)) _ f in
       let b = and-true (eqb (x .size % 2048) 0) _ (a .1) in
       let p = and-true (leb (2048 * (s + x .block + blocksIn (x .size))) (length (d .bytes))) _ i in
       let j = leb-true _ _ (p .0) in
       let c = blocks-cover (x .size) in
-      let m = eqb-true _ _ (b .0) in
       by-lt o (x .size)
-      (λ lt. in-first x (y ∷ l) o w j lt (omega arith))
-      (λ le. in-later x (y ∷ l) o w j m le (stands (y ∷ l) (o - x .size) w (b .1) (p .1) z (omega arith) (omega arith)))
+      (λ lt. let r = rw (lt-ltb _ _ lt) at h in in-first x (y ∷ l) o w j lt (omega arith))
+      (λ le. in-later x (y ∷ l) o w j (eqb-true _ _ (b .0)) le (stands (y ∷ l) (o - x .size) w (b .1) (p .1) z (rw (le-ltb _ _ le) at h)))
 
   -- the extents have bytes enough
   pub contents-enough : (l : List Extent) → onDisc (length (d .bytes)) s l ≡ true → sizes l ≤ length (contents d s l)
@@ -133,14 +183,6 @@ same-byte s t at from h =
     ∙ ap (λ (i : ℕ). getD t i 0) q
 
 -- ---- a file that is all there
-
--- the attributes and the allocation end in the block
-pub entry-ends : (b : List ℕ) → entryFits b ≡ true → 176 + attributes b + allocation b ≤ 2048
-unfolding entryFits
-entry-ends b h =
-    let p = and-true (eqb (field b 20 2) 4) _ h in
-    let q = and-true (eqb (getD b 27 0) 0) _ (p .1) in
-    leb-true _ _ (and-true (eqb (form b) 0 || eqb (form b) 3) _ (q .1) .1)
 
 -- F is a number of 8 bytes
 pub length-fits : (b : List ℕ) → AllBytes b → length b ≡ 2048 → fileLength b < 18446744073709551616
@@ -208,15 +250,19 @@ module _ (bytes : List ℕ) (s : ℕ) (b : List ℕ) (t : Filed bytes s b) where
   unfolding fileIn fileOf
   embedded-part o w e h = rw (eq-eqb _ _ e) (part-part b (176 + attributes b) (fileLength b) o w h)
 
-  -- otherwise bytes of one sector stand where `placeOf` says
-  extended-part : (o w : ℕ) → (form b ≡ 3 → ⊥) → 0 < w → o + w ≤ fileLength b → o % 2048 + w ≤ 2048 → (part (fileIn bytes s b) o w ≡ part bytes (placeOf s (extents b) o) w) × (placeOf s (extents b) o + w ≤ length bytes)
+  -- otherwise bytes of one extent stand where `placeOf` says
+  extended-part : (o w : ℕ) → (form b ≡ 3 → ⊥) → 0 < w → o + w ≤ fileLength b → w ≤ leftOf (extents b) o → (part (fileIn bytes s b) o w ≡ part bytes (placeOf s (extents b) o) w) × (placeOf s (extents b) o + w ≤ length bytes)
   unfolding fileIn fileOf
   extended-part o w e z h k =
       let a = extended-all e in
-      let st = stands (disc bytes []) s (extents b) o w (a .0) (a .2) z (omega (arith, a .1)) k in
+      let st = stands (disc bytes []) s (extents b) o w (a .0) (a .2) z k in
       (rw (ne-eqb _ _ e) (part-take (contents (disc bytes []) s (extents b)) (fileLength b) o w h ∙ st .same), st .inside)
 
-  -- ---- by position: a byte, and a word of 4 bytes
+  -- bytes of one sector are of one extent
+  extended-sector : (o w : ℕ) → (form b ≡ 3 → ⊥) → 0 < w → o + w ≤ fileLength b → o % 2048 + w ≤ 2048 → w ≤ leftOf (extents b) o
+  extended-sector o w e z h k = let a = extended-all e in left-sector (extents b) o w (a .0) z (omega (arith, a .1)) k
+
+  -- ---- a byte by position
 
   -- embedded, it ends in the block
   pub embedded-ends : form b ≡ 3 → 176 + attributes b + fileLength b ≤ 2048
@@ -225,16 +271,54 @@ module _ (bytes : List ℕ) (s : ℕ) (b : List ℕ) (t : Filed bytes s b) where
   pub embedded-byte : (o : ℕ) → form b ≡ 3 → o < fileLength b → getD b (176 + attributes b + o) 0 ≡ getD (fileIn bytes s b) o 0
   embedded-byte o e h = same-byte b (fileIn bytes s b) (176 + attributes b + o) o (sym (embedded-part o 1 e (omega arith)))
 
-  pub embedded-word : (o : ℕ) → form b ≡ 3 → o + 4 ≤ fileLength b → field b (176 + attributes b + o) 4 ≡ field (fileIn bytes s b) o 4
-  embedded-word o e h = field-same b (fileIn bytes s b) (176 + attributes b + o) o 4 (sym (embedded-part o 4 e h))
-
-  -- otherwise each stands on the disc, at its place
+  -- otherwise it stands on the disc, at its place
   pub extended-byte : (o : ℕ) → (form b ≡ 3 → ⊥) → o < fileLength b → (placeOf s (extents b) o < length bytes) × (getD bytes (placeOf s (extents b) o) 0 ≡ getD (fileIn bytes s b) o 0)
   extended-byte o e h =
-      let p = extended-part o 1 e (omega arith) (omega arith) (omega arith) in
+      let p = extended-part o 1 e (omega arith) (omega arith) (extended-sector o 1 e (omega arith) (omega arith) (omega arith)) in
       (omega (arith, p .1), same-byte bytes (fileIn bytes s b) (placeOf s (extents b) o) o (sym (p .0)))
 
-  pub extended-word : (o : ℕ) → (form b ≡ 3 → ⊥) → o + 4 ≤ fileLength b → o % 4 ≡ 0 → (placeOf s (extents b) o + 4 ≤ length bytes) × (field bytes (placeOf s (extents b) o) 4 ≡ field (fileIn bytes s b) o 4)
-  extended-word o e h m =
-      let p = extended-part o 4 e (omega arith) h (omega arith) in
-      (p .1, field-same bytes (fileIn bytes s b) (placeOf s (extents b) o) o 4 (sym (p .0)))
+  -- ---- words that stand together
+
+  -- embedded, those from v to n stand in the block
+  module _ (v n : ℕ) (r : List ℕ) (e : form b ≡ 3) (i : v ≤ n) (h : 4 * n ≤ fileLength b) (p : r ≡ part b (176 + attributes b + 4 * v) (4 * (n - v))) where
+    pub embedded-count : length r / 4 ≡ n - v
+    embedded-count =
+        let k = embedded-ends e in
+        let l : length r ≡ 4 * (n - v) = ap length p ∙ length-part b (176 + attributes b + 4 * v) (4 * (n - v)) (omega (arith, t .block)) in
+        omega arith
+
+    pub embedded-words : words r 0 (length r / 4) ≡ words (fileIn bytes s b) (4 * v) (n - v)
+    embedded-words =
+        ap₂ (λ (x : List ℕ) (j : ℕ). words x 0 j) (p ∙ sym (embedded-part (4 * v) (4 * (n - v)) e (omega arith))) embedded-count
+        ∙ words-part (fileIn bytes s b) (4 * v) (4 * (n - v)) (n - v) (omega arith)
+
+  -- otherwise they stand on the disc, as many as are wanted or as one extent has
+  module _ (v n : ℕ) (e : form b ≡ 3 → ⊥) (i : v < n) (h : 4 * n ≤ fileLength b) where
+    -- all that are wanted
+    pub all-wanted : 4 * (n - v) ≤ leftOf (extents b) (4 * v) → Some (extents b) v n (4 * (n - v))
+    all-wanted k = (omega arith, omega arith, omega arith, k)
+
+    -- all that the extent has
+    pub all-left : leftOf (extents b) (4 * v) < 4 * (n - v) → Some (extents b) v n (leftOf (extents b) (4 * v))
+    all-left k =
+        let a = extended-all e in
+        let f = extended-sector (4 * v) 4 e (omega arith) (omega arith) (omega arith) in
+        let g = left-words (extents b) (4 * v) (4 * (n - v)) (a .0) (omega arith) (omega (arith, a .1)) k in
+        (omega arith, g, omega arith, omega arith)
+
+    -- lent from their place on
+    pub run-words : (w from to : ℕ) → Some (extents b) v n w → from ≡ placeOf s (extents b) (4 * v) → to ≡ from + w → (to ≤ length bytes) × Together (fileIn bytes s b) v n (take (to - from) (drop from bytes))
+    unfolding part
+    run-words w from to k p q =
+        let x = extended-part (4 * v) w e (k .0) (omega (arith, k .2)) (k .3) in
+        let m : to - from ≡ w = omega arith in
+        let y : take (to - from) (drop from bytes) ≡ part bytes (placeOf s (extents b) (4 * v)) w = ap₂ (λ (j o : ℕ). take j (drop o bytes)) m p in
+        let l : length (take (to - from) (drop from bytes)) ≡ w = ap length y ∙ length-part bytes (placeOf s (extents b) (4 * v)) w (x .1) in (
+          omega (arith, x .1),
+          record {
+            some = omega (arith, k .0);
+            whole = omega (arith, k .1);
+            upTo = omega (arith, k .2);
+            same = y ∙ sym (x .0) ∙ ap (part (fileIn bytes s b) (4 * v)) (sym l);
+          },
+        )

@@ -1,4 +1,4 @@
-pub mod Extents
+pub mod Places
 pub mod File
 pub mod Table
 pub mod Laws

@@ -1,12 +1,12 @@
--- The file of an ICB by position (document 01, "The VAT and its ICB"): its extents tested one after the other, where its bytes stand, and
--- what the functions of this crate count on.
-use Prim.Native.Nat.{ℕ, _+_, _-_, _*_, _%_, _^_, _≤_}
+-- The file of an ICB by position (document 01, "The VAT and its ICB"): where its bytes stand, and what the functions of this crate count on.
+use Prim.Native.Nat.{ℕ, _+_, _-_, _*_, _%_, _≤_, _<_}
 use mathlib.Core.Path.{_≡_}
 use mathlib.Core.Bool.{Bool, true, cond, _&&_}
 use mathlib.Core.List.{List, [], _∷_}
 use lib.ListN.{length}
 use lib.Dec.{eqb, leb, ltb}
-use Rattle.model.specs.Disc.{Disc, disc, recordedRun}
+use Rattle.fields.specs.Bytes.{part}
+use Rattle.model.specs.Disc.{disc}
 use Rattle.model.specs.Vat.{Extent, form, fileLength, allocation, entryFits, extents, blocksIn, sizesFit, sizes, fileOf}
 
 -- a lent disc, 2,048 bytes a mark, with the first k sectors of a partition that starts at s (01, "The disc and its addresses")
@@ -14,23 +14,15 @@ pub record Lent (bytes marks : List ℕ) (s k : ℕ) : Type 0 where
   pub made : length bytes ≡ 2048 * length marks
   pub inside : s + k ≤ length marks
 
--- one extent (01, "The VAT and its ICB": "length (upper two bits 0)", "every block of every extent is below k and recorded")
-unfoldable pub extentFits : Disc → ℕ → ℕ → ℕ → ℕ → Bool
-extentFits d s k size block =
-    ltb size (2 ^ 30) && (leb (block + blocksIn size) k && recordedRun d (s + block) (blocksIn size))
-
--- the extents that are left, where those before them add up to `sum`, and `whole` says that the one before is a multiple of 2,048 bytes
--- (01, "The VAT and its ICB": "Each length but the last is a multiple of 2,048; they add up to F"). `extents-fit` in proofs/ says it
--- with no sum carried along
-unfoldable pub extentsFit : Disc → ℕ → ℕ → ℕ → Bool → ℕ → List Extent → Bool
-extentsFit d s k f whole sum [] = eqb sum f
-extentsFit d s k f whole sum (x ∷ l) =
-    whole && (extentFits d s k (x .size) (x .block) && extentsFit d s k f (eqb (x .size % 2048) 0) (sum + x .size) l)
-
 -- where byte o of the extents stands among the bytes of the disc; 0 past their end (01, "The VAT and its ICB": "length and logical block")
 unfoldable pub placeOf : ℕ → List Extent → ℕ → ℕ
 placeOf s [] o = 0
 placeOf s (x ∷ l) o = cond (ltb o (x .size)) (2048 * (s + x .block) + o) (placeOf s l (o - x .size))
+
+-- how many bytes stand from byte o to the end of its extent; 0 past their end (01, "The VAT and its ICB": "length and logical block")
+unfoldable pub leftOf : List Extent → ℕ → ℕ
+leftOf [] o = 0
+leftOf (x ∷ l) o = cond (ltb o (x .size)) (x .size - o) (leftOf l (o - x .size))
 
 -- every extent lies in a disc of n bytes, as it does if it is below k (01, "The VAT and its ICB")
 unfoldable pub onDisc : ℕ → ℕ → List Extent → Bool
@@ -54,3 +46,10 @@ pub record Filed (bytes : List ℕ) (s : ℕ) (b : List ℕ) : Type 0 where
 -- the file of a block (01, "The VAT and its ICB"); marks have no part in it
 unfoldable pub fileIn : List ℕ → ℕ → List ℕ → List ℕ
 fileIn bytes s b = fileOf (disc bytes []) s b
+
+-- the bytes r of some words of a file f, from word v on and none from n on
+pub record Together (f : List ℕ) (v n : ℕ) (r : List ℕ) : Type 0 where
+  pub some : 0 < length r
+  pub whole : length r % 4 ≡ 0
+  pub upTo : 4 * v + length r ≤ 4 * n
+  pub same : r ≡ part f (4 * v) (length r)

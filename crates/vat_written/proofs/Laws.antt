@@ -80,15 +80,53 @@ front-spliced s b n e = take-at b (drop (0 + length b) s) n e
 
 -- ---- the tail
 
+-- it has 36 bytes
+pub length-tail : (previous : ℕ) → length (tail previous) ≡ 36
+unfolding tail regid identifier vatName digits
+length-tail previous = refl
+
 -- the two fields, put into 36 zeros
 pub tail-written : (a b : List ℕ) (previous : ℕ) → a ≡ splice (replicate 36 0) 0 (regid vatName) → b ≡ splice a 32 (digits 4 previous) → b ≡ tail previous
 unfolding tail splice regid identifier vatName digits
 tail-written a b previous ea eb = eb ∙ ap (λ (x : List ℕ). splice x 32 (digits 4 previous)) ea
 
--- a byte of what is written of it
-pub tail-at : (b : List ℕ) (previous from w i v : ℕ) → i < w → b ≡ tail previous → v ≡ getD b (from + i) 0 → v ≡ getD (onward (tail previous) from w) i 0
-tail-at b previous from w i v h eb ev =
-    ev ∙ ap (λ (x : List ℕ). getD x (from + i) 0) eb ∙ sym (getD-onward (tail previous) from w i h)
+-- a byte of zeros into which p is put at their start: p's, 0 past its end
+put-byte : (p : List ℕ) (w i : ℕ) → getD (splice (replicate w 0) 0 p) i 0 ≡ getD p i 0
+unfolding splice
+put-byte p w i =
+    let rest : List ℕ = drop (0 + length p) (replicate w 0) in
+    by-lt i (length p)
+    (λ h. List·getD-append p rest 0 i h)
+    (λ h.
+    let e : i ≡ length p + (i - length p) = omega arith in
+    ap (λ (j : ℕ). getD (p ++ rest) j 0) e
+    ∙ getD-append-add p rest (i - length p) 0
+    ∙ getD-drop (0 + length p) (replicate w 0) (i - length p) 0
+    ∙ getD-zeros w (0 + length p + (i - length p))
+    ∙ sym (List·getD-eq-default p 0 h))
+
+-- as much of t as falls into w zeros, put there
+module _ (t : List ℕ) (from w begun count : ℕ) (eb : begun ≡ min from (length t)) (ec : count ≡ min (length t - begun) w) where
+  length-begun : length (part t begun count) ≡ count
+  length-begun = length-part t begun count (omega arith)
+
+  begun-byte : (i : ℕ) → i < w → getD (part t begun count) i 0 ≡ getD t (from + i) 0
+  begun-byte i h =
+      by-lt i count
+      (λ k. let e : begun + i ≡ from + i = omega arith in getD-part t begun count i k ∙ ap (λ (j : ℕ). getD t j 0) e)
+      (λ k. List·getD-eq-default (part t begun count) 0 (omega (arith, length-begun)) ∙ sym (List·getD-eq-default t 0 (omega arith)))
+
+  length-put : length (splice (replicate w 0) 0 (part t begun count)) ≡ w
+  length-put =
+      length-splice (replicate w 0) 0 (part t begun count) (simp length-replicate (omega (arith, length-begun))) ∙ length-replicate {A = ℕ} w 0
+
+  pub put-onward : splice (replicate w 0) 0 (part t begun count) ≡ onward t from w
+  put-onward =
+      ext-getD 0 (splice (replicate w 0) 0 (part t begun count)) (onward t from w) (length-put ∙ sym (length-onward t from w))
+      (λ i h.
+      put-byte (part t begun count) w i
+      ∙ begun-byte i (omega (arith, length-put))
+      ∙ sym (getD-onward t from w i (omega (arith, length-put))))
 
 -- ---- entries
 

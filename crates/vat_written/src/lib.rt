@@ -21,9 +21,6 @@ const ENTRY_BYTES: usize = ENTRY as usize;
 
 const ENTRIES_IN_SECTOR: u32 = SECTOR / ENTRY;
 
-// Every byte not named.
-const UNNAMED: u8 = 0;
-
 // The tail of the file: the regid with its name, and after it the previous ICB.
 const REGID_AT: usize = 0;
 
@@ -139,25 +136,18 @@ fn tail_of(previous: u32) -> [u8; TAIL_BYTES]
     bytes
 }
 
-// Byte j of the tail, 0 past its end.
-fn tail_byte(bytes: &[u8], j: usize) -> u8
-    ensures { λ r. ⌜ r ≡ getD (now (bytes .entry)) j 0 ⌝ }
-{
-    if j < bytes.len() {
-        return bytes[j];
-    }
-    UNNAMED
-}
-
 // Writes the tail of the file from its byte `from` on, as much of it as fits, and zeros after it.
 fn write_tail(rest: &mut [u8], from: usize, previous: u32)
     requires { ⌜ from + length (now rest) ≤ 65536 ⌝ }
     ensures { λ _. ⌜ now (rest .exit) ≡ onward (tail previous) from (length (now (rest .entry))) ⌝ }
 {
+    fields::clear(rest);
     let bytes = tail_of(previous);
+    let begun = smaller(from, TAIL_BYTES);
+    let count = smaller(TAIL_BYTES - begun, rest.len());
     let mut i: usize = 0;
-    while i < rest.len() {
-        rest[i] = tail_byte(&bytes, from + i);
+    while i < count {
+        rest[i] = bytes[begun + i];
         i += 1;
     }
 }

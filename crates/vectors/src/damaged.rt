@@ -9,7 +9,7 @@ fn write_once_list() -> [u8; 70]
     ensures { λ r. ⌜ length r ≡ 70 ⌝ }
 {
     let mut list = [0u8; 70];
-    maps::write_maps(lists::write_once(7), &mut list);
+    maps_written::write_maps(lists::write_once(7), &mut list);
     list
 }
 
@@ -18,7 +18,7 @@ fn rewritable_list() -> [u8; 64]
 {
     let mut list = [0u8; 64];
     let volume = lists::rewritable(7, 4, 2048, [64, 96, 128, 160]);
-    maps::write_maps(volume, &mut list);
+    maps_written::write_maps(volume, &mut list);
     list
 }
 

@@ -69,7 +69,7 @@ pub fn read(group: &[u8], name: &[u8], list: &[u8]) {
 
 // A volume's list, written over other bytes, then read.
 fn round_trip(name: &[u8], volume: Volume, list: &mut [u8]) {
-    let verdict = maps::write_maps(volume, list);
+    let verdict = maps_written::write_maps(volume, list);
     say::case(b"written", name);
     say::verdict(verdict);
     say::bytes(list);

@@ -3,7 +3,7 @@ use crate::lists;
 use maps::Volume;
 
 fn write(name: &[u8], volume: Volume, out: &mut [u8]) {
-    let verdict = maps::write_maps(volume, out);
+    let verdict = maps_written::write_maps(volume, out);
     say::case(b"write", name);
     say::verdict(verdict);
     say::hex(tag::crc(out, 0) as u64, 4);

@@ -70,13 +70,13 @@ fn scan(disc: &[u8], marks: &[u8], s: u32, n: u32) -> Scanned
         let from = SECTOR * at;
         let to = from + SECTOR;
         let icb = &disc[from..to];
-        if !vat::tag_fits(k, icb) {
+        if !icb::tag_fits(k, icb) {
             continue 'scan;
         }
-        if !vat::entry_fits(icb) {
+        if !icb::entry_fits(icb) {
             continue 'scan;
         }
-        if !vat::allocation_fits(marks, s, k, icb) {
+        if !icb::allocation_fits(marks, s, k, icb) {
             continue 'scan;
         }
         if !vat::table_fits(disc, s, k, icb) {
@@ -114,7 +114,7 @@ pub fn open_write_once(
     } = kind {
         return Opened::Refused(Refusal::OtherKind);
     }
-    let next = disc::next_writable(marks, s, l);
+    let next = marks::next_writable(marks, s, l);
     let found = scan(disc, marks, s, next);
     match found {
         Scanned::Nowhere => Opened::Refused(Refusal::NoTable),
@@ -178,7 +178,7 @@ pub fn read_virtual(
         return Given::Refused(why);
     }
     let at = s as usize + table[v as usize] as usize;
-    if !disc::is_recorded(marks, at) {
+    if !marks::is_recorded(marks, at) {
         return Given::Refused(Refusal::NotRecorded);
     }
     let from = SECTOR * at;

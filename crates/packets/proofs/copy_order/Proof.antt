@@ -21,19 +21,19 @@ counted s =
 on : (s : tie.Start) → (i : ℕ) → i < length (geometryIn (s .args .x) .tables) → getD (geometryIn (s .args .x) .tables) i 0 < length (s .args .marks .now)
 on s i l =
     let h : i < s .args .x .count = omega (arith, counted s) in
-    omega (arith, getD-take (s .args .x .count) (s .args .x .tables) i 0 h, s .pre .1 .1 .1 i h, s .pre .1 .1 .0)
+    omega (arith, getD-take (s .args .x .count) (s .args .x .tables) i 0 h, s .pre .1 .1 .0 .1 i h, s .pre .1 .1 .0 .0)
 
 gather-requires : tie.Need-gather-requires
 gather-requires c κs =
     let s = c .before .before in
     let all = chosen-all (discOf (s .args .disc .now) (s .args .marks .now)) (geometryIn (s .args .x)) (s .args .sequence) (geometryIn (s .args .x) .tables) in
-    (s .pre .0, (s .pre .1 .0, (s .pre .1 .1, omega (arith, all, counted s, s .pre .0 .0))))
+    (s .pre .0, (s .pre .1 .0, (s .pre .1 .1 .0, (s .pre .1 .1 .1 .0, (s .pre .1 .1 .1 .1, omega (arith, all, counted s, s .pre .0 .0))))))
 
 gather-requires-2 : tie.Need-gather-requires-2
 gather-requires-2 c κs =
     let s = c .before .before .before in
     let all = chosen-all (discOf (s .args .disc .now) (s .args .marks .now)) (geometryIn (s .args .x)) (s .args .sequence) (geometryIn (s .args .x) .tables) in
-    (s .pre .0, (s .pre .1 .0, (s .pre .1 .1, omega (arith, all, counted s, s .pre .0 .0, c .gather .ensures .0))))
+    (s .pre .0, (s .pre .1 .0, (s .pre .1 .1 .0, (s .pre .1 .1 .1 .0, (s .pre .1 .1 .1 .1, omega (arith, all, counted s, s .pre .0 .0, c .gather .ensures .0))))))
 
 returns : tie.Need-returns
 returns c =

@@ -13,11 +13,11 @@ use Rattle.packets.proofs.gather.Statement.{statement}
 use Rattle.packets.proofs.gather.Tie as tie
 
 abbrev Inv-loop : tie.InvT-loop
-Inv-loop disc marks x sequence wanted tables n places₀ count₀ i₀ places count i =
+Inv-loop disc marks x sequence at wanted tables n places₀ count₀ i₀ places count i =
     Gathering (discOf disc marks) (geometryIn x) sequence wanted (take n tables) (take count₀ places₀) count₀ i places count
 
 abbrev μ-loop : tie.MeasureT-loop
-μ-loop disc marks x sequence wanted tables n places₀ count₀ i₀ places count i = n - i
+μ-loop disc marks x sequence at wanted tables n places₀ count₀ i₀ places count i = n - i
 
 cast-n : tie.Need-cast-n Inv-loop μ-loop
 cast-n c = search needs
@@ -35,7 +35,7 @@ is-wanted-requires : tie.Need-is-wanted-requires Inv-loop μ-loop
 is-wanted-requires c κs =
     let s = c .before .before .before .before .before .before .before in
     let i = c .before .loop .i in
-    (s .pre .0, (s .pre .1 .0, omega (arith, s .pre .1 .1 .0 .0, s .pre .1 .1 .0 .1 i (c .loop-test .taken))))
+    (s .pre .0, (s .pre .1 .0, ((omega (arith, s .pre .1 .1 .0 .0, s .pre .1 .1 .0 .1 i (c .loop-test .taken)), s .pre .1 .1 .1 .0), s .pre .1 .1 .1 .1 .0)))
 
 -- at most four tables are used
 few : (c : tie.At-loop Inv-loop μ-loop) → let x = c .before .before .before .before .before .before .args .x in x .count ≤ length (x .tables)
@@ -50,7 +50,7 @@ room c q =
     let l = c .before in
     let s = l .before .before .before .before .before .before .before in
     let x = s .args .x in
-    gathering-room _ _ _ _ (x .tables) (x .count) (l .before .loop .i) (few (l .before)) _ _ _ _ _ (l .loop-test .taken) (c .is-wanted .ensures) q (s .pre .1 .1 .1) (l .before .loop .inv)
+    gathering-room _ _ _ _ (x .tables) (x .count) (l .before .loop .i) (few (l .before)) _ _ _ _ _ (l .loop-test .taken) (c .is-wanted .ensures) q (s .pre .1 .1 .1 .1 .1) (l .before .loop .inv)
 
 mul-places : tie.Need-mul-places Inv-loop μ-loop
 mul-places c =

@@ -1,6 +1,6 @@
 -- `sparing::spares_placed` meets its contract. The invariant: the spares left answer for all. The measure is the spares left. Assumes nothing.
 use Prim.Native.Nat.{_-_}
-use mathlib.Core.Path.{_≡_, refl, sym, _∙_}
+use mathlib.Core.Path.{_≡_, refl, _∙_}
 use borrow.Author.Needs.{needs}
 use lib.ListN.{length, drop}
 use borrow.Author.Tests.{not-true, not-false}
@@ -34,7 +34,7 @@ returns : tie.Need-returns Inv-loop μ-loop
 returns c =
     let v = c .before .before .before .before in
     let s = v .before .before .args .spares .now in
-    mapped-off (spareEntries s) (v .loop .i) _ (spare-step s (v .loop .i) (c .before .before .before .loop-test .taken)) _ _ refl (sym (c .before .is-placed .ensures) ∙ not-true _ (c .if1 .taken))
+    mapped-off (spareEntries s) (v .loop .i) _ (spare-step s (v .loop .i) (c .before .before .before .loop-test .taken)) _ _ refl _ (c .before .is-placed .ensures) (not-true _ (c .if1 .taken))
     ∙ v .loop .inv
 
 add-is-absent-spare : tie.Need-add-is-absent-spare Inv-loop μ-loop
@@ -48,7 +48,7 @@ returns-2 c =
     let p = c .before .before in
     let v = p .before .before .before .before in
     let s = v .before .before .args .spares .now in
-    mapped-twice (spareEntries s) (v .loop .i) _ (spare-step s (v .loop .i) (p .before .before .before .loop-test .taken)) _ _ refl (sym (p .before .is-placed .ensures) ∙ not-false _ (p .if1 .left)) (sym (c .before .is-absent-spare .ensures) ∙ not-true _ (c .if2 .taken))
+    mapped-twice (spareEntries s) (v .loop .i) _ (spare-step s (v .loop .i) (p .before .before .before .loop-test .taken)) _ _ refl _ _ (p .before .is-placed .ensures) (not-false _ (p .if1 .left)) (c .before .is-absent-spare .ensures) (not-true _ (c .if2 .taken))
     ∙ v .loop .inv
 
 add-i : tie.Need-add-i Inv-loop μ-loop
@@ -62,7 +62,7 @@ loop-again c =
     let p = c .before .before in
     let v = p .before .before .before .before in
     let s = v .before .before .args .spares .now in
-    mapped-next (spareEntries s) (v .loop .i) _ (spare-step s (v .loop .i) (p .before .before .before .loop-test .taken)) _ _ refl (sym (p .before .is-placed .ensures) ∙ not-false _ (p .if1 .left)) (sym (c .before .is-absent-spare .ensures) ∙ not-false _ (c .if2 .left))
+    mapped-next (spareEntries s) (v .loop .i) _ (spare-step s (v .loop .i) (p .before .before .before .loop-test .taken)) _ _ refl _ _ (p .before .is-placed .ensures) (not-false _ (p .if1 .left)) (c .before .is-absent-spare .ensures) (not-false _ (c .if2 .left))
     ∙ v .loop .inv
 
 returns-3 : tie.Need-returns-3 Inv-loop μ-loop

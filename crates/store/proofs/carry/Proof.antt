@@ -6,7 +6,7 @@ use native.Mathlib.Omega.{arith}
 use lib.ListN.{length, set}
 use Rattle.model.specs.Disc.{disc}
 use Rattle.model.specs.Examine.{setting}
-use Rattle.store.specs.Promise.{stateOf}
+use Rattle.steps.specs.Stepped.{stateOf}
 use Rattle.store.proofs.Turns.{Turn, turn-first, turn-next, turn-last}
 use borrow.Author.Needs.{needs}
 use Rattle.store.proofs.carry.Statement.{statement}

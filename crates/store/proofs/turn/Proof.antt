@@ -5,8 +5,8 @@ use native.Mathlib.Omega.{arith}
 use Rattle.model.specs.Disc.{disc}
 use Rattle.model.specs.Examine.{Setting, setting}
 use Rattle.model.specs.Calls.{State}
-use Rattle.store.specs.Promise.{stateOf}
-use Rattle.store.proofs.Stepping.{read-step}
+use Rattle.steps.specs.Stepped.{stateOf}
+use Rattle.store.proofs.Reading.{read-step}
 use borrow.Author.Needs.{needs}
 use Rattle.store.proofs.turn.Statement.{statement}
 use Rattle.store.proofs.turn.Tie as tie

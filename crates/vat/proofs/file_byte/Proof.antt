@@ -39,22 +39,22 @@ returns c =
     ap (λ (n : ℕ). getD (a .icb .now) (176 + n + a .o) 0) (c .before .attributes-of .ensures .0)
     ∙ embedded-byte _ _ _ (s .pre .0) (a .o) (sym (b .form-of .ensures) ∙ c .before .before .if1 .taken) (s .pre .1)
 
-place-requires : tie.Need-place-requires
-place-requires c κs = search needs
+run-at-requires : tie.Need-run-at-requires
+run-at-requires c κs = search needs
 
 shared-slice-read-result-2 : tie.Need-shared-slice-read-result-2
 shared-slice-read-result-2 c =
     let b = c .before .before .before in
     let s = b .before .before .before in
     let h = extended-byte _ _ _ (s .pre .0) (s .args .o) (λ e. c .before .before .if1 .left (b .form-of .ensures ∙ e)) (s .pre .1) in
-    omega (arith, h .0, c .before .place .ensures)
+    omega (arith, h .0, c .before .run-at .ensures .0)
 
 returns-2 : tie.Need-returns-2
 returns-2 c =
     let b = c .before .before .before in
     let s = b .before .before .before in
     let h = extended-byte _ _ _ (s .pre .0) (s .args .o) (λ e. c .before .before .if1 .left (b .form-of .ensures ∙ e)) (s .pre .1) in
-    ap (λ (n : ℕ). getD (s .args .disc .now) n 0) (c .before .place .ensures) ∙ h .1
+    ap (λ (n : ℕ). getD (s .args .disc .now) n 0) (c .before .run-at .ensures .0) ∙ h .1
 
 pub file-byte-spec : {M : Type 1} → statement M
 file-byte-spec =
@@ -66,6 +66,6 @@ file-byte-spec =
     add-at-2
     shared-slice-read-result
     returns
-    place-requires
+    run-at-requires
     shared-slice-read-result-2
     returns-2)

@@ -36,5 +36,3 @@ pub fill-spec : {M : Type 1} → statement M
 fill-spec =
     tie.close
     (tie.spec sector-at-requires count-of-requires put-entries-requires same-length returns)
-
--- touched

@@ -1,18 +1,21 @@
 -- `vat::table_fits` meets its contract, test by test (`table-tests`). Assumes nothing.
-use mathlib.Core.Path.{_≡_, sym, ap, _∙_}
-use borrow.Author.Needs.{needs}
+use Prim.Native.Nat.{_-_, _/_}
+use mathlib.Core.Bool.{Bool, _&&_}
+use mathlib.Core.Path.{_≡_, sym, _∙_}
+use native.Mathlib.Omega.{arith}
 use borrow.Author.Tests.{eq-eqb, ne-eqb, le-leb, lt-leb, not-true, not-false}
 use lib.ListN.{length}
+use Rattle.fields.specs.Number.{field, words}
 use Rattle.maps.proofs.Tests.{fails, holds}
-use Rattle.model.specs.Vat.{belowOrNone}
+use Rattle.model.specs.Vat.{belowOrNone, allBelow, tableFits}
 use Rattle.vat.specs.File.{fileIn}
 use Rattle.vat.proofs.File.{length-file}
-use Rattle.vat.proofs.Table.{table-tests}
+use Rattle.vat.proofs.Table.{below-first, table-tests, previous-word}
 use Rattle.vat.proofs.table_fits.Statement.{statement}
 use Rattle.vat.proofs.table_fits.Tie as tie
 
 length-of-requires : tie.Need-length-of-requires
-length-of-requires c κs = search needs
+length-of-requires c κs = c .before .before .pre .block
 
 -- the file has as many bytes as were read
 long : (c : tie.After-length-of) → let a = c .before .before .before .args in length (fileIn (a .disc .now) (a .s) (a .icb .now)) ≡ c .length-of .result
@@ -27,7 +30,9 @@ returns-2 c =
     holds (le-leb _ _ (b .if1 .left)) (fails _ (ne-eqb _ _ (c .if2 .taken))) ∙ sym (table-tests _ _ _ (long (b .before)))
 
 has-name-requires : tie.Need-has-name-requires
-has-name-requires c κs = search needs
+has-name-requires c κs =
+    let s = c .before .before .before .before .before in
+    (s .pre, omega (arith, c .before .before .length-of .ensures))
 
 returns-3 : tie.Need-returns-3
 returns-3 c =
@@ -37,41 +42,40 @@ returns-3 c =
     (holds (eq-eqb _ _ (e .if2 .left)) (fails _ (sym (c .before .has-name .ensures) ∙ not-true _ (c .if3 .taken))))
     ∙ sym (table-tests _ _ _ (long (b .before)))
 
-sub-file-word : tie.Need-sub-file-word
-sub-file-word c = search needs
+sub-words-below : tie.Need-sub-words-below
+sub-words-below c = omega arith
 
-file-word-requires : tie.Need-file-word-requires
-file-word-requires c κs = search needs
+words-below-requires : tie.Need-words-below-requires
+words-below-requires c κs =
+    let e = c .before .before .before .before in
+    (e .before .before .before .pre, (omega arith, omega (arith, e .length-of .ensures)))
 
-below-or-none-requires : tie.Need-below-or-none-requires
-below-or-none-requires c κs = search needs
+-- past the regid: the previous ICB and the entries are left
+past-3 : (c : tie.Else3) {x : Bool} → let n = c .before .before .before .before .length-of .result in let a = c .before .before .before .before .before .before .before .args in let f = fileIn (a .disc .now) (a .s) (a .icb .now) in x ≡ belowOrNone (a .k) (field f (n - 4) 4) && allBelow (a .k) (words f 0 ((n - 36) / 4)) → x ≡ tableFits (a .k) f
+past-3 c q =
+    let e = c .before .before in
+    holds (le-leb _ _ (e .before .if1 .left))
+    (holds (eq-eqb _ _ (e .if2 .left)) (holds (sym (c .before .has-name .ensures) ∙ not-false _ (c .if3 .left)) q))
+    ∙ sym (table-tests _ _ _ (long (e .before .before)))
+
+-- the previous ICB, where it is tested
+previous : (c : tie.After-words-below) → let n = c .before .before .before .before .before .length-of .result in let a = c .before .before .before .before .before .before .before .before .args in c .words-below .result ≡ belowOrNone (a .k) (field (fileIn (a .disc .now) (a .s) (a .icb .now)) (n - 4) 4)
+previous c =
+    let e = c .before .before .before in
+    previous-word _ _ _ _ (e .before .if1 .left) (e .if2 .left) (c .words-below .ensures)
 
 returns-4 : tie.Need-returns-4
-returns-4 c =
-    let n = c .before .before .before in
-    let e = n .before .before in
-    let b = e .before in
-    holds (le-leb _ _ (b .if1 .left))
-    (holds (eq-eqb _ _ (e .if2 .left))
-    (holds (sym (n .before .has-name .ensures) ∙ not-false _ (n .if3 .left))
-    (fails _ (ap (belowOrNone _) (sym (c .before .before .file-word .ensures)) ∙ sym (c .before .below-or-none .ensures) ∙ not-true _ (c .if4 .taken)))))
-    ∙ sym (table-tests _ _ _ (long (b .before)))
+returns-4 c = past-3 (c .before .before) (fails _ (sym (previous (c .before)) ∙ not-true _ (c .if4 .taken)))
 
-entries-fit-requires : tie.Need-entries-fit-requires
-entries-fit-requires c κs = search needs
+words-below-requires-2 : tie.Need-words-below-requires-2
+words-below-requires-2 c κs =
+    let e = c .before .before .before .before .before .before in
+    (e .before .before .before .pre, (omega arith, omega (arith, e .length-of .ensures)))
 
 returns-5 : tie.Need-returns-5
 returns-5 c =
-    let p = c .before in
-    let n = p .before .before .before in
-    let e = n .before .before in
-    let b = e .before in
-    holds (le-leb _ _ (b .if1 .left))
-    (holds (eq-eqb _ _ (e .if2 .left))
-    (holds (sym (n .before .has-name .ensures) ∙ not-false _ (n .if3 .left))
-    (holds (ap (belowOrNone _) (sym (p .before .before .file-word .ensures)) ∙ sym (p .before .below-or-none .ensures) ∙ not-false _ (p .if4 .left))
-    (c .entries-fit .ensures))))
-    ∙ sym (table-tests _ _ _ (long (b .before)))
+    past-3 (c .before .before .before)
+    (holds (sym (previous (c .before .before)) ∙ not-false _ (c .before .if4 .left)) (c .words-below2 .ensures ∙ below-first _ _ _))
 
 pub table-fits-spec : {M : Type 1} → statement M
 table-fits-spec =
@@ -82,9 +86,8 @@ table-fits-spec =
     returns-2
     has-name-requires
     returns-3
-    sub-file-word
-    file-word-requires
-    below-or-none-requires
+    sub-words-below
+    words-below-requires
     returns-4
-    entries-fit-requires
+    words-below-requires-2
     returns-5)

@@ -1,0 +1,97 @@
+-- `copies::copies_agree` meets its contract. The invariant: the copies left answer for all. The measure is the copies left. Assumes nothing.
+use Prim.Native.Nat.{ℕ, _-_, _≤_}
+use mathlib.Core.Path.{_≡_, refl, ap, _∙_}
+use borrow.Author.Needs.{needs}
+use native.Mathlib.Omega.{arith}
+use lib.ListN.{length, take, drop}
+use borrow.Author.Tests.{not-true, not-false}
+use Rattle.copies.proofs.Copies.{agreeing-end, agreeing-off, agreeing-next}
+use Rattle.sparing.specs.Layout.{geometryIn}
+use Rattle.copies.specs.Copies.{agreeing}
+use Rattle.model.specs.Disc.{disc as discOf}
+use Rattle.copies.proofs.copies_agree.Statement.{statement}
+use Rattle.copies.proofs.copies_agree.Tie as tie
+
+abbrev Inv-loop : tie.InvT-loop
+Inv-loop disc marks x at sequence tables n i₀ i = agreeing (discOf disc marks) (geometryIn x) at sequence (drop i (take n tables)) ≡ agreeing (discOf disc marks) (geometryIn x) at sequence (take n tables)
+
+abbrev μ-loop : tie.MeasureT-loop
+μ-loop disc marks x at sequence tables n i₀ i = n - i
+
+wide8-requires : tie.Need-wide8-requires Inv-loop μ-loop
+wide8-requires c κs = search needs
+
+loop-holds : tie.Need-loop-holds Inv-loop μ-loop
+loop-holds c = refl
+
+mul-copy-agrees : tie.Need-mul-copy-agrees Inv-loop μ-loop
+mul-copy-agrees c = search needs
+
+array-read-copy-agrees : tie.Need-array-read-copy-agrees Inv-loop μ-loop
+array-read-copy-agrees c = search needs
+
+copy-agrees-requires : tie.Need-copy-agrees-requires Inv-loop μ-loop
+copy-agrees-requires c κs =
+    let s = c .before .before .before .before .before .before in
+    let i = c .before .loop .i in
+    (s .pre .0, (s .pre .1 .0, ((omega (arith, s .pre .1 .1 .0 .1 i (omega arith)), s .pre .1 .1 .1 .0), s .pre .1 .1 .1 .1)))
+
+-- at most four tables are used
+few : (c : tie.After-wide8 Inv-loop μ-loop) → c .wide8 .result ≤ length (c .before .before .before .before .args .x .tables)
+few c =
+    let e : length (c .before .before .before .before .args .x .tables) ≡ 4 = search needs in
+    omega arith
+
+-- as many as the layout says
+counted : (c : tie.After-wide8 Inv-loop μ-loop) → let a = c .before .before .before .before .args in agreeing (discOf (a .disc .now) (a .marks .now)) (geometryIn (a .x)) (a .at) (a .sequence) (take (c .wide8 .result) (a .x .tables)) ≡ agreeing (discOf (a .disc .now) (a .marks .now)) (geometryIn (a .x)) (a .at) (a .sequence) (take (a .x .count) (a .x .tables))
+counted c =
+    let a = c .before .before .before .before .args in
+    ap (λ (n : ℕ). agreeing (discOf (a .disc .now) (a .marks .now)) (geometryIn (a .x)) (a .at) (a .sequence) (take n (a .x .tables))) (c .wide8 .ensures .0)
+
+returns : tie.Need-returns Inv-loop μ-loop
+returns c =
+    let l = c .before .before in
+    let w = l .before .before in
+    let a = w .before .before .before .before .args in
+    agreeing-off _ _ _ _ (a .x .tables) (w .wide8 .result) (l .before .loop .i) (few w) _ (l .loop-test .taken) (c .before .copy-agrees .ensures) (not-true _ (c .if1 .taken))
+    ∙ l .before .loop .inv
+    ∙ counted w
+
+add-i : tie.Need-add-i Inv-loop μ-loop
+add-i c = search needs
+
+loop-less : tie.Need-loop-less Inv-loop μ-loop
+loop-less c = search needs
+
+loop-again : tie.Need-loop-again Inv-loop μ-loop
+loop-again c =
+    let l = c .before .before in
+    let w = l .before .before in
+    let a = w .before .before .before .before .args in
+    agreeing-next _ _ _ _ (a .x .tables) (w .wide8 .result) (l .before .loop .i) (few w) _ (l .loop-test .taken) (c .before .copy-agrees .ensures) (not-false _ (c .if1 .left))
+    ∙ l .before .loop .inv
+
+returns-2 : tie.Need-returns-2 Inv-loop μ-loop
+returns-2 c =
+    let w = c .before .before in
+    let a = w .before .before .before .before .args in
+    agreeing-end _ _ _ _ (a .x .tables) (w .wide8 .result) (c .before .loop .i) (few w) (c .loop-test .left)
+    ∙ c .before .loop .inv
+    ∙ counted w
+
+pub copies-agree-spec : {M : Type 1} → statement M
+copies-agree-spec =
+    tie.close
+    (tie.spec
+    Inv-loop
+    μ-loop
+    wide8-requires
+    loop-holds
+    mul-copy-agrees
+    array-read-copy-agrees
+    copy-agrees-requires
+    returns
+    add-i
+    loop-less
+    loop-again
+    returns-2)

@@ -1,0 +1,77 @@
+-- `copies::newest_copy` meets its contract. The invariant: it is the newest of the copies passed, from the last down. The measure is the copies left. Assumes nothing.
+use Prim.Native.Nat.{ℕ, _-_, _≤_, _<_}
+use mathlib.Core.Path.{_≡_, ap, _∙_}
+use mathlib.Core.Bool.{true}
+use borrow.Author.Needs.{needs}
+use native.Mathlib.Omega.{arith}
+use lib.ListN.{length, take, drop}
+use Rattle.copies.proofs.Copies.{newest-none, newest-next, found-on, found-counts}
+use Rattle.sparing.proofs.Places.{later-below}
+use Rattle.copies.specs.Copies.{newestOf}
+use Rattle.sparing.specs.Layout.{geometryIn}
+use Rattle.model.specs.Disc.{disc as discOf}
+use Rattle.copies.proofs.newest_copy.Statement.{statement}
+use Rattle.copies.proofs.newest_copy.Tie as tie
+
+abbrev Inv-loop : tie.InvT-loop
+Inv-loop disc marks x tables newest₀ i₀ newest i = (i ≤ x .count) × (newest ≡ newestOf (discOf disc marks) (geometryIn x) (drop i (take (x .count) tables)))
+
+abbrev μ-loop : tie.MeasureT-loop
+μ-loop disc marks x tables newest₀ i₀ newest i = i
+
+wide8-requires : tie.Need-wide8-requires Inv-loop μ-loop
+wide8-requires c κs = search needs
+
+loop-holds : tie.Need-loop-holds Inv-loop μ-loop
+loop-holds c =
+    let a = c .before .before .before .before .args in
+    let l : length (a .x .tables) ≡ 4 = search needs in
+    (omega arith, newest-none _ _ (a .x .tables) (a .x .count) (omega arith) _ (c .wide8 .ensures .0))
+
+sub-i : tie.Need-sub-i Inv-loop μ-loop
+sub-i c = search needs
+
+mul-newer-copy : tie.Need-mul-newer-copy Inv-loop μ-loop
+mul-newer-copy c = search needs
+
+array-read-newer-copy : tie.Need-array-read-newer-copy Inv-loop μ-loop
+array-read-newer-copy c = search needs
+
+newer-copy-requires : tie.Need-newer-copy-requires Inv-loop μ-loop
+newer-copy-requires c κs =
+    let s = c .before .before .before .before .before .before in
+    let v = c .before .loop in
+    let on : v .newest .found ≡ true → v .newest .at < s .args .x .sectors = λ f. found-on _ _ _ (v .newest) (v .inv .1) f (s .args .x .sectors) (later-below (s .args .x .tables) (s .args .x .count) (v .i) (s .args .x .sectors) (s .pre .1 .1 .1)) in
+    (s .pre .0, (s .pre .1 .0, (omega (arith, s .pre .1 .1 .1 (v .i - 1) (omega arith)), (λ f. omega (arith, on f), λ f. found-counts _ _ _ (v .newest) (v .inv .1) f))))
+
+loop-less : tie.Need-loop-less Inv-loop μ-loop
+loop-less c = search needs
+
+loop-again : tie.Need-loop-again Inv-loop μ-loop
+loop-again c =
+    let v = c .before .before .loop in
+    let a = c .before .before .before .before .before .before .before .args in
+    let l : length (a .x .tables) ≡ 4 = search needs in
+    (omega arith, newest-next _ _ (a .x .tables) (a .x .count) (omega arith) (v .i) _ _ (omega arith) (omega arith) (v .inv .1) (c .newer-copy .ensures))
+
+returns : tie.Need-returns Inv-loop μ-loop
+returns c =
+    let a = c .before .before .before .before .before .before .args in
+    let z : c .before .loop .i ≡ 0 = omega arith in
+    c .before .loop .inv .1 ∙ ap (λ (i : ℕ). newestOf (discOf (a .disc .now) (a .marks .now)) (geometryIn (a .x)) (drop i (take (a .x .count) (a .x .tables)))) z
+
+pub newest-copy-spec : {M : Type 1} → statement M
+newest-copy-spec =
+    tie.close
+    (tie.spec
+    Inv-loop
+    μ-loop
+    wide8-requires
+    loop-holds
+    sub-i
+    mul-newer-copy
+    array-read-newer-copy
+    newer-copy-requires
+    loop-less
+    loop-again
+    returns)

@@ -1,0 +1,58 @@
+-- `icb::extent_fits` meets its contract, test by test. Assumes nothing.
+use Prim.Native.Nat.{_+_, _/_, _≤_, _<_}
+use mathlib.Core.Path.{_≡_, ap₂, _∙_}
+use native.Mathlib.Omega.{arith}
+use borrow.Author.Needs.{needs}
+use borrow.Author.Tests.{lt-ltb, le-ltb, le-leb, lt-leb}
+use Rattle.maps.proofs.Tests.{fails, holds}
+use Rattle.model.specs.Disc.{disc, recordedRun}
+use Rattle.model.specs.Vat.{blocksIn}
+use Rattle.icb.specs.Extents.{extentFits}
+use Rattle.icb.proofs.extent_fits.Statement.{statement}
+use Rattle.icb.proofs.extent_fits.Tie as tie
+
+returns : tie.Need-returns
+unfolding extentFits
+returns c bytes = fails _ (le-ltb _ _ (c .if1 .taken))
+
+sub-blocks : tie.Need-sub-blocks
+sub-blocks c = search needs
+
+add-blocks : tie.Need-add-blocks
+add-blocks c = search needs
+
+cast-blocks : tie.Need-cast-blocks
+cast-blocks c = search needs
+
+add-if2 : tie.Need-add-if2
+add-if2 c = search needs
+
+returns-2 : tie.Need-returns-2
+unfolding extentFits blocksIn
+returns-2 c bytes =
+    holds (lt-ltb _ _ (c .before .if1 .left)) (fails _ (lt-leb _ _ (c .if2 .taken)))
+
+add-all-recorded : tie.Need-add-all-recorded
+add-all-recorded c = search needs
+
+all-recorded-requires : tie.Need-all-recorded-requires
+all-recorded-requires c κs = search needs
+
+returns-3 : tie.Need-returns-3
+unfolding extentFits blocksIn
+returns-3 c bytes =
+    holds (lt-ltb _ _ (c .before .before .if1 .left)) (holds (le-leb _ _ (c .before .if2 .left)) (c .all-recorded .ensures bytes))
+
+pub extent-fits-spec : {M : Type 1} → statement M
+extent-fits-spec =
+    tie.close
+    (tie.spec
+    returns
+    sub-blocks
+    add-blocks
+    cast-blocks
+    add-if2
+    returns-2
+    add-all-recorded
+    all-recorded-requires
+    returns-3)

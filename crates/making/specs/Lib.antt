@@ -1,0 +1,2 @@
+pub mod WriteOnce
+pub mod Rewritable

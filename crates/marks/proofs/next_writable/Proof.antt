@@ -1,0 +1,73 @@
+-- `marks::next_writable` meets its contract. The loop's invariant: the first k blocks have the NWA of all. Assumes nothing.
+use borrow.Author.Needs.{needs}
+use Prim.Native.Nat.{ℕ, _≤_}
+use mathlib.Core.Path.{_≡_, _∙_}
+use mathlib.Core.List.{List}
+use native.Mathlib.Omega.{arith}
+use Rattle.model.specs.Disc.{disc, nwa}
+use Rattle.marks.proofs.Laws.{blank-below, used-below, none-below}
+use Rattle.marks.proofs.next_writable.Statement.{statement}
+use Rattle.marks.proofs.next_writable.Tie as tie
+
+abbrev Inv-loop : tie.InvT-loop
+Inv-loop marks s l near k₀ k = (k ≤ l) × ((bytes : List ℕ) → nwa (disc bytes marks) s k ≡ nwa (disc bytes marks) s l)
+
+abbrev μ-loop : tie.MeasureT-loop
+μ-loop marks s l near k₀ k = k
+
+skip-blank-requires : tie.Need-skip-blank-requires Inv-loop μ-loop
+skip-blank-requires c κs = search needs
+
+skip-blank-requires-2 : tie.Need-skip-blank-requires-2 Inv-loop μ-loop
+skip-blank-requires-2 c κs = search needs
+
+loop-holds : tie.Need-loop-holds Inv-loop μ-loop
+loop-holds c =
+    let e = c .before .skip-blank .ensures in
+    let f = c .skip-blank2 .ensures in
+    (omega (arith, e .0, f .0), λ bytes. f .1 bytes ∙ e .1 bytes)
+
+sub-below : tie.Need-sub-below Inv-loop μ-loop
+sub-below c = search needs
+
+add-if1 : tie.Need-add-if1 Inv-loop μ-loop
+add-if1 c = search needs
+
+cast-if1 : tie.Need-cast-if1 Inv-loop μ-loop
+cast-if1 c = search needs
+
+shared-slice-read-if1 : tie.Need-shared-slice-read-if1 Inv-loop μ-loop
+shared-slice-read-if1 c = search needs
+
+returns : tie.Need-returns Inv-loop μ-loop
+returns c bytes = used-below _ _ _ (c .before .before .loop-test .taken) (c .if1 .taken) ∙ c .before .before .before .loop .inv .1 bytes
+
+loop-less : tie.Need-loop-less Inv-loop μ-loop
+loop-less c = search needs
+
+loop-again : tie.Need-loop-again Inv-loop μ-loop
+loop-again c = (
+  omega arith,
+  λ bytes. blank-below _ _ _ (c .before .before .loop-test .taken) (c .if1 .left) ∙ c .before .before .before .loop .inv .1 bytes,
+)
+
+returns-2 : tie.Need-returns-2 Inv-loop μ-loop
+returns-2 c bytes = none-below _ _ _ (c .loop-test .left) ∙ c .before .loop .inv .1 bytes
+
+pub next-writable-spec : {M : Type 1} → statement M
+next-writable-spec =
+    tie.close
+    (tie.spec
+    Inv-loop
+    μ-loop
+    skip-blank-requires
+    skip-blank-requires-2
+    loop-holds
+    sub-below
+    add-if1
+    cast-if1
+    shared-slice-read-if1
+    returns
+    loop-less
+    loop-again
+    returns-2)

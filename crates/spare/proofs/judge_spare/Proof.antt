@@ -1,0 +1,89 @@
+-- `spare::judge_spare` meets its contract: the common tests, and then its own. Assumes nothing.
+use mathlib.Core.Path.{refl, sym}
+use borrow.Author.Needs.{needs}
+use Rattle.model.specs.Disc.{Disc, disc}
+use Rattle.model.specs.Examine.{Setting, setting}
+use Rattle.model.specs.Rewrite.{packetLent}
+use Rattle.current.proofs.Laws.{Common, going}
+use Rattle.current.proofs.Looks.{stop-go}
+use Rattle.current.proofs.Held.{sequence-held, room-held, entries-lent}
+use Rattle.current.proofs.Judging.{judged-stop}
+use Rattle.rewriting.proofs.Laws.{stops-call, goes-call}
+use Rattle.rewriting.proofs.Saves.{packet-lent, table-lent}
+use Rattle.spare.proofs.judge_spare.Statement.{statement}
+use Rattle.spare.proofs.judge_spare.Tie as tie
+
+-- the setting and the disc of the call
+abbrev settingOf : tie.Start → Setting
+settingOf z = setting (z .args .maps .now) (z .args .s) (z .args .l)
+
+abbrev discOf : tie.Start → Disc
+discOf z = disc (z .args .disc .now) (z .args .marks .now)
+
+-- what the common tests tell where they let it go on
+abbrev Telling : tie.Start → Type 0
+Telling z = Common (settingOf z) (discOf z) (z .args .table .now) (packetLent (z .args .table .now) (z .args .packet .now)) (z .args .held)
+
+told : (c : tie.After-enum-told) → Telling (c .before .before .before .before .before .before .before .before .before .before)
+told c =
+    let z = c .before .before .before .before .before .before .before .before .before .before in
+    going (settingOf z) (discOf z) (z .args .table .now) (packetLent (z .args .table .now) (z .args .packet .now)) (z .args .held) (packet-lent _ _ (c .before .before .before .before .are-lent .ensures)) (c .before .before .before .judge .ensures .verdict) (c .enum-told .given .1)
+
+are-lent-requires : tie.Need-are-lent-requires
+are-lent-requires c κs = search needs
+
+judge-requires : tie.Need-judge-requires
+judge-requires c κs = λ h. table-lent (c .before .before .before .before .before .before .args .table .now) _ (c .are-lent .ensures) h
+
+enum-known-verdict : tie.Need-enum-known-verdict
+enum-known-verdict c = search needs
+
+returns : tie.Need-returns
+returns c =
+    let z = c .before .before .before .before .before .before .before .before .before .before .before in
+    record {
+      judged =
+          judged-stop (settingOf z) (discOf z) _ refl
+          (stops-call (settingOf z) (discOf z) (z .args .table .now) _ (z .args .held) _ (packet-lent _ (z .args .packet .now) (c .before .before .before .before .before .are-lent .ensures)) (c .before .before .before .before .judge .ensures .verdict) (c .before .verdict .given .1));
+      place = λ g. stop-go refl g;
+      counted = λ g. stop-go refl g;
+    }
+
+enum-told : tie.Need-enum-told
+enum-told c = search needs
+
+judge-sparing-requires : tie.Need-judge-sparing-requires
+judge-sparing-requires c κs =
+    let z = c .before .before .before .before .before .before .before .before .before .before in
+    room-held (settingOf z) (discOf z) (z .args .table .now) _ (z .args .held) (told c)
+
+returns-2 : tie.Need-returns-2
+returns-2 c =
+    let z = c .before .before .before .before .before .before .before .before .before .before .before in
+    let h = told (c .before) in
+    let go = c .before .enum-told .given .1 in
+    let j = c .before .before .before .before .judge .ensures in
+    record {
+      judged =
+          record {
+            verdict =
+                goes-call (settingOf z) (discOf z) (z .args .table .now) _ (z .args .held) _ (packet-lent _ (z .args .packet .now) (c .before .before .before .before .before .are-lent .ensures)) (j .verdict) go
+                (c .judge-sparing .ensures (settingOf z) (discOf z) refl (sym (j .copies go)) (sym (entries-lent (settingOf z) (discOf z) (z .args .table .now) _ (z .args .held) h)) (sym (sequence-held (settingOf z) (discOf z) (z .args .table .now) _ (z .args .held) h)));
+            layout = λ _. j .layout go;
+            copies = λ _. j .copies go;
+          };
+      place = λ _. j .place go;
+      counted = λ _. j .counted go;
+    }
+
+pub judge-spare-spec : {M : Type 1} → statement M
+judge-spare-spec =
+    tie.close
+    (tie.spec
+    are-lent-requires
+    judge-requires
+    enum-known-verdict
+    returns
+    enum-told
+    judge-sparing-requires
+    returns-2)
