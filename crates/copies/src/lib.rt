@@ -81,7 +81,7 @@ fn count_at(disc: &[u8], t: u32) -> u16
     fields::read16(disc, start_of(t) + COUNT_AT)
 }
 
-// Whether sector `t` has the bytes of the copy at sector `other`, as far as the entries of that go.
+// Whether sector `t` has the bytes of the copy at sector `other`, up to the end of its entries.
 fn same_copy(disc: &[u8], t: u32, other: u32) -> bool
     requires { ⌜ (2048 * t + 2048 ≤ length (now disc)) × (2048 * other + 2048 ≤ length (now disc)) ⌝ }
     requires { ⌜ ((marks : List ℕ) → 56 + 8 * countIn (sector (discOf (now disc) marks) other) ≤ 2048) ⌝ }
@@ -95,8 +95,8 @@ fn same_copy(disc: &[u8], t: u32, other: u32) -> bool
     fields::same_bytes(&disc[a..end_a], &disc[b..end_b])
 }
 
-// Whether the copy at sector `t` counts, where that at sector `at` does: one that is recorded and has the
-// bytes of that is not tested again.
+// Whether the copy at sector `t` counts, where the one at sector `at` does: if it is recorded and has the same
+// bytes, it is not tested again.
 pub fn counts_beside(disc: &[u8], marks: &[u8], x: Layout, t: u32, at: u32) -> bool
     requires { ⌜ (x .count ≤ 4) × (x .size ≤ 2048) ⌝ }
     requires { ⌜ length (now disc) ≡ 2048 * length (now marks) ⌝ }

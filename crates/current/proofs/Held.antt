@@ -11,7 +11,7 @@ use Rattle.model.specs.Sparing.{Geometry, Entry, entries, packetOf, locate}
 use Rattle.model.specs.Examine.{Setting, geometry}
 use Rattle.model.specs.Rewrite.{entriesOn, sequenceOn, countOn, placeOf}
 use Rattle.model.proofs.SparingLaws.{packet-multiple, packet-inside, locate-on, locate-packet}
-use Rattle.current.proofs.Laws.{Common, common}
+use Rattle.current.proofs.Laws.{Common}
 use Rattle.current.specs.Held.{countHeld, sequenceHeld, entriesLent}
 
 -- ---- the record and the lent table

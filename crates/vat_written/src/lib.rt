@@ -6,7 +6,7 @@ ghost use mathlib.Core.Path.{_≡_};
 ghost use mathlib.Core.List.{_++_};
 ghost use Prim.Native.Nat.{_+_, _*_, _%_, _≤_, _<_, min};
 ghost use lib.Dec.{ltb};
-ghost use lib.ListN.{length, take, getD, replicate};
+ghost use lib.ListN.{length, take, replicate};
 ghost use Rattle.fields.specs.Bytes.{part, splice};
 ghost use Rattle.fields.specs.Number.{quads};
 ghost use Rattle.model.specs.VatWritten.{fileBytes, dataSectors, writtenForm, filled, writtenData, writtenAllocation, writtenIcb};

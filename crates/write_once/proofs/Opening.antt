@@ -5,13 +5,15 @@ use mathlib.Core.Path.{_≡_, refl, sym, ap, ap₂, _∙_}
 use mathlib.Core.List.{List, [], _∷_}
 use native.Mathlib.Omega.{arith}
 use borrow.Author.Tests.{leb-true, le-leb, lt-leb}
-use lib.Dec.{leb}
+use lib.Dec.{eqb, leb}
 use lib.ListN.{length, getD}
 use Rattle.refusal.specs.declared.Refusal.{Refusal}
 use Rattle.refusal.specs.declared.Refusal.the-variants.{OtherKind, NoTable, TooManyEntries}
 use Rattle.refusal.specs.declared.Verdict.{Verdict}
 use Rattle.refusal.specs.declared.Verdict.the-variants.{Go, Stop}
 use Rattle.refusal.specs.Tests.{test, first, andThen}
+use Rattle.fields.specs.Number.{field}
+use Rattle.fields.proofs.Laws.{field-part}
 use Rattle.maps.proofs.Tests.{fails, holds}
 use Rattle.maps.specs.declared.Kind.the-variants.{WriteOnce, Rewritable}
 use Rattle.model.specs.declared.Record.{Record}
@@ -82,6 +84,14 @@ module _ (bytes marks : List ℕ) (s k p : ℕ) (at : p ≡ s + k) (b : List ℕ
   pub icb-table : {r : Bool} → tagFits k b ≡ true → entryFits b ≡ true → allocationFits (disc bytes marks) s k b ≡ true → r ≡ tableFits k (fileIn bytes s b) → vatIcb (disc bytes marks) s k ≡ r
   unfolding passes
   icb-table h e a t = tested (holds h (holds e (holds a (t ∙ ap (tableFits k) (file-in bytes marks s b)))))
+
+-- a recorded sector of another identifier, f being what is read of it
+pub icb-other : (bytes marks : List ℕ) (s k p f : ℕ) → p ≡ s + k → getD marks p 0 ≡ 1 → f ≡ field bytes (2048 * p) 2 → eqb f 261 ≡ false → vatIcb (disc bytes marks) s k ≡ false
+unfolding tagFits sector
+icb-other bytes marks s k p f at mark ef q =
+    let place : 2048 * (s + k) + 0 ≡ 2048 * p = omega arith in
+    let e : field (sector (disc bytes marks) (s + k)) 0 2 ≡ f = field-part bytes (2048 * (s + k)) 2048 0 2 (omega arith) ∙ ap (λ (n : ℕ). field bytes n 2) place ∙ sym ef in
+    icb-untagged bytes marks s k p at (sector (disc bytes marks) (s + k)) refl mark (sym (fails _ (ap (λ (n : ℕ). eqb n 261) e ∙ q)))
 
 -- ---- what the scan answers
 

@@ -13,7 +13,7 @@ use Rattle.refusal.specs.declared.Refusal.the-variants.{OtherKind, StaleRecord,
 use Rattle.refusal.specs.declared.Verdict.{Verdict}
 use Rattle.refusal.specs.declared.Verdict.the-variants.{Go, Stop}
 use Rattle.refusal.specs.Tests.{test, first}
-use Rattle.refusal.proofs.Laws.{All, passed, goes, stops-all, goes-all}
+use Rattle.refusal.proofs.Laws.{All, passed, stops-all, goes-all}
 use Rattle.model.specs.declared.Record.{Record}
 use Rattle.model.specs.declared.Given.{Given}
 use Rattle.model.specs.Disc.{Disc, sector, recorded, nwa}

@@ -54,11 +54,12 @@ fn cpu_time() -> Duration {
     Duration::new(time.seconds as u64, time.nanoseconds as u32)
 }
 
-/// Measures a call by turns, at least 4 and at most 400 times each, for about a second.
+/// Measures a call by turns for about a second, at least 4 times each: a quick call some ten thousand times, so that what else the
+/// machine does in between does not decide.
 fn measure(world: &mut World, call: impl Fn(&Layer, &mut World) -> u32, put_back: impl Fn(&mut World)) -> Result<Times, String> {
     let mut least = [Duration::MAX; 2];
     let begun = Instant::now();
-    for round in 0..400 {
+    for round in 0usize.. {
         for turn in 0..2 {
             // who goes first changes, so that neither always finds the other's lines in the cache
             let which = (round + turn) % 2;

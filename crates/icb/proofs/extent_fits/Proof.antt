@@ -1,11 +1,7 @@
 -- `icb::extent_fits` meets its contract, test by test. Assumes nothing.
-use Prim.Native.Nat.{_+_, _/_, _≤_, _<_}
-use mathlib.Core.Path.{_≡_, ap₂, _∙_}
-use native.Mathlib.Omega.{arith}
 use borrow.Author.Needs.{needs}
 use borrow.Author.Tests.{lt-ltb, le-ltb, le-leb, lt-leb}
 use Rattle.maps.proofs.Tests.{fails, holds}
-use Rattle.model.specs.Disc.{disc, recordedRun}
 use Rattle.model.specs.Vat.{blocksIn}
 use Rattle.icb.specs.Extents.{extentFits}
 use Rattle.icb.proofs.extent_fits.Statement.{statement}

@@ -1,7 +1,5 @@
 -- `vat::sector_at` meets its contract. Assumes nothing.
-use Prim.Native.Nat.{_+_, _*_}
-use mathlib.Core.Path.{_≡_, refl}
-use native.Mathlib.Omega.{arith}
+use mathlib.Core.Path.{refl}
 use borrow.Author.Needs.{needs}
 use Rattle.vat.proofs.Laws.{lent-sector}
 use Rattle.vat.proofs.sector_at.Statement.{statement}

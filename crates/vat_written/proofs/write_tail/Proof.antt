@@ -1,12 +1,12 @@
 -- `vat_written::write_tail` meets its contract. The loop's invariant: after zeros everywhere, the first `i` of the tail's bytes that fall into
 -- the lent ones are there. Assumes nothing.
-use Prim.Native.Nat.{ℕ, _+_, _-_}
+use Prim.Native.Nat.{ℕ, _-_}
 use mathlib.Core.Path.{_≡_, sym, ap, ap₂, _∙_}
 use mathlib.Core.List.{List}
 use native.Mathlib.Omega.{arith}
 use native.Mathlib.Nat.{zero-add}
 use borrow.Author.Needs.{needs}
-use lib.ListN.{length, getD, length-replicate}
+use lib.ListN.{length, length-replicate}
 use Rattle.fields.specs.Bytes.{part, splice}
 use Rattle.fields.proofs.Laws.{Copying, copying-first, copying-next, copying-last, length-part, getD-part}
 use Rattle.vat_written.specs.Parts.{tail}

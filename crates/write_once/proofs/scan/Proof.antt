@@ -26,16 +26,16 @@ abbrev μ-scan : tie.MeasureT-scan
 
 -- the disc, the logical block and the sector that are looked at
 abbrev bytesOf : tie.After-icb Inv-scan μ-scan → List ℕ
-bytesOf c = c .before .before .before .before .before .before .before .args .disc .now
+bytesOf c = c .before .before .before .before .before .before .before .before .args .disc .now
 
 abbrev marksOf : tie.After-icb Inv-scan μ-scan → List ℕ
-marksOf c = c .before .before .before .before .before .before .before .args .marks .now
+marksOf c = c .before .before .before .before .before .before .before .before .args .marks .now
 
 abbrev startOf : tie.After-icb Inv-scan μ-scan → ℕ
-startOf c = c .before .before .before .before .before .before .before .args .s
+startOf c = c .before .before .before .before .before .before .before .before .args .s
 
 abbrev blockOf : tie.After-icb Inv-scan μ-scan → ℕ
-blockOf c = c .before .before .before .before .scan .k - 1
+blockOf c = c .before .before .before .before .skip-others .result - 1
 
 abbrev placeOf : tie.After-icb Inv-scan μ-scan → ℕ
 placeOf c = startOf c + blockOf c
@@ -45,6 +45,15 @@ icbOf c = take (2048 * placeOf c + 2048 - 2048 * placeOf c) (drop (2048 * placeO
 
 scan-holds : tie.Need-scan-holds Inv-scan μ-scan
 scan-holds c = (omega arith, refl)
+
+skip-others-requires : tie.Need-skip-others-requires Inv-scan μ-scan
+skip-others-requires c κs =
+    let p = c .before .before .before .pre in
+    record { made = p .made; inside = omega (arith, p .inside, c .scan .inv .0) }
+
+-- what is left without the blocks that cannot be an ICB
+left : (c : tie.After-skip-others Inv-scan μ-scan) → let a = c .before .before .before .before .args in scan (disc (a .disc .now) (a .marks .now)) (a .s) (c .skip-others .result) ≡ scan (disc (a .disc .now) (a .marks .now)) (a .s) (a .n)
+left c = c .skip-others .ensures .1 ∙ c .before .scan .inv .1
 
 sub-k : tie.Need-sub-k Inv-scan μ-scan
 sub-k c = search needs
@@ -57,16 +66,16 @@ add-at c = search needs
 
 shared-slice-read-if2 : tie.Need-shared-slice-read-if2 Inv-scan μ-scan
 shared-slice-read-if2 c =
-    let h = c .before .before .before .before .before .pre .inside in
-    omega arith
+    let h = c .before .before .before .before .before .before .pre .inside in
+    omega (arith, c .before .before .skip-others .ensures .0)
 
 scan-less : tie.Need-scan-less Inv-scan μ-scan
 scan-less c = search needs
 
 scan-again : tie.Need-scan-again Inv-scan μ-scan
 scan-again c =
-    let g = c .before .before .before .scan in
-    (omega arith, scan-pass _ _ (g .k) (omega arith) (sym (unrecorded _ _ _ _ _ (omega arith) (c .if2 .taken))) ∙ g .inv .1)
+    let o = c .before .before .before in
+    (omega (arith, o .skip-others .ensures .0, o .before .scan .inv .0), scan-pass _ _ (o .skip-others .result) (omega arith) (sym (unrecorded _ _ _ _ _ (omega arith) (c .if2 .taken))) ∙ left o)
 
 mul-from : tie.Need-mul-from Inv-scan μ-scan
 mul-from c = search needs
@@ -82,27 +91,27 @@ part-icb-start c = search needs
 
 part-icb-end : tie.Need-part-icb-end Inv-scan μ-scan
 part-icb-end c =
-    let z = c .before .before .before .before .before .before in
+    let z = c .before .before .before .before .before .before .before in
     let h = z .pre .inside in
     let m = z .pre .made in
-    omega arith
+    omega (arith, c .before .before .before .skip-others .ensures .0)
 
 -- the sector is one of the disc's
 lent-there : (c : tie.After-icb Inv-scan μ-scan) → Lent (bytesOf c) (marksOf c) (startOf c) (blockOf c)
 lent-there c =
-    let z = c .before .before .before .before .before .before .before in
+    let z = c .before .before .before .before .before .before .before .before in
     let h = z .pre .inside in
-    let g = c .before .before .before .before .scan .inv .0 in
-    record { made = z .pre .made; inside = omega arith }
+    let g = c .before .before .before .before .before .scan .inv .0 in
+    record { made = z .pre .made; inside = omega (arith, c .before .before .before .before .skip-others .ensures .0) }
 
 whole : (c : tie.After-icb Inv-scan μ-scan) → icbOf c ≡ sector (disc (bytesOf c) (marksOf c)) (placeOf c)
 whole c = lent-sector (bytesOf c) (marksOf c) (placeOf c) _ _ refl refl
 
 sized : (c : tie.After-icb Inv-scan μ-scan) → length (icbOf c) ≡ 2048
 sized c =
-    let h = c .before .before .before .before .before .before .before .pre .inside in
-    let g = c .before .before .before .before .scan .inv .0 in
-    ap length (whole c) ∙ length-lent (bytesOf c) (marksOf c) (startOf c) (blockOf c) (lent-there c) (omega arith)
+    let h = c .before .before .before .before .before .before .before .before .pre .inside in
+    let g = c .before .before .before .before .before .scan .inv .0 in
+    ap length (whole c) ∙ length-lent (bytesOf c) (marksOf c) (startOf c) (blockOf c) (lent-there c) (omega (arith, c .before .before .before .before .skip-others .ensures .0))
 
 -- past each test it holds
 tagged : (c : tie.Else3 Inv-scan μ-scan) → tagFits (blockOf (c .before .before)) (icbOf (c .before .before)) ≡ true
@@ -123,9 +132,9 @@ scan-less-2 c = search needs
 scan-again-2 : tie.Need-scan-again-2 Inv-scan μ-scan
 scan-again-2 c =
     let i = c .before .before in
-    let g = i .before .before .before .before .scan in
+    let o = i .before .before .before .before in
     let t = sym (c .before .tag-fits .ensures) ∙ not-true _ (c .if3 .taken) in
-    (omega arith, scan-pass _ _ (g .k) (omega arith) (icb-untagged (bytesOf i) (marksOf i) (startOf i) (blockOf i) (placeOf i) refl (icbOf i) (whole i) (i .before .if2 .left) t) ∙ g .inv .1)
+    (omega (arith, o .skip-others .ensures .0, o .before .scan .inv .0), scan-pass _ _ (o .skip-others .result) (omega arith) (icb-untagged (bytesOf i) (marksOf i) (startOf i) (blockOf i) (placeOf i) refl (icbOf i) (whole i) (i .before .if2 .left) t) ∙ left o)
 
 entry-fits-requires : tie.Need-entry-fits-requires Inv-scan μ-scan
 entry-fits-requires c κs = sized (c .before .before)
@@ -136,9 +145,9 @@ scan-less-3 c = search needs
 scan-again-3 : tie.Need-scan-again-3 Inv-scan μ-scan
 scan-again-3 c =
     let i = c .before .before .before .before in
-    let g = i .before .before .before .before .scan in
+    let o = i .before .before .before .before in
     let t = sym (c .before .entry-fits .ensures) ∙ not-true _ (c .if4 .taken) in
-    (omega arith, scan-pass _ _ (g .k) (omega arith) (icb-other-entry (bytesOf i) (marksOf i) (startOf i) (blockOf i) (placeOf i) refl (icbOf i) (whole i) (i .before .if2 .left) (tagged (c .before .before)) t) ∙ g .inv .1)
+    (omega (arith, o .skip-others .ensures .0, o .before .scan .inv .0), scan-pass _ _ (o .skip-others .result) (omega arith) (icb-other-entry (bytesOf i) (marksOf i) (startOf i) (blockOf i) (placeOf i) refl (icbOf i) (whole i) (i .before .if2 .left) (tagged (c .before .before)) t) ∙ left o)
 
 allocation-fits-requires : tie.Need-allocation-fits-requires Inv-scan μ-scan
 allocation-fits-requires c κs = (lent-there (c .before .before .before .before) .inside, (sized (c .before .before .before .before), entry c))
@@ -149,9 +158,9 @@ scan-less-4 c = search needs
 scan-again-4 : tie.Need-scan-again-4 Inv-scan μ-scan
 scan-again-4 c =
     let i = c .before .before .before .before .before .before in
-    let g = i .before .before .before .before .scan in
+    let o = i .before .before .before .before in
     let t = sym (c .before .allocation-fits .ensures (bytesOf i)) ∙ not-true _ (c .if5 .taken) in
-    (omega arith, scan-pass _ _ (g .k) (omega arith) (icb-not-allocated (bytesOf i) (marksOf i) (startOf i) (blockOf i) (placeOf i) refl (icbOf i) (whole i) (i .before .if2 .left) (tagged (c .before .before .before .before)) (entry (c .before .before)) t) ∙ g .inv .1)
+    (omega (arith, o .skip-others .ensures .0, o .before .scan .inv .0), scan-pass _ _ (o .skip-others .result) (omega arith) (icb-not-allocated (bytesOf i) (marksOf i) (startOf i) (blockOf i) (placeOf i) refl (icbOf i) (whole i) (i .before .if2 .left) (tagged (c .before .before .before .before)) (entry (c .before .before)) t) ∙ left o)
 
 table-fits-requires : tie.Need-table-fits-requires Inv-scan μ-scan
 table-fits-requires c κs =
@@ -164,19 +173,19 @@ scan-less-5 c = search needs
 scan-again-5 : tie.Need-scan-again-5 Inv-scan μ-scan
 scan-again-5 c =
     let i = c .before .before .before .before .before .before .before .before in
-    let g = i .before .before .before .before .scan in
+    let o = i .before .before .before .before in
     let t = icb-table (bytesOf i) (marksOf i) (startOf i) (blockOf i) (placeOf i) refl (icbOf i) (whole i) (i .before .if2 .left) (tagged (c .before .before .before .before .before .before)) (entry (c .before .before .before .before)) (allocated (c .before .before)) (c .before .table-fits .ensures) in
-    (omega arith, scan-pass _ _ (g .k) (omega arith) (t ∙ not-true _ (c .if6 .taken)) ∙ g .inv .1)
+    (omega (arith, o .skip-others .ensures .0, o .before .scan .inv .0), scan-pass _ _ (o .skip-others .result) (omega arith) (t ∙ not-true _ (c .if6 .taken)) ∙ left o)
 
 returns : tie.Need-returns Inv-scan μ-scan
-returns c = scan-bottom _ _ _ (c .if1 .taken) ∙ ap scanOf (c .before .scan .inv .1)
+returns c = scan-bottom _ _ _ (c .if1 .taken) ∙ ap scanOf (left (c .before))
 
 returns-2 : tie.Need-returns-2 Inv-scan μ-scan
 returns-2 c =
     let i = c .before .before .before .before .before .before .before .before in
-    let g = i .before .before .before .before .scan in
+    let o = i .before .before .before .before in
     let t = icb-table (bytesOf i) (marksOf i) (startOf i) (blockOf i) (placeOf i) refl (icbOf i) (whole i) (i .before .if2 .left) (tagged (c .before .before .before .before .before .before)) (entry (c .before .before .before .before)) (allocated (c .before .before)) (c .before .table-fits .ensures) in
-    scan-hit _ _ (g .k) (omega arith) (t ∙ not-false _ (c .if6 .left)) ∙ ap scanOf (g .inv .1)
+    scan-hit _ _ (o .skip-others .result) (omega arith) (t ∙ not-false _ (c .if6 .left)) ∙ ap scanOf (left o)
 
 pub scan-spec : {M : Type 1} → statement M
 scan-spec =
@@ -185,6 +194,7 @@ scan-spec =
     Inv-scan
     μ-scan
     scan-holds
+    skip-others-requires
     sub-k
     cast-at
     add-at
