@@ -71,6 +71,9 @@ const LEAST_SIZE: u32 = 56;
 
 const MOST_SIZE: u32 = 2048;
 
+// The places of table sectors.
+const PLACES: usize = 4;
+
 // The two kinds of volume, and what the map list says of each.
 pub enum Kind {
     WriteOnce {
@@ -252,8 +255,8 @@ fn is_absent(sectors: [u32; 4], n: usize, from: usize, sector: u32) -> bool
     true
 }
 
-// Whether each of the first `n` table sectors starts a packet, and none is named twice.
-pub fn tables_apart(sectors: [u32; 4], n: usize) -> bool
+// Whether each of the first `n` of four table sectors starts a packet, and none is named twice.
+fn are_apart(sectors: [u32; 4], n: usize) -> bool
     requires { ⌜ n ≤ 4 ⌝ }
     ensures { λ r. ⌜ r ≡ tablesApart (take n sectors) ⌝ }
 {
@@ -269,6 +272,16 @@ pub fn tables_apart(sectors: [u32; 4], n: usize) -> bool
         i += 1;
     }
     true
+}
+
+// The same of any number: behind the fourth there is none.
+pub fn tables_apart(sectors: [u32; 4], n: usize) -> bool
+    ensures { λ r. ⌜ r ≡ tablesApart (take n sectors) ⌝ }
+{
+    if PLACES < n {
+        return are_apart(sectors, PLACES);
+    }
+    are_apart(sectors, n)
 }
 
 // Reads a list that is write-once.

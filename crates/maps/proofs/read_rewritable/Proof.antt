@@ -24,7 +24,7 @@ table-sectors-requires : tie.Need-table-sectors-requires
 table-sectors-requires c κs = let m = rewritable-map _ (c .before .before .before .pre) in omega (arith, rewritable-tables _ m)
 
 tables-apart-requires : tie.Need-tables-apart-requires
-tables-apart-requires c κs = let m = rewritable-map _ (c .before .before .before .before .pre) in omega (arith, rewritable-tables _ m)
+tables-apart-requires c κs = search needs
 
 refused-requires : tie.Need-refused-requires
 refused-requires c κs = search needs

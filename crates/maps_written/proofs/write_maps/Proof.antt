@@ -49,7 +49,7 @@ wide-requires : tie.Need-wide-requires
 wide-requires c κs = search needs
 
 tables-apart-requires : tie.Need-tables-apart-requires
-tables-apart-requires c κs = let m = few-tables _ _ (in-range (c .before)) in omega arith
+tables-apart-requires c κs = search needs
 
 returns-4 : tie.Need-returns-4
 returns-4 c =
