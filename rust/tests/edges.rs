@@ -77,6 +77,34 @@ fn an_extent_that_reaches_k() {
     });
 }
 
+/// On a long disc every mark counts for line 1, and the newest VAT is found wherever it is, whatever is passed over above it.
+#[test]
+fn marks_of_a_long_disc() {
+    let sectors = 2 * 65_536 + 70;
+    let l = sectors as u32;
+    both(|layer| {
+        let mut world = World::new(sectors);
+        world.marks.fill(BLANK);
+        for at in [0, 63, 64, 65_535, 65_536, 131_071, 131_072, 131_135, 131_136, sectors - 1] {
+            world.marks[at] = 3;
+            assert_eq!(world.open(layer, 0, l), 1, "mark {at}");
+            world.marks[at] = BLANK;
+        }
+        for k in [1, 7, 8, 127, 128, 4_095, 4_096, 65_535, 65_536, 131_071, 131_072, l - 9] {
+            world.sector(k - 1).fill(0);
+            world.put_empty_file(k - 1);
+            world.sector(k).copy_from_slice(&icb(k, &[[36, k - 1]]));
+            for passed in [0, 1, 7, 8] {
+                let (from, to) = (k as usize - 1, (k + passed) as usize);
+                world.marks[from..=to].fill(RECORDED);
+                assert_eq!(world.open(layer, 0, l), 0, "block {k}");
+                assert_eq!(world.record, [0, 0, k + passed + 1, k, passed]);
+                world.marks[from..=to].fill(BLANK);
+            }
+        }
+    });
+}
+
 /// Marks and sectors outside the partition count for line 1 only.
 #[test]
 fn marks_outside_the_partition() {

@@ -27,7 +27,7 @@ use Rattle.model.proofs.SectorsRuns.{length-upward}
 use Rattle.model.proofs.Verdicts.{then-go, next-test, stop-test, examined-tells, unless-stop, unless-go}
 use Rattle.model.proofs.WrittenVatFile.{data-sectors-most}
 use Rattle.examine.proofs.Laws.{once-stops, once-goes}
-use Rattle.write_once.proofs.Laws.{held-tells}
+use Rattle.examine.proofs.Calls.{held-tells}
 use Rattle.model.proofs.Plans.{cut-short, carried}
 
 -- ---- numbers of a record

@@ -102,7 +102,7 @@ fn write_vat(disc: &mut [u8], marks: &mut [u8], s: u32, table: &[u32], held: Rec
     let count = vat_written::data_sectors(n);
     let k = next + count;
     let mut icb = [0u8; SECTOR];
-    vat_written::write_icb(&mut icb, k, table, n, last);
+    icb_written::write_icb(&mut icb, k, table, n, last);
     disc::write_sector(disc, marks, (s + k) as usize, &icb, count + 1, cut);
 }
 

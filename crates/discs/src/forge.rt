@@ -54,7 +54,7 @@ fn set16(block: &mut [u8], at: usize, n: u32) {
     if block.len() - 2 < at {
         return;
     }
-    fields::write16(block, at, (n % 65536) as u16);
+    fields_written::write16(block, at, (n % 65536) as u16);
 }
 
 fn set32(block: &mut [u8], at: usize, n: u32) {
@@ -64,7 +64,7 @@ fn set32(block: &mut [u8], at: usize, n: u32) {
     if block.len() - 4 < at {
         return;
     }
-    fields::write32(block, at, n);
+    fields_written::write32(block, at, n);
 }
 
 // The name of a VAT file.
@@ -75,7 +75,7 @@ fn set_regid(block: &mut [u8], at: usize) {
     if block.len() - 32 < at {
         return;
     }
-    fields::write_regid(block, at, b"*UDF Virtual Alloc Tbl");
+    fields_written::write_regid(block, at, b"\0*UDF Virtual Alloc Tbl\0\0\0\0\0\0\0\0\0");
 }
 
 // The CRC of so many bytes from 16 on, of those up to the sector's end at most.

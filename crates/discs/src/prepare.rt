@@ -99,8 +99,8 @@ fn lengths(state: State, words: &[u8]) -> State {
 pub fn disc(disc: &mut Disc, marks: &mut Marks, block: &mut Block, words: &[u8], name: u32) {
     match name {
         CLEAR => {
-            fields::clear(disc);
-            fields::clear(marks);
+            fields_written::clear(disc);
+            fields_written::clear(marks);
         }
         MARK => mark(marks, line::size(words, 1), line::byte(words, 2)),
         PUT => {
@@ -150,7 +150,7 @@ fn poke(disc: &mut [u8], sector: usize, at: usize, n: u32) {
     if SECTOR - 4 < at {
         return;
     }
-    fields::write32(disc, SECTOR * sector + at, n);
+    fields_written::write32(disc, SECTOR * sector + at, n);
 }
 
 fn show(disc: &[u8], marks: &[u8], at: usize) {
@@ -212,7 +212,7 @@ fn fill(table: &mut [u32], a: u32, b: u32, c: u32, d: u32) {
 // The CRC onward over a number of 4 bytes.
 fn crc_onward(crc: u16, n: u32) -> u16 {
     let mut four = [0u8; 4];
-    fields::write32(&mut four, 0, n);
+    fields_written::write32(&mut four, 0, n);
     tag::crc(&four, crc)
 }
 

@@ -30,7 +30,7 @@ use Rattle.model.specs.Vat.{none, belowOrNone, allBelow}
 use Rattle.model.specs.Sparing.{Geometry, outside}
 use Rattle.model.specs.Examine.{Setting, volume, isOnce, sizeIn, writeOnce, geometry, allOutside, aligned, shapeTests, placeTests, examined}
 use Rattle.model.specs.Once.{nextOn, heldFits, onceVerdict}
-use Rattle.model.proofs.Basics.{and-false, and-false-left, or-left}
+use Rattle.model.proofs.Basics.{by-eq, and-false, and-false-left, or-left}
 use Rattle.model.proofs.Verdicts.{Examined as Told, examined-tells}
 use Rattle.examine.specs.declared.Examined.{Examined}
 use Rattle.examine.specs.Ground.{groundOf, placedOf, spanned, handedOn, examinedOf}
@@ -122,25 +122,23 @@ module _ (k n i : ℕ) (l : List ℕ) (all all′ : Bool) {whole : Bool} (w : al
         let x : belowOrNone k (getD l i 0) ≡ false = rw (a, b) in
         and-false-left _ f ∙ sym (and-false all (and-false-left _ x)) ∙ below-one
 
-    -- one that is unused or below
+    -- one of which that is known
     below-go : belowOrNone k (getD l i 0) ≡ true → all′ ≡ all → all′ && allBelow k (take (n - (i + 1)) (drop (i + 1) l)) ≡ whole
     below-go e f =
         ap (λ (b : Bool). b && allBelow k (take (n - (i + 1)) (drop (i + 1) l))) f
         ∙ sym (ap (λ (b : Bool). all && (b && allBelow k (take (n - (i + 1)) (drop (i + 1) l)))) e)
         ∙ below-one
 
-    -- one that is unused
-    pub below-unused : getD l i 0 ≡ 0xffffffff → all′ ≡ all → all′ && allBelow k (take (n - (i + 1)) (drop (i + 1) l)) ≡ whole
+    -- one that is unused or below
+    pub below-past : ((getD l i 0 ≡ 0xffffffff → ⊥) → getD l i 0 < k) → all′ ≡ all → all′ && allBelow k (take (n - (i + 1)) (drop (i + 1) l)) ≡ whole
     unfolding belowOrNone none
-    below-unused e = below-go (or-left _ (eq-eqb (getD l i 0) 0xffffffff e))
-
-    -- one that is below, and used
-    pub below-next : (getD l i 0 ≡ 0xffffffff → ⊥) → getD l i 0 < k → all′ ≡ all → all′ && allBelow k (take (n - (i + 1)) (drop (i + 1) l)) ≡ whole
-    unfolding belowOrNone none
-    below-next u q =
+    below-past q =
+        by-eq (getD l i 0) 0xffffffff
+        (λ e. below-go (or-left _ (eq-eqb (getD l i 0) 0xffffffff e)))
+        (λ u.
         let a = ne-eqb (getD l i 0) 0xffffffff u in
-        let b = lt-ltb (getD l i 0) k q in
-        below-go (rw (a, b))
+        let b = lt-ltb (getD l i 0) k (q u) in
+        below-go (rw (a, b)))
 
 -- none is left
 pub below-none : (k n i : ℕ) (l : List ℕ) (all : Bool) {whole : Bool} → all && allBelow k (take (n - i) (drop i l)) ≡ whole → n ≤ i → all ≡ whole

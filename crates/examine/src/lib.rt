@@ -10,7 +10,7 @@ use refusal::Verdict;
 ghost use mathlib.Core.Path.{_≡_};
 ghost use mathlib.Core.Bool.{true, _&&_};
 ghost use mathlib.Core.List.{List, []};
-ghost use Prim.Native.Nat.{ℕ, _+_, _≤_};
+ghost use Prim.Native.Nat.{ℕ, _+_, _%_, _≤_, _<_};
 ghost use lib.ListN.{length, take};
 ghost use lib.Dec.{eqb};
 ghost use Rattle.refusal.specs.declared.Verdict;
@@ -31,9 +31,6 @@ const MOST_ENTRIES: u32 = 4096;
 
 // The entries that a lent table has at least.
 const TABLE: usize = 4096;
-
-// An entry that is unused.
-const NONE: u32 = 0xffffffff;
 
 // A verdict, and where it says Go the volume with its span.
 pub struct Examined {
@@ -223,7 +220,15 @@ pub fn examine(disc: &[u8], marks: &[u8], maps: &[u8], s: u32, l: u32, lent: boo
     }
 }
 
-// Whether each of the first n entries is unused or below NWA. It counts those that are not, with no early way out.
+// One more than an entry, in 32 bits: 0 if it is unused.
+fn one_past(entry: u32) -> u32
+    ensures { λ r. ⌜ (entry < 4294967296) × (r ≡ (entry + 1) % 4294967296) ⌝ }
+{
+    std::num::wrapping_add_u32(entry, 1)
+}
+
+// Whether each of the first n entries is unused or below NWA: one past it is at most NWA. It counts those that
+// are not, with no early way out.
 fn are_below(table: &[u32], n: u32, next: u32) -> bool
     requires { ⌜ n ≤ length (now table) ⌝ }
     ensures { λ r. ⌜ r ≡ allBelow next (take n (now (table .entry))) ⌝ }
@@ -231,11 +236,9 @@ fn are_below(table: &[u32], n: u32, next: u32) -> bool
     let mut over: u32 = 0;
     let mut i: usize = 0;
     while i < n as usize {
-        let entry = table[i];
-        if entry != NONE {
-            if next <= entry {
-                over += 1;
-            }
+        let past = one_past(table[i]);
+        if next < past {
+            over += 1;
         }
         i += 1;
     }

@@ -8,8 +8,8 @@ use native.Mathlib.Omega.{arith}
 use native.Mathlib.Numerals.{add-one}
 use native.Mathlib.Nat.{add-zero, zero-add, suc-add, pow-suc}
 use lib.Dec.{eqb}
-use lib.ListN.{length, take, drop, set, getD, replicate, length-append, length-take, length-drop, length-set, take-append-drop, getD-replicate, List·getD-append}
-use lib.Seq.{drop-cons, drop-append-le, take-nil, length-take-le, take-append-le, getD-append-add, drop-append-add, drop-drop, take-take, take-add, take-at, drop-at, take-length, take-all, getD-take, getD-drop, drop-length, sets, sets-eq, paste, paste-zero, paste-suc, take-suc}
+use lib.ListN.{length, take, drop, set, getD, replicate, length-append, length-take, length-drop, length-set, take-append-drop}
+use lib.Seq.{drop-cons, drop-append-le, take-nil, length-take-le, take-append-le, drop-append-add, drop-drop, take-take, take-add, take-at, drop-at, take-length, take-all, getD-take, getD-drop, drop-length, sets, sets-eq, paste, paste-zero, paste-suc, take-suc}
 use borrow.Author.Tests.{eq-eqb, eqb-true}
 use Rattle.fields.specs.Bytes.{part, splice, same}
 use Rattle.fields.specs.Number.{value, digits, field}
@@ -451,41 +451,6 @@ pub length-regid : (name : List ℕ) → length (regid name) ≡ 32
 unfolding regid
 length-regid name = ap suc (length-append (identifier name) (replicate 8 0) ∙ ap (λ (k : ℕ). k + 8) (length-identifier name))
 
--- its flags are 0
-pub regid-flags : (name : List ℕ) → getD (regid name) 0 0 ≡ 0
-unfolding regid
-regid-flags name = refl
-
--- its identifier byte k, inside the name
-pub regid-inside : (name : List ℕ) (k : ℕ) → k < 23 → k < length name → getD (regid name) (suc k) 0 ≡ getD name k 0
-unfolding regid identifier
-regid-inside name k h l =
-    List·getD-append (take 23 (name ++ replicate 23 0)) (replicate 8 0) 0 k (rw (length-identifier name) h)
-    ∙ getD-take 23 (name ++ replicate 23 0) k 0 h
-    ∙ List·getD-append name (replicate 23 0) 0 k l
-
--- its identifier byte k, past the name
-pub regid-filled : (name : List ℕ) (k : ℕ) → k < 23 → length name ≤ k → getD (regid name) (suc k) 0 ≡ 0
-unfolding regid identifier
-regid-filled name k h l =
-    let m : ℕ = k - length name in
-    let e : k ≡ length name + m = omega arith in
-    List·getD-append (take 23 (name ++ replicate 23 0)) (replicate 8 0) 0 k (rw (length-identifier name) h)
-    ∙ getD-take 23 (name ++ replicate 23 0) k 0 h
-    ∙ ap (λ (j : ℕ). getD (name ++ replicate 23 0) j 0) e
-    ∙ getD-append-add name (replicate 23 0) m 0
-    ∙ getD-replicate 23 m 0 0 (omega arith)
-
--- its suffix is 0
-pub regid-suffix : (name : List ℕ) (i : ℕ) → 24 ≤ i → i < 32 → getD (regid name) i 0 ≡ 0
-unfolding regid
-regid-suffix name i h l =
-    let m : ℕ = i - 24 in
-    let e : i ≡ suc (length (identifier name) + m) = omega (arith, length-identifier name) in
-    ap (λ (j : ℕ). getD (0 ∷ (identifier name ++ replicate 8 0)) j 0) e
-    ∙ getD-append-add (identifier name) (replicate 8 0) m 0
-    ∙ getD-replicate 8 m 0 0 (omega arith)
-
 -- all but its suffix are the flags and the identifier
 pub regid-front : (name : List ℕ) → take 24 (regid name) ≡ 0 ∷ identifier name
 unfolding regid
@@ -541,18 +506,26 @@ same-false-of-length a b n = same-false a b (λ e. n (ap (λ (l : List ℕ). len
 pub front-next : (a b : List ℕ) (i : ℕ) → i < length a → i < length b → getD a i 0 ≡ getD b i 0 → take i a ≡ take i b → take (i + 1) a ≡ take (i + 1) b
 front-next a b i ha hb e f = rw (add-one i, take-suc a i 0 ha, take-suc b i 0 hb, e, f)
 
+-- a part that is a front, with one more element that is
+pub part-front-next : (s t : List ℕ) (at i : ℕ) → at + i < length s → i < length t → getD s (at + i) 0 ≡ getD t i 0 → part s at i ≡ take i t → part s at (i + 1) ≡ take (i + 1) t
+unfolding part
+part-front-next s t at i hs ht e f = front-next (drop at s) t i (simp length-drop (omega arith)) ht (getD-drop at s i 0 ∙ e) f
+
+-- a part that differs from a front at some index
+pub part-differs : (s t : List ℕ) (at w i : ℕ) → i < w → (getD s (at + i) 0 ≡ getD t i 0 → ⊥) → same (part s at w) (take w t) ≡ false
+part-differs s t at w i h n =
+    same-false-of-difference (part s at w) (take w t) i (λ e. n (sym (getD-part s at w i h) ∙ e ∙ getD-take w t i 0 h))
+
 -- ---- a regid read
+
+-- the regid of a name at `at`, told by the bytes that are written for it
+pub regid-told : (s : List ℕ) (at : ℕ) (name : List ℕ) → same (part s at 24) (take 24 (regid name)) ≡ hasRegid s at name
+unfolding hasRegid
+regid-told s at name = ap (same (part s at 24)) (regid-front name)
 
 -- a difference in the flags or the identifier
 pub regid-differs : (s : List ℕ) (at : ℕ) (name : List ℕ) (i : ℕ) → i < 24 → (getD s (at + i) 0 ≡ getD (regid name) i 0 → ⊥) → hasRegid s at name ≡ false
-unfolding hasRegid
-regid-differs s at name i h n =
-    same-false-of-difference (part s at 24) (0 ∷ identifier name) i
-    (λ e. n
-    (sym (getD-part s at 24 i h)
-    ∙ e
-    ∙ ap (λ (l : List ℕ). getD l i 0) (sym (regid-front name))
-    ∙ getD-take 24 (regid name) i 0 h))
+regid-differs s at name i h n = sym (regid-told s at name) ∙ part-differs s (regid name) at 24 i h n
 
 -- flags and identifier as they are written
 pub regid-agrees : (s : List ℕ) (at : ℕ) (name : List ℕ) → part s at 24 ≡ take 24 (regid name) → hasRegid s at name ≡ true

@@ -65,7 +65,7 @@ fn write_empty(disc: &mut [u8], marks: &mut [u8], at: usize)
 {
     let mut icb = [0u8; SECTOR];
     let entries = [0u32; 1];
-    vat_written::write_icb(&mut icb, 0, &entries, 0, NONE);
+    icb_written::write_icb(&mut icb, 0, &entries, 0, NONE);
     let uncut = Cut {
         at: 0,
         effect: Effect::Old,

@@ -6,9 +6,11 @@ use refusal::Refusal;
 use refusal::Verdict;
 ghost use mathlib.Core.Path.{_≡_};
 ghost use mathlib.Core.Bool.{true};
-ghost use Prim.Native.Nat.{_≤_, _<_};
+ghost use mathlib.Core.List.{List};
+ghost use Prim.Native.Nat.{ℕ, _≤_, _<_};
 ghost use lib.ListN.{length, take, drop};
 ghost use Rattle.refusal.specs.declared.Verdict;
+ghost use Rattle.fields.specs.Regid.{regid as regidOf};
 ghost use Rattle.maps.specs.Walk.{walk};
 ghost use Rattle.maps.specs.Kinds.{words, tablesInRange, isWriteOnce, isRewritable, used, volumeWith, noVolume, absent, tablesApart, answered, readMaps};
 ghost use Rattle.maps.specs.Told.{isCut, onMaps, oneTypeTwo};
@@ -52,10 +54,10 @@ pub const SECTORS_AT: usize = 48;
 // The bytes of a table's sector in it.
 pub const SECTOR_WIDTH: usize = 4;
 
-// The names of the two type 2 maps.
-pub const VIRTUAL: [u8; 22] = *b"*UDF Virtual Partition";
+// The regids of the two type 2 maps.
+pub const VIRTUAL: [u8; 32] = *b"\0*UDF Virtual Partition\0\0\0\0\0\0\0\0\0";
 
-pub const SPARABLE: [u8; 23] = *b"*UDF Sparable Partition";
+pub const SPARABLE: [u8; 32] = *b"\0*UDF Sparable Partition\0\0\0\0\0\0\0\0";
 
 // The sectors of a packet.
 const PACKET: u32 = 32;
@@ -161,9 +163,10 @@ fn is_short(maps: &[u8]) -> bool
     false
 }
 
-// Whether a list is one type 2 map with this name, and nothing else.
-fn is_type_two(map: &[u8], name: &[u8]) -> bool
-    ensures { λ r. ⌜ r ≡ oneTypeTwo (now (name .entry)) (now (map .entry)) ⌝ }
+// Whether a list is one type 2 map with this regid, and nothing else.
+fn is_type_two(map: &[u8], regid: &[u8]) -> bool
+    requires { ⌜ length (now regid) ≡ 32 ⌝ }
+    ensures { λ r. ⌜ ((name : List ℕ) → now (regid .entry) ≡ regidOf name → r ≡ oneTypeTwo name (now (map .entry))) ⌝ }
 {
     if map.len() != TYPE_TWO_BYTES {
         return false;
@@ -174,7 +177,7 @@ fn is_type_two(map: &[u8], name: &[u8]) -> bool
     if map[LENGTH_AT] != TYPE_TWO_LENGTH {
         return false;
     }
-    fields::has_regid(map, REGID_AT, name)
+    fields::has_regid(map, REGID_AT, regid)
 }
 
 // Whether the list is exactly a type 1 map, then that of a virtual partition, of the same partition.

@@ -25,10 +25,12 @@ use maps::Volume;
 use refusal::Refusal;
 use refusal::Verdict;
 ghost use mathlib.Core.Path.{_≡_};
-ghost use Prim.Native.Nat.{_≤_, _<_};
+ghost use mathlib.Core.List.{List};
+ghost use Prim.Native.Nat.{ℕ, _≤_, _<_};
 ghost use lib.ListN.{length, take, replicate};
 ghost use Rattle.fields.specs.Bytes.{splice};
 ghost use Rattle.fields.specs.Number.{quads};
+ghost use Rattle.fields.specs.Regid.{regid as regidOf};
 ghost use Rattle.maps.specs.declared.Kind;
 ghost use Rattle.maps.specs.Written.{typeOneMap, typeTwoMap, mapsOf};
 ghost use Rattle.maps_written.specs.Writing.{writeVerdict, writtenOr};
@@ -60,21 +62,22 @@ fn put_type_one(map: &mut [u8], partition: u16)
 {
     map[TYPE_AT] = TYPE_ONE;
     map[LENGTH_AT] = TYPE_ONE_LENGTH;
-    fields::write16(map, ONE_SEQUENCE_AT, SEQUENCE);
-    fields::write16(map, ONE_PARTITION_AT, partition);
+    fields_written::write16(map, ONE_SEQUENCE_AT, SEQUENCE);
+    fields_written::write16(map, ONE_PARTITION_AT, partition);
 }
 
 // Writes a type 2 map up to its partition number, and 0 after that.
-fn put_type_two(map: &mut [u8], name: &[u8], partition: u16)
+fn put_type_two(map: &mut [u8], regid: &[u8], partition: u16)
     requires { ⌜ length (now map) ≡ 64 ⌝ }
-    ensures { λ _. ⌜ now (map .exit) ≡ typeTwoMap (now (name .entry)) partition (replicate 24 0) ⌝ }
+    requires { ⌜ length (now regid) ≡ 32 ⌝ }
+    ensures { λ _. ⌜ ((name : List ℕ) → now (regid .entry) ≡ regidOf name → now (map .exit) ≡ typeTwoMap name partition (replicate 24 0)) ⌝ }
 {
     map[TYPE_AT] = TYPE_TWO;
     map[LENGTH_AT] = TYPE_TWO_LENGTH;
-    fields::clear(&mut map[RESERVED_AT..]);
-    fields::write_regid(map, REGID_AT, name);
-    fields::write16(map, SEQUENCE_AT, SEQUENCE);
-    fields::write16(map, PARTITION_AT, partition);
+    fields_written::clear(&mut map[RESERVED_AT..]);
+    fields_written::write_regid(map, REGID_AT, regid);
+    fields_written::write16(map, SEQUENCE_AT, SEQUENCE);
+    fields_written::write16(map, PARTITION_AT, partition);
 }
 
 // Writes the first `n` table sectors into a map.
@@ -84,7 +87,7 @@ fn put_sectors(map: &mut [u8], sectors: [u32; 4], n: usize)
 {
     let mut i: usize = 0;
     while i < n {
-        fields::write32(map, SECTORS_AT + SECTOR_WIDTH * i, sectors[i]);
+        fields_written::write32(map, SECTORS_AT + SECTOR_WIDTH * i, sectors[i]);
         i += 1;
     }
 }
@@ -104,9 +107,9 @@ fn put_rewritable(out: &mut [u8], partition: u16, tables: u8, size: u32, sectors
     ensures { λ _. ⌜ now (out .exit) ≡ mapsOf (Kind.Rewritable partition tables size) sectors ⌝ }
 {
     put_type_two(out, &SPARABLE, partition);
-    fields::write16(out, PACKET_LENGTH_AT, PACKET_LENGTH);
+    fields_written::write16(out, PACKET_LENGTH_AT, PACKET_LENGTH);
     out[TABLES_AT] = tables;
-    fields::write32(out, SIZE_AT, size);
+    fields_written::write32(out, SIZE_AT, size);
     put_sectors(out, sectors, wide(tables));
 }
 

@@ -9,7 +9,7 @@ use native.Mathlib.Nat.{add-zero, sub-zero}
 use native.Mathlib.Numerals.{add-one}
 use borrow.Author.Tests.{le-leb, lt-leb, eq-eqb, ne-eqb}
 use lib.Dec.{eqb, leb}
-use lib.ListN.{length, getD, take, drop, length-take, drop-of-length-le}
+use lib.ListN.{length, getD, set, take, drop, length-take, drop-of-length-le}
 use lib.Seq.{drop-cons, getD-take, getD-drop}
 use Rattle.model.specs.Disc.{Disc, recorded, recordedRun, mark, nwa, known}
 use Rattle.model.proofs.Basics.{by-lt, by-eq, both, and-false, and-false-left}
@@ -42,6 +42,20 @@ highest-most [] b h = omega arith
 highest-most (x ∷ m) b h =
     let one : x ≤ b = h 0 (omega arith) in
     omega (arith, highest-most m b (λ i l. h (suc i) (omega arith)))
+
+-- a mark that is raised
+pub highest-raised : (m : List ℕ) (i v : ℕ) → i < length m → getD m i 0 ≤ v → highest (set m i v) ≡ max (highest m) v
+unfolding highest
+highest-raised [] i v h l = absurd (omega arith)
+highest-raised (x ∷ m) zero v h l = let q : x ≤ v = l in omega arith
+highest-raised (x ∷ m) (suc i) v h l = omega (arith, highest-raised m i v (omega arith) l)
+
+-- the highest of all is that of the first k or that of the rest
+pub highest-split : (m : List ℕ) (k : ℕ) → highest m ≡ max (highest (take k m)) (highest (drop k m))
+unfolding highest
+highest-split m zero = omega arith
+highest-split [] (suc k) = refl
+highest-split (x ∷ m) (suc k) = omega (arith, highest-split m k)
 
 -- the larger of two numbers is at most 2 exactly if both are
 larger-test : (x y : ℕ) → leb (max x y) 2 ≡ leb x 2 && leb y 2

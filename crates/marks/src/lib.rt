@@ -5,7 +5,7 @@
 // those two have been tested, and say in a `requires` what they take from them.
 ghost use mathlib.Core.Path.{_≡_};
 ghost use mathlib.Core.List.{List};
-ghost use Prim.Native.Nat.{ℕ, _+_, _*_, _≤_, _<_};
+ghost use Prim.Native.Nat.{ℕ, _+_, _*_, _≤_, _<_, max};
 ghost use lib.ListN.{length};
 ghost use lib.Dec.{eqb};
 ghost use Rattle.model.specs.Disc.{disc as discOf, recorded, recordedRun, nwa, shapely, inside};
@@ -16,7 +16,14 @@ const SECTOR: usize = 2048;
 
 const MOST_SECTORS: usize = 1048576;
 
-// How many marks are looked at in one step down: first many, then few.
+// How many marks are looked at in one turn, where there are many.
+const TURN: usize = 64;
+
+const MANY: usize = 8192;
+
+// How many marks are looked at in one step down: first very many, then fewer.
+const LONGEST_STEP: u32 = 65536;
+
 const LONG_STEP: u32 = 4096;
 
 const SHORT_STEP: u32 = 128;
@@ -28,11 +35,11 @@ const RECORDED: u8 = 1;
 
 const UNREADABLE: u8 = 2;
 
-// The highest mark, 0 of none. It looks at each, with no early way out.
-fn highest_mark(marks: &[u8]) -> u8
-    ensures { λ r. ⌜ r ≡ highest (now (marks .entry)) ⌝ }
+// The highest of few marks, `least` if none is above it. It looks at each, with no early way out.
+fn highest_few(marks: &[u8], least: u8) -> u8
+    ensures { λ r. ⌜ r ≡ max least (highest (now (marks .entry))) ⌝ }
 {
-    let mut top: u8 = 0;
+    let mut top = least;
     let mut i: usize = 0;
     while i < marks.len() {
         let m = marks[i];
@@ -42,6 +49,49 @@ fn highest_mark(marks: &[u8]) -> u8
         i += 1;
     }
     top
+}
+
+// Raises each of a turn's marks to the one in the same place, where that is higher.
+fn raise(tops: &mut [u8], marks: &[u8])
+    requires { ⌜ (length (now tops) ≡ 64) × (length (now marks) ≡ 64) ⌝ }
+    ensures { λ _. ⌜ highest (now (tops .exit)) ≡ max (highest (now (tops .entry))) (highest (now (marks .entry))) ⌝ }
+{
+    let mut i: usize = 0;
+    while i < TURN {
+        let m = marks[i];
+        if tops[i] < m {
+            tops[i] = m;
+        }
+        i += 1;
+    }
+}
+
+// The highest of many marks, 0 of none. A turn looks at as many as a line of the processor's cache has bytes, each
+// beside the highest that were in its place.
+fn highest_many(marks: &[u8]) -> u8
+    ensures { λ r. ⌜ r ≡ highest (now (marks .entry)) ⌝ }
+{
+    let turns = marks.len() / TURN;
+    let mut tops = [0u8; TURN];
+    let mut turn: usize = 0;
+    while turn < turns {
+        let from = TURN * turn;
+        raise(&mut tops, &marks[from..from + TURN]);
+        turn += 1;
+    }
+    let rest = highest_few(&marks[TURN * turns..], BLANK);
+    highest_few(&tops, rest)
+}
+
+// The highest mark, 0 of none. The marks are lent on as a part of themselves, all of it: so compiled, the highest of
+// a turn's places stay in registers.
+fn highest_mark(marks: &[u8]) -> u8
+    ensures { λ r. ⌜ r ≡ highest (now (marks .entry)) ⌝ }
+{
+    if marks.len() < MANY {
+        return highest_few(&marks[..], BLANK);
+    }
+    highest_many(&marks[..])
 }
 
 // Line 1: whether the lent bytes and marks are a disc. The sectors are counted before they are multiplied.
@@ -100,7 +150,8 @@ pub fn next_writable(marks: &[u8], s: u32, l: u32) -> u32
     requires { ⌜ length (now marks) ≤ 1048576 ⌝ }
     ensures { λ r. ⌜ ((bytes : List ℕ) → r ≡ nwa (discOf bytes (now (marks .entry))) s l) ⌝ }
 {
-    let near = skip_blank(marks, s, l, LONG_STEP);
+    let far = skip_blank(marks, s, l, LONGEST_STEP);
+    let near = skip_blank(marks, s, far, LONG_STEP);
     let mut k = skip_blank(marks, s, near, SHORT_STEP);
     while 0 < k {
         let below = k - 1;

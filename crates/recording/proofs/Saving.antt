@@ -22,7 +22,7 @@ use Rattle.model.specs.Examine.{Setting, lentTable}
 use Rattle.model.specs.Once.{entriesHeld, nextHeld, lastHeld, countAfter, roomToSave, saveTests, saveLent}
 use Rattle.model.proofs.Basics.{cond-elim, and-true, and-false-left, and-false, both}
 use Rattle.vat.specs.File.{Lent}
-use Rattle.write_once.proofs.Laws.{Common}
+use Rattle.examine.proofs.Calls.{Common}
 
 -- ---- line 3 of a save
 

@@ -36,8 +36,8 @@ const MAPPED_IN: usize = NUMBER;
 // The entries that fit a sector.
 const MOST_ENTRIES: usize = (SECTOR - ENTRIES_AT) / ENTRY;
 
-// The name of a table.
-pub const NAME: [u8; 23] = *b"*OSTA UDF Sparing Table";
+// The regid of a table.
+pub const REGID: [u8; 32] = *b"\0*OSTA UDF Sparing Table\0\0\0\0\0\0\0\0";
 
 // The sectors of a packet.
 const PACKET: u32 = 32;
@@ -277,7 +277,7 @@ pub fn copy_fits(x: Layout, b: &[u8]) -> bool
     if fields::read16(b, TAG_AT) != 0 {
         return false;
     }
-    if !fields::has_regid(b, REGID_AT, &NAME) {
+    if !fields::has_regid(b, REGID_AT, &REGID) {
         return false;
     }
     let n = wide16(fields::read16(b, COUNT_AT));

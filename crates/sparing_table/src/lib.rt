@@ -6,8 +6,8 @@ use sparing::COUNT_AT;
 use sparing::ENTRIES_AT;
 use sparing::ENTRY;
 use sparing::FREE;
-use sparing::NAME;
 use sparing::NUMBER;
+use sparing::REGID;
 use sparing::REGID_AT;
 use sparing::SEQUENCE_AT;
 ghost use mathlib.Core.Path.{_≡_};
@@ -153,10 +153,10 @@ fn begin_table(sector: &mut [u8], entries: u16, sequence: u32)
     requires { ⌜ length (now sector) ≡ 2048 ⌝ }
     ensures { λ _. ⌜ now (sector .exit) ≡ begun sequence entries ⌝ }
 {
-    fields::clear(sector);
-    fields::write_regid(sector, REGID_AT, &NAME);
-    fields::write16(sector, COUNT_AT, entries);
-    fields::write32(sector, SEQUENCE_AT, sequence);
+    fields_written::clear(sector);
+    fields_written::write_regid(sector, REGID_AT, &REGID);
+    fields_written::write16(sector, COUNT_AT, entries);
+    fields_written::write32(sector, SEQUENCE_AT, sequence);
 }
 
 // Writes an entry at place `i` of a table's sector.
@@ -165,8 +165,8 @@ fn put_entry(sector: &mut [u8], i: usize, original: u32, mapped: u32)
     ensures { λ _. ⌜ now (sector .exit) ≡ splice (now (sector .entry)) (56 + 8 * i) (quads (original ∷ mapped ∷ [])) ⌝ }
 {
     let at = ENTRIES_AT + ENTRY * i;
-    fields::write32(sector, at, original);
-    fields::write32(sector, at + NUMBER, mapped);
+    fields_written::write32(sector, at, original);
+    fields_written::write32(sector, at + NUMBER, mapped);
 }
 
 // Writes numbers in a row, from place `i` of the entries on.
@@ -177,7 +177,7 @@ fn put_numbers(sector: &mut [u8], i: usize, numbers: &[u32])
     let at = ENTRIES_AT + ENTRY * i;
     let mut j: usize = 0;
     while j < numbers.len() {
-        fields::write32(sector, at + NUMBER * j, numbers[j]);
+        fields_written::write32(sector, at + NUMBER * j, numbers[j]);
         j += 1;
     }
 }

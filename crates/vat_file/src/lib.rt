@@ -18,8 +18,8 @@ const TAIL: usize = 36;
 
 const PREVIOUS: usize = 4;
 
-// The name in the regid.
-const NAME: [u8; 22] = *b"*UDF Virtual Alloc Tbl";
+// The regid behind the entries.
+const REGID: [u8; 32] = *b"\0*UDF Virtual Alloc Tbl\0\0\0\0\0\0\0\0\0";
 
 // The most entries that a VAT may have.
 const MOST_ENTRIES: usize = 4096;
@@ -49,7 +49,7 @@ fn judge_file(file: &[u8]) -> Verdict
     if tail % ENTRY != 0 {
         return Verdict::Stop(Refusal::NoTable);
     }
-    if !fields::has_regid(file, tail, &NAME) {
+    if !fields::has_regid(file, tail, &REGID) {
         return Verdict::Stop(Refusal::NoTable);
     }
     if MOST_ENTRIES < tail / ENTRY {

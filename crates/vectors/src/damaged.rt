@@ -44,7 +44,7 @@ fn rewritable_number(name: &[u8], at: usize, n: u16)
     requires { ⌜ at < 63 ⌝ }
 {
     let mut list = rewritable_list();
-    fields::write16(&mut list, at, n);
+    fields_written::write16(&mut list, at, n);
     lists::read(b"rewritable", name, &list);
 }
 

@@ -1,111 +1,35 @@
--- Laws of opening on a write-once disc: the scan, step by step, and each way on or out. Assumes nothing.
-use Prim.Native.Nat.{ℕ, zero, suc, _+_, _-_, _*_, _≤_, _<_}
-use mathlib.Core.Bool.{Bool, true, false, cond}
-use mathlib.Core.Path.{_≡_, refl, sym, ap, ap₂, _∙_}
+-- Laws of opening on a write-once disc, one for each way on or out. Assumes nothing.
+use Prim.Native.Nat.{ℕ, _+_, _-_, _*_, _≤_, _<_}
+use mathlib.Core.Bool.{Bool, true}
+use mathlib.Core.Path.{_≡_, sym, ap, ap₂, _∙_}
 use mathlib.Core.List.{List, [], _∷_}
 use native.Mathlib.Omega.{arith}
 use borrow.Author.Tests.{leb-true, le-leb, lt-leb}
-use lib.Dec.{eqb, leb}
-use lib.ListN.{length, getD}
+use lib.Dec.{leb}
+use lib.ListN.{length}
 use Rattle.refusal.specs.declared.Refusal.{Refusal}
 use Rattle.refusal.specs.declared.Refusal.the-variants.{OtherKind, NoTable, TooManyEntries}
 use Rattle.refusal.specs.declared.Verdict.{Verdict}
 use Rattle.refusal.specs.declared.Verdict.the-variants.{Go, Stop}
 use Rattle.refusal.specs.Tests.{test, first, andThen}
-use Rattle.fields.specs.Number.{field}
-use Rattle.fields.proofs.Laws.{field-part}
-use Rattle.maps.proofs.Tests.{fails, holds}
 use Rattle.maps.specs.declared.Kind.the-variants.{WriteOnce, Rewritable}
 use Rattle.model.specs.declared.Record.{Record}
 use Rattle.model.specs.declared.Opened.{Opened}
-use Rattle.model.specs.Disc.{Disc, disc, sector, nwa}
-use Rattle.model.specs.Vat.{Found, icbAt, nowhere, tagFits, entryFits, allocationFits, tableFits, passes, vatIcb, scan, vatFile, countOf, entriesOf}
+use Rattle.model.specs.Disc.{Disc, disc, nwa}
+use Rattle.model.specs.Vat.{Found, icbAt, vatIcb, scan, vatFile, countOf, entriesOf}
 use Rattle.model.specs.Examine.{Setting, writeOnce, lentTable}
 use Rattle.model.specs.Once.{nextOn, isFound, foundAt, newest, newestFile, openOnceTests, foundRecord, passedOver, filledFrom}
 use Rattle.model.specs.Both.{openedBy, filledBy}
 use Rattle.model.proofs.Scan.{found-newest}
 use Rattle.model.proofs.Sectors.{shapely-made, shapely-most, inside-fits}
 use Rattle.model.proofs.Verdicts.{Examined as Told, stop-test, next-test}
-use Rattle.vat.specs.File.{fileIn}
-use Rattle.vat.proofs.File.{file-in}
-use Rattle.vat.proofs.Laws.{recorded-passes}
 use Rattle.examine.specs.declared.Examined.{Examined}
 use Rattle.examine.specs.Ground.{examinedOf}
 use Rattle.examine.proofs.Laws.{seen-verdict, seen-tells, seen-once, seen-rewritable}
-use Rattle.write_once.specs.declared.Scanned.{Scanned}
+use Rattle.finding.specs.declared.Scanned.{Scanned}
+use Rattle.finding.specs.Scan.{scanOf}
+use Rattle.finding.proofs.Laws.{scan-none, scan-at}
 use Rattle.write_once.specs.Calls.{openOnceVerdict, openingOnce, openedOnce}
-use Rattle.write_once.specs.Scan.{scanOf}
-
--- ---- the scan
-
--- below logical block 0 there is nothing
-pub scan-bottom : (d : Disc) (s k : ℕ) → k ≡ 0 → Scanned.Nowhere ≡ scanOf (scan d s k)
-unfolding scan scanOf
-scan-bottom d s k h = rw h
-
--- one sector: it is the ICB, or the scan goes on below it
-down : (d : Disc) (s k : ℕ) → 0 < k → scan d s k ≡ cond (vatIcb d s (k - 1)) (icbAt (k - 1)) (scan d s (k - 1))
-unfolding scan
-down d s zero h = absurd (omega arith)
-down d s (suc j) h = let q : suc j - 1 ≡ j = omega arith in rw q
-
-module _ (d : Disc) (s k : ℕ) (h : 0 < k) where
-  -- a sector that is no ICB is passed over
-  pub scan-pass : vatIcb d s (k - 1) ≡ false → scan d s (k - 1) ≡ scan d s k
-  scan-pass q = sym (down d s k h ∙ rw q)
-
-  -- one that is ends the scan
-  pub scan-hit : vatIcb d s (k - 1) ≡ true → Scanned.At (k - 1) ≡ scanOf (scan d s k)
-  unfolding scanOf
-  scan-hit q = let e : scan d s k ≡ icbAt (k - 1) = down d s k h ∙ rw q in sym (ap scanOf e)
-
--- ---- the tests of a recorded sector p at logical block k, lent as b
-
-module _ (bytes marks : List ℕ) (s k p : ℕ) (at : p ≡ s + k) (b : List ℕ) (is : b ≡ sector (disc bytes marks) (s + k)) (mark : getD marks p 0 ≡ 1) where
-  tested : {r : Bool} → r ≡ passes (disc bytes marks) s k b → vatIcb (disc bytes marks) s k ≡ r
-  tested {r} f = sym (recorded-passes bytes marks s k p at b r mark is f)
-
-  -- the tag
-  pub icb-untagged : tagFits k b ≡ false → vatIcb (disc bytes marks) s k ≡ false
-  unfolding passes
-  icb-untagged h = tested (fails _ h)
-
-  -- the File Entry
-  pub icb-other-entry : tagFits k b ≡ true → entryFits b ≡ false → vatIcb (disc bytes marks) s k ≡ false
-  unfolding passes
-  icb-other-entry h e = tested (holds h (fails _ e))
-
-  -- the extents
-  pub icb-not-allocated : tagFits k b ≡ true → entryFits b ≡ true → allocationFits (disc bytes marks) s k b ≡ false → vatIcb (disc bytes marks) s k ≡ false
-  unfolding passes
-  icb-not-allocated h e a = tested (holds h (holds e (fails _ a)))
-
-  -- and the table decides
-  pub icb-table : {r : Bool} → tagFits k b ≡ true → entryFits b ≡ true → allocationFits (disc bytes marks) s k b ≡ true → r ≡ tableFits k (fileIn bytes s b) → vatIcb (disc bytes marks) s k ≡ r
-  unfolding passes
-  icb-table h e a t = tested (holds h (holds e (holds a (t ∙ ap (tableFits k) (file-in bytes marks s b)))))
-
--- a recorded sector of another identifier, f being what is read of it
-pub icb-other : (bytes marks : List ℕ) (s k p f : ℕ) → p ≡ s + k → getD marks p 0 ≡ 1 → f ≡ field bytes (2048 * p) 2 → eqb f 261 ≡ false → vatIcb (disc bytes marks) s k ≡ false
-unfolding tagFits sector
-icb-other bytes marks s k p f at mark ef q =
-    let place : 2048 * (s + k) + 0 ≡ 2048 * p = omega arith in
-    let e : field (sector (disc bytes marks) (s + k)) 0 2 ≡ f = field-part bytes (2048 * (s + k)) 2048 0 2 (omega arith) ∙ ap (λ (n : ℕ). field bytes n 2) place ∙ sym ef in
-    icb-untagged bytes marks s k p at (sector (disc bytes marks) (s + k)) refl mark (sym (fails _ (ap (λ (n : ℕ). eqb n 261) e ∙ q)))
-
--- ---- what the scan answers
-
--- an answer that there is none
-scan-none : (f : Found) → scanOf f ≡ Scanned.Nowhere → f ≡ nowhere
-unfolding scanOf
-scan-none (icbAt j) e = let z : _≡_ {A = ℕ} 0 1 = cc in absurd (omega arith)
-scan-none nowhere e = refl
-
--- an answer with a block
-scan-at : (f : Found) {k : ℕ} → scanOf f ≡ Scanned.At k → f ≡ icbAt k
-unfolding scanOf
-scan-at (icbAt j) {k} e = let q : j ≡ k = cc in ap icbAt q
-scan-at nowhere e = let z : _≡_ {A = ℕ} 0 1 = cc in absurd (omega arith)
 
 -- ---- opening
 

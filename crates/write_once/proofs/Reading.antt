@@ -26,7 +26,7 @@ use Rattle.model.proofs.Basics.{and-true, other}
 use Rattle.model.proofs.Sectors.{shapely-made, shapely-most, inside-fits, nwa-most}
 use Rattle.model.proofs.Verdicts.{Examined, examined-tells, then-go, stop-test, next-test}
 use Rattle.examine.proofs.Laws.{once-stops, once-goes}
-use Rattle.write_once.proofs.Laws.{held-tells}
+use Rattle.examine.proofs.Calls.{held-tells}
 use Rattle.write_once.specs.Calls.{readOnceVerdict, readingOnce, readOnceBytes}
 
 -- ---- what lines 1 to 7 and 11 tell of a call that goes on

@@ -1,6 +1,7 @@
 // The calls on a write-once disc that write no sector: opening, reading, freeing and fullness (document 01,
 // "Calls and their sector writes"). Each examines what it gets and refuses with the first
 // line of document 01 that applies; a refusal leaves every lent byte as it came. No call has a requires.
+use finding::Scanned;
 use maps::Kind;
 use model::Given;
 use model::Opened;
@@ -9,17 +10,13 @@ use model::Reply;
 use refusal::Refusal;
 use refusal::Verdict;
 ghost use mathlib.Core.Path.{_≡_};
-ghost use mathlib.Core.Bool.{false};
 ghost use Prim.Native.Nat.{_+_, _*_, _≤_, _<_};
 ghost use lib.ListN.{length};
 ghost use Rattle.refusal.specs.Tests.{first};
 ghost use Rattle.model.specs.Disc.{disc as discOf};
-ghost use Rattle.model.specs.Vat.{vatIcb, scan as scanned};
 ghost use Rattle.model.specs.Examine.{setting};
 ghost use Rattle.model.specs.Once.{entriesHeld, entryTests, freePlan, perMille};
-ghost use Rattle.vat.specs.File.{Lent};
 ghost use Rattle.write_once.specs.Calls.{openingOnce, openedOnce, readingOnce, readOnceBytes, fullnessOf};
-ghost use Rattle.write_once.specs.Scan.{scanOf};
 ghost use Rattle.model.specs.Writes.{noCut};
 ghost use Rattle.model.specs.Plan.{Meets};
 
@@ -31,9 +28,6 @@ const MOST_COUNT: u64 = 4096;
 
 // The mark of a recorded sector.
 const RECORDED: u8 = 1;
-
-// The tag identifier of a File Entry.
-const FILE_ENTRY: u16 = 261;
 
 // An entry that is unused.
 const NONE: u32 = 0xffffffff;
@@ -47,80 +41,7 @@ pub enum Measured {
     Refused(Refusal),
 }
 
-// Where the scan for a VAT ICB ends: at a logical block, or having found none.
-enum Scanned {
-    At(u32),
-    Nowhere,
-}
-
 // ---- opening
-
-// Whether logical block `k` can be a VAT ICB: it is recorded, and begins as a File Entry. Inside the layers:
-// line 1 has been tested, and the sector is one of the disc's.
-fn can_be_icb(disc: &[u8], marks: &[u8], s: u32, k: u32) -> bool
-    requires { ⌜ (s + k < length (now marks)) × (length (now disc) ≡ 2048 * length (now marks)) ⌝ }
-    ensures { λ r. ⌜ (r ≡ false → vatIcb (discOf (now (disc .entry)) (now (marks .entry))) s k ≡ false) ⌝ }
-{
-    let at = s as usize + k as usize;
-    if marks[at] != RECORDED {
-        return false;
-    }
-    fields::read16(disc, SECTOR * at) == FILE_ENTRY
-}
-
-// The end of the first `n` blocks without those at their end that cannot be an ICB. Inside the layers: as for
-// the scan.
-fn skip_others(disc: &[u8], marks: &[u8], s: u32, n: u32) -> u32
-    requires { ⌜ Lent (now disc) (now marks) s n ⌝ }
-    ensures { λ r. ⌜ (r ≤ n) × (scanned (discOf (now (disc .entry)) (now (marks .entry))) s r ≡ scanned (discOf (now (disc .entry)) (now (marks .entry))) s n) ⌝ }
-{
-    let mut k = n;
-    while 0 < k {
-        let below = k - 1;
-        if can_be_icb(disc, marks, s, below) {
-            return k;
-        }
-        k = below;
-    }
-    k
-}
-
-// The scan down from below logical block `n` to the first VAT ICB. Inside the layers: lines 1 and 2 have been
-// tested, and `n` does not exceed L.
-fn scan(disc: &[u8], marks: &[u8], s: u32, n: u32) -> Scanned
-    requires { ⌜ Lent (now disc) (now marks) s n ⌝ }
-    ensures { λ r. ⌜ r ≡ scanOf (scanned (discOf (now (disc .entry)) (now (marks .entry))) s n) ⌝ }
-{
-    let mut k = n;
-    let found = 'scan: loop {
-        k = skip_others(disc, marks, s, k);
-        if k == 0 {
-            break 'scan Scanned::Nowhere;
-        }
-        k -= 1;
-        let at = s as usize + k as usize;
-        if marks[at] != RECORDED {
-            continue 'scan;
-        }
-        let from = SECTOR * at;
-        let to = from + SECTOR;
-        let icb = &disc[from..to];
-        if !icb::tag_fits(k, icb) {
-            continue 'scan;
-        }
-        if !icb::entry_fits(icb) {
-            continue 'scan;
-        }
-        if !icb::allocation_fits(marks, s, k, icb) {
-            continue 'scan;
-        }
-        if !vat::table_fits(disc, s, k, icb) {
-            continue 'scan;
-        }
-        break 'scan Scanned::At(k);
-    };
-    found
-}
 
 // Opens the volume: finds the newest VAT on the disc, and fills the lent table with its entries.
 pub fn open_write_once(
@@ -150,7 +71,7 @@ pub fn open_write_once(
         return Opened::Refused(Refusal::OtherKind);
     }
     let next = marks::next_writable(marks, s, l);
-    let found = scan(disc, marks, s, next);
+    let found = finding::scan(disc, marks, s, next);
     match found {
         Scanned::Nowhere => Opened::Refused(Refusal::NoTable),
         Scanned::At(k) => {

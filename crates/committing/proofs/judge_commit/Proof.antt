@@ -2,7 +2,7 @@
 use mathlib.Core.Path.{sym, _∙_}
 use Rattle.model.specs.Disc.{Disc, disc}
 use Rattle.model.specs.Examine.{Setting, setting}
-use Rattle.write_once.proofs.Laws.{table-long}
+use Rattle.examine.proofs.Calls.{table-long}
 use Rattle.committing.proofs.Commits.{commit-stops, commit-few, commit-full, commit-fits}
 use borrow.Author.Needs.{needs}
 use Rattle.committing.proofs.judge_commit.Statement.{statement}

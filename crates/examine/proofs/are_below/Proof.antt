@@ -5,12 +5,12 @@ use mathlib.Core.Bool.{_&&_}
 use mathlib.Core.Logic.{⊎-elim}
 use mathlib.Core.Path.{_≡_, ap}
 use native.Mathlib.Omega.{arith}
-use borrow.Author.Needs.{scaled-fits}
+use borrow.Author.Needs.{needs, scaled-fits}
 use borrow.Author.Tests.{ne-eqb}
 use lib.Dec.{eqb}
 use lib.ListN.{length, take, drop}
 use Rattle.model.specs.Vat.{allBelow}
-use Rattle.examine.proofs.Laws.{below-all, below-stop, below-unused, below-next, below-none}
+use Rattle.examine.proofs.Laws.{below-all, below-stop, below-past, below-none}
 use Rattle.examine.proofs.are_below.Statement.{statement}
 use Rattle.examine.proofs.are_below.Tie as tie
 
@@ -22,13 +22,16 @@ abbrev μ-loop : tie.MeasureT-loop
 μ-loop table n next over₀ i₀ over i = n - i
 
 loop-holds : tie.Need-loop-holds Inv-loop μ-loop
-loop-holds c = (omega arith, below-all _ (c .args .n) (c .args .table .now))
+loop-holds c = (omega arith, below-all _ (c .before .args .n) (c .before .args .table .now))
 
-mul-entry : tie.Need-mul-entry Inv-loop μ-loop
-mul-entry c = scaled-fits _ (length (c .before .before .args .table .now)) 4 (omega arith) (c .before .before .good .0 .1)
+mul-one-past : tie.Need-mul-one-past Inv-loop μ-loop
+mul-one-past c = scaled-fits _ (length (c .before .before .before .args .table .now)) 4 (omega arith) (c .before .before .before .good .0 .1)
 
-shared-slice-read-entry : tie.Need-shared-slice-read-entry Inv-loop μ-loop
-shared-slice-read-entry c = omega arith
+shared-slice-read-one-past : tie.Need-shared-slice-read-one-past Inv-loop μ-loop
+shared-slice-read-one-past c = omega arith
+
+one-past-requires : tie.Need-one-past-requires Inv-loop μ-loop
+one-past-requires c κs = search needs
 
 add-over : tie.Need-add-over Inv-loop μ-loop
 add-over c = omega arith
@@ -41,20 +44,13 @@ loop-less c = omega arith
 
 loop-again : tie.Need-loop-again Inv-loop μ-loop
 loop-again c =
-    let more = c .before .before .loop-test .taken in
-    let l = c .before .before .before .loop in
+    let more = c .before .before .before .loop-test .taken in
+    let l = c .before .before .before .before .loop in
     let w = l .inv .1 in
+    let e = c .before .one-past .ensures in
     ⊎-elim
-    (λ x. (
-      omega (arith, x .2),
-      below-stop _ _ _ _ (eqb (l .over) 0) _ w more (omega arith) (x .0 .taken) (omega (arith, x .1 .taken)) (ne-eqb (c .if1 .over) 0 (omega (arith, x .2))),
-    ))
-    (⊎-elim
-    (λ x. (
-      omega (arith, x .2),
-      below-next _ _ _ _ (eqb (l .over) 0) _ w more (omega arith) (x .0 .taken) (omega (arith, x .1 .left)) (ap (λ k. eqb k 0) (x .2)),
-    ))
-    λ x. (omega (arith, x .1), below-unused _ _ _ _ (eqb (l .over) 0) _ w more (omega arith) (x .0 .left) (ap (λ k. eqb k 0) (x .1))))
+    (λ x. (omega (arith, x .1), below-stop _ _ _ _ (eqb (l .over) 0) _ w more (omega arith) (λ q. omega (arith, q, x .0 .taken)) (omega (arith, x .0 .taken)) (ne-eqb (c .if1 .over) 0 (omega (arith, x .1)))))
+    (λ x. (omega (arith, x .1), below-past _ _ _ _ (eqb (l .over) 0) _ w more (omega arith) (λ q. omega (arith, q, x .0 .left)) (ap (λ k. eqb k 0) (x .1))))
     (c .if1 .came)
 
 returns : tie.Need-returns Inv-loop μ-loop
@@ -67,8 +63,9 @@ are-below-spec =
     Inv-loop
     μ-loop
     loop-holds
-    mul-entry
-    shared-slice-read-entry
+    mul-one-past
+    shared-slice-read-one-past
+    one-past-requires
     add-over
     add-i
     loop-less

@@ -1,28 +1,26 @@
--- `fields::has_regid` meets its contract. The loop's invariant: the first `i` bytes of the field are those of the regid as it is written. Assumes nothing.
+-- `fields::has_regid` meets its contract. The loop's invariant: `alike` says whether the first `i` bytes of both are equal. Assumes nothing.
 use Prim.Native.Nat.{_-_, _≤_}
 use mathlib.Core.Path.{_≡_, refl, sym, _∙_}
+use mathlib.Core.Bool.{true, false, false≢true}
+use mathlib.Core.Logic.{⊎-elim}
 use native.Mathlib.Omega.{arith}
 use borrow.Author.Needs.{needs}
-use lib.ListN.{take, drop, length-drop}
-use lib.Seq.{getD-drop}
-use Rattle.fields.specs.Bytes.{part}
-use Rattle.fields.specs.Regid.{regid}
-use Rattle.fields.proofs.Laws.{front-next, regid-differs, regid-agrees, length-regid}
+use lib.ListN.{take}
+use Rattle.fields.specs.Bytes.{part, same}
+use Rattle.fields.proofs.Laws.{part-front-next, part-differs, same-told}
 use Rattle.fields.proofs.has_regid.Statement.{statement}
 use Rattle.fields.proofs.has_regid.Tie as tie
 
 abbrev Inv-loop : tie.InvT-loop
-Inv-loop s at name i₀ i = (i ≤ 24) × (part s at i ≡ take i (regid name))
+Inv-loop s at regid alike₀ i₀ alike i =
+    (i ≤ 24) × (alike ≡ true → part s at i ≡ take i regid) × (alike ≡ false → same (part s at 24) (take 24 regid) ≡ false)
 
 abbrev μ-loop : tie.MeasureT-loop
-μ-loop s at name i₀ i = 24 - i
+μ-loop s at regid alike₀ i₀ alike i = 24 - i
 
 loop-holds : tie.Need-loop-holds Inv-loop μ-loop
 unfolding part
-loop-holds c = (search needs, refl)
-
-regid-byte-requires : tie.Need-regid-byte-requires Inv-loop μ-loop
-regid-byte-requires c κs = search needs
+loop-holds c = (search needs, λ e. refl, λ e. absurd (false≢true (sym e)))
 
 add-if1 : tie.Need-add-if1 Inv-loop μ-loop
 add-if1 c = search needs
@@ -30,11 +28,8 @@ add-if1 c = search needs
 shared-slice-read-if1 : tie.Need-shared-slice-read-if1 Inv-loop μ-loop
 shared-slice-read-if1 c = search needs
 
-returns : tie.Need-returns Inv-loop μ-loop
-returns c =
-    let at-test = c .before .before .before in
-    let v = at-test .before .loop in
-    sym (regid-differs _ _ _ (v .i) (omega arith) (λ e. c .if1 .taken (e ∙ sym (c .before .before .regid-byte .ensures))))
+shared-slice-read-if1-2 : tie.Need-shared-slice-read-if1-2 Inv-loop μ-loop
+shared-slice-read-if1-2 c = search needs
 
 add-i : tie.Need-add-i Inv-loop μ-loop
 add-i c = search needs
@@ -43,25 +38,24 @@ loop-less : tie.Need-loop-less Inv-loop μ-loop
 loop-less c = search needs
 
 loop-again : tie.Need-loop-again Inv-loop μ-loop
-unfolding part
 loop-again c =
-    let at-test = c .before .before .before in
-    let v = at-test .before .loop in
-    let a = at-test .before .before .before .before .args in
-    let l = length-regid (a .name .now) in
-    let d = length-drop (a .at) (a .s .now) in (
+    let v = c .before .before .before .before .loop in
+    let a = c .before .before .before .before .before .args in
+    ⊎-elim
+    (λ w. (search needs, λ e. absurd (false≢true (sym (w .1) ∙ e)), λ e. part-differs (a .s .now) (a .regid .now) (a .at) 24 (v .i) (omega arith) (w .0 .taken)))
+    (λ w. (
       search needs,
-      front-next (drop (a .at) (a .s .now)) (regid (a .name .now)) (v .i) (omega arith) (omega arith)
-          (getD-drop (a .at) (a .s .now) (v .i) 0 ∙ c .if1 .left ∙ c .before .before .regid-byte .ensures)
-          (v .inv .1),
-    )
+      λ e. part-front-next (a .s .now) (a .regid .now) (a .at) (v .i) (omega arith) (omega arith) (w .0 .left) (v .inv .1 (sym (w .1) ∙ e)),
+      λ e. v .inv .2 (sym (w .1) ∙ e),
+    ))
+    (c .if1 .came)
 
-returns-2 : tie.Need-returns-2 Inv-loop μ-loop
-returns-2 c =
+returns : tie.Need-returns Inv-loop μ-loop
+returns c =
     let v = c .before .loop in
-    let a = c .before .before .before .before .args in
-    let e : v .i ≡ 24 = omega arith in
-    sym (regid-agrees (a .s .now) (a .at) (a .name .now) (rw e at (v .inv .1)))
+    let a = c .before .before .args in
+    let n : v .i ≡ 24 = omega arith in
+    same-told (v .alike) (part (a .s .now) (a .at) 24) (take 24 (a .regid .now)) (λ e. rw n at (v .inv .1 e)) (v .inv .2)
 
 pub has-regid-spec : {M : Type 1} → statement M
 has-regid-spec =
@@ -70,11 +64,10 @@ has-regid-spec =
     Inv-loop
     μ-loop
     loop-holds
-    regid-byte-requires
     add-if1
     shared-slice-read-if1
-    returns
+    shared-slice-read-if1-2
     add-i
     loop-less
     loop-again
-    returns-2)
+    returns)

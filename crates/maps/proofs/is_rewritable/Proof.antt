@@ -1,10 +1,11 @@
 -- `maps::is_rewritable` meets its contract: the kind by the list's bytes (`rewritable-bytes`), test by test. Assumes nothing.
-use mathlib.Core.Path.{_≡_, sym, ap, _∙_}
+use mathlib.Core.Path.{_≡_, refl, sym, ap, _∙_}
 use mathlib.Core.Bool.{true}
 use native.Mathlib.Omega.{arith}
 use borrow.Author.Needs.{needs}
 use borrow.Author.Tests.{eq-eqb, ne-eqb, not-true, not-false}
 use lib.ListN.{length}
+use Rattle.fields.specs.Regid.{identifier, regid}
 use Rattle.maps.specs.Kinds.{sparableName, tablesInRange}
 use Rattle.maps.specs.Told.{oneTypeTwo}
 use Rattle.maps.proofs.Tests.{fails, holds}
@@ -20,15 +21,15 @@ is-type-two-requires c κs = search needs
 
 -- what the map was found to be, and its length
 named : (c : tie.Else1) → oneTypeTwo sparableName (c .before .before .before .before .args .maps .now) ≡ true
-unfolding sparableName
-named c = sym (c .before .is-type-two .ensures) ∙ not-false _ (c .if1 .left)
+unfolding sparableName regid identifier
+named c = sym (c .before .is-type-two .ensures sparableName refl) ∙ not-false _ (c .if1 .left)
 
 long : (c : tie.Else1) → length (c .before .before .before .before .args .maps .now) ≡ 64
 long c = type-two-long sparableName _ (named c)
 
 returns : tie.Need-returns
-unfolding sparableName
-returns c = fails _ (sym (c .before .is-type-two .ensures) ∙ not-true _ (c .if1 .taken)) ∙ sym (rewritable-bytes _)
+unfolding sparableName regid identifier
+returns c = fails _ (sym (c .before .is-type-two .ensures sparableName refl) ∙ not-true _ (c .if1 .taken)) ∙ sym (rewritable-bytes _)
 
 read16-requires : tie.Need-read16-requires
 read16-requires c κs = let l = long c in omega arith

@@ -1,6 +1,6 @@
 -- `maps::is_write_once` meets its contract: the kind by the list's bytes (`write-once-bytes`), test by test. Assumes nothing.
 use Prim.Native.Nat.{ℕ}
-use mathlib.Core.Path.{_≡_, sym, ap, _∙_}
+use mathlib.Core.Path.{_≡_, refl, sym, ap, _∙_}
 use mathlib.Core.List.{List}
 use mathlib.Core.Bool.{Bool, _&&_}
 use native.Mathlib.Omega.{arith}
@@ -9,6 +9,7 @@ use borrow.Author.Tests.{eq-eqb, ne-eqb, le-leb, lt-leb, not-true, not-false}
 use lib.Dec.{eqb}
 use lib.ListN.{drop}
 use Rattle.fields.specs.Number.{field}
+use Rattle.fields.specs.Regid.{identifier, regid}
 use Rattle.maps.specs.Walk.{walk}
 use Rattle.maps.specs.Kinds.{virtualName, isWriteOnce}
 use Rattle.maps.specs.Told.{onMaps, oneTypeTwo}
@@ -64,10 +65,10 @@ past-3 c x q =
 
 -- what the second map was found to be
 second : (c : tie.After-is-type-two) → oneTypeTwo virtualName (drop 6 (c .before .before .before .before .before .before .before .before .before .args .maps .now)) ≡ c .is-type-two .result
-unfolding virtualName
+unfolding virtualName regid identifier
 second c =
     let s = c .before .before .before .before .before .before .before .before .before .args .maps .now in
-    ap (oneTypeTwo virtualName) (sym (rest-from s 6)) ∙ sym (c .is-type-two .ensures)
+    ap (oneTypeTwo virtualName) (sym (rest-from s 6)) ∙ sym (c .is-type-two .ensures virtualName refl)
 
 returns-4 : tie.Need-returns-4
 returns-4 c = past-3 (c .before .before .before .before) _ (fails _ (second (c .before) ∙ not-true _ (c .if4 .taken)))
@@ -76,9 +77,9 @@ read16-requires : tie.Need-read16-requires
 read16-requires c κs = search needs
 
 read16-requires-2 : tie.Need-read16-requires-2
-unfolding virtualName
+unfolding virtualName regid identifier
 read16-requires-2 c κs =
-    let l = type-two-long virtualName _ (sym (c .before .before .is-type-two .ensures) ∙ not-false _ (c .before .if4 .left)) in
+    let l = type-two-long virtualName _ (sym (c .before .before .is-type-two .ensures virtualName refl) ∙ not-false _ (c .before .if4 .left)) in
     omega arith
 
 returns-5 : tie.Need-returns-5

@@ -1,8 +1,9 @@
 -- `maps_written::put_rewritable` meets its contract: the type 2 map, then field by field. Assumes nothing.
-use mathlib.Core.Path.{_≡_, sym, _∙_}
+use mathlib.Core.Path.{_≡_, refl, sym, _∙_}
 use native.Mathlib.Omega.{arith}
 use borrow.Author.Needs.{needs}
 use lib.ListN.{length, length-set}
+use Rattle.fields.specs.Regid.{identifier, regid}
 use Rattle.maps.specs.Kinds.{sparableName}
 use Rattle.maps_written.proofs.Writing.{rewritable-written}
 use Rattle.maps_written.proofs.put_rewritable.Statement.{statement}
@@ -44,13 +45,13 @@ same-length c =
     c .before .before .put-sectors .kept .0 ∙ long-2 b ∙ sym (b .before .before .before .before .before .before .before .before .before .before .before .before .pre .1)
 
 returns : tie.Need-returns
-unfolding sparableName
+unfolding sparableName regid identifier
 returns c =
     let d = c .before .before .before .before .before .before .before in
     let b = d .before .before .before .before in
     let a = b .before .before .before .before in
     let s = a .before .before .before .before in
-    rewritable-written _ _ _ _ _ _ _ _ _ (omega (arith, s .good)) (s .pre .0) (c .before .before .before .wide .ensures .0) (a .put-type-two .ensures) (b .write16 .ensures) (d .write32 .ensures) (c .before .before .put-sectors .ensures)
+    rewritable-written _ _ _ _ _ _ _ _ _ (omega (arith, s .good)) (s .pre .0) (c .before .before .before .wide .ensures .0) (a .put-type-two .ensures sparableName refl) (b .write16 .ensures) (d .write32 .ensures) (c .before .before .put-sectors .ensures)
 
 pub put-rewritable-spec : {M : Type 1} → statement M
 put-rewritable-spec =

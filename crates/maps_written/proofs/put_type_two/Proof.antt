@@ -5,6 +5,7 @@ use mathlib.Core.List.{_∷_, _++_}
 use native.Mathlib.Omega.{arith}
 use borrow.Author.Needs.{needs}
 use lib.ListN.{length, take, drop, set, replicate, length-set}
+use Rattle.fields.specs.Bytes.{splice}
 use Rattle.maps_written.proofs.Writing.{type-two-cleared, type-two-written}
 use Rattle.maps_written.proofs.put_type_two.Statement.{statement}
 use Rattle.maps_written.proofs.put_type_two.Tie as tie
@@ -31,7 +32,7 @@ clear-requires c κs = search needs
 cleared : (c : tie.After-clear) → let s = set (set (c .before .before .before .before .args .map .now) 0 2) 1 64 in take 2 s ++ (c .clear .last .0 ++ drop (length s - 2) (drop 2 s)) ≡ 2 ∷ 64 ∷ replicate 62 0
 cleared c =
     let b = c .before .before .before .before in
-    type-two-cleared (b .args .map .now) _ (b .pre) (c .clear .ensures)
+    type-two-cleared (b .args .map .now) _ (b .pre .0) (c .clear .ensures)
 
 long : (c : tie.After-write-regid) → length (c .write-regid .last .0) ≡ 64
 long c = c .write-regid .kept .0 ∙ ap length (cleared (c .before .before .before .before))
@@ -52,13 +53,13 @@ same-length : tie.Need-same-length
 same-length c =
     let b = c .before .before .before .before .before .before in
     let a = b .before .before .before .before in
-    c .before .before .write162 .kept .0 ∙ long-2 b ∙ sym (a .before .before .before .before .before .before .before .before .pre)
+    c .before .before .write162 .kept .0 ∙ long-2 b ∙ sym (a .before .before .before .before .before .before .before .before .pre .0)
 
 returns : tie.Need-returns
-returns c =
+returns c name e =
     let b = c .before .before .before .before .before .before in
     let a = b .before .before .before .before in
-    type-two-written _ _ _ _ _ _ (cleared (a .before .before .before .before)) (a .write-regid .ensures) (b .write16 .ensures) (c .before .before .write162 .ensures)
+    type-two-written _ _ _ _ _ _ (cleared (a .before .before .before .before)) (a .write-regid .ensures ∙ ap (splice _ 4) e) (b .write16 .ensures) (c .before .before .write162 .ensures)
 
 pub put-type-two-spec : {M : Type 1} → statement M
 put-type-two-spec =

@@ -1,5 +1,7 @@
 -- `maps_written::put_write_once` meets its contract: the second map stands in the place of all that follows the first. Assumes nothing.
+use mathlib.Core.Path.{refl}
 use borrow.Author.Needs.{needs}
+use Rattle.fields.specs.Regid.{identifier, regid}
 use Rattle.maps.specs.Kinds.{virtualName}
 use Rattle.maps_written.proofs.Writing.{write-once-written}
 use Rattle.maps_written.proofs.put_write_once.Statement.{statement}
@@ -27,10 +29,10 @@ same-length : tie.Need-same-length
 same-length c = search needs
 
 returns : tie.Need-returns
-unfolding virtualName
+unfolding virtualName regid identifier
 returns c =
     let b = c .before .before in
-    write-once-written _ _ _ _ (b .before .before .before .before .before .put-type-one .ensures) (b .put-type-two .ensures)
+    write-once-written _ _ _ _ (b .before .before .before .before .before .put-type-one .ensures) (b .put-type-two .ensures virtualName refl)
 
 pub put-write-once-spec : {M : Type 1} → statement M
 put-write-once-spec =

@@ -10,10 +10,10 @@ use Rattle.marks.proofs.next_writable.Statement.{statement}
 use Rattle.marks.proofs.next_writable.Tie as tie
 
 abbrev Inv-loop : tie.InvT-loop
-Inv-loop marks s l near k₀ k = (k ≤ l) × ((bytes : List ℕ) → nwa (disc bytes marks) s k ≡ nwa (disc bytes marks) s l)
+Inv-loop marks s l far near k₀ k = (k ≤ l) × ((bytes : List ℕ) → nwa (disc bytes marks) s k ≡ nwa (disc bytes marks) s l)
 
 abbrev μ-loop : tie.MeasureT-loop
-μ-loop marks s l near k₀ k = k
+μ-loop marks s l far near k₀ k = k
 
 skip-blank-requires : tie.Need-skip-blank-requires Inv-loop μ-loop
 skip-blank-requires c κs = search needs
@@ -21,11 +21,15 @@ skip-blank-requires c κs = search needs
 skip-blank-requires-2 : tie.Need-skip-blank-requires-2 Inv-loop μ-loop
 skip-blank-requires-2 c κs = search needs
 
+skip-blank-requires-3 : tie.Need-skip-blank-requires-3 Inv-loop μ-loop
+skip-blank-requires-3 c κs = search needs
+
 loop-holds : tie.Need-loop-holds Inv-loop μ-loop
 loop-holds c =
-    let e = c .before .skip-blank .ensures in
-    let f = c .skip-blank2 .ensures in
-    (omega (arith, e .0, f .0), λ bytes. f .1 bytes ∙ e .1 bytes)
+    let e = c .before .before .skip-blank .ensures in
+    let f = c .before .skip-blank2 .ensures in
+    let g = c .skip-blank3 .ensures in
+    (omega (arith, e .0, f .0, g .0), λ bytes. g .1 bytes ∙ f .1 bytes ∙ e .1 bytes)
 
 sub-below : tie.Need-sub-below Inv-loop μ-loop
 sub-below c = search needs
@@ -62,6 +66,7 @@ next-writable-spec =
     μ-loop
     skip-blank-requires
     skip-blank-requires-2
+    skip-blank-requires-3
     loop-holds
     sub-below
     add-if1

@@ -11,7 +11,7 @@ use Rattle.model.specs.Examine.{Setting, setting}
 use Rattle.model.specs.Once.{entriesHeld, nextHeld, lastHeld, countAfter, saveLent, savePlan}
 use Rattle.model.specs.Plan.{Plan, carry}
 use Rattle.model.proofs.Plans.{refused, cut-short, carried}
-use Rattle.write_once.proofs.Laws.{Common, going, stopped, stopped-own, goes-on}
+use Rattle.examine.proofs.Calls.{Common, going, stopped, stopped-own, goes-on}
 use Rattle.recording.proofs.Saving.{save-lends, save-lent, save-ground, Saves, saves, save-inside, save-write, save-record}
 use Rattle.recording.proofs.save_virtual.Statement.{statement}
 use Rattle.recording.proofs.save_virtual.Tie as tie

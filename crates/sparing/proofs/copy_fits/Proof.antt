@@ -5,7 +5,8 @@ use borrow.Author.Needs.{needs}
 use borrow.Author.Tests.{not-true, not-false}
 use mathlib.Core.Bool.{true}
 use Rattle.model.specs.Sparing.{sparingName, countIn}
-use Rattle.fields.specs.Regid.{hasRegid}
+use Rattle.fields.specs.Regid.{identifier, regid, hasRegid}
+use Rattle.fields.proofs.Laws.{regid-told}
 use Rattle.fields.specs.Number.{field}
 use Rattle.sparing.proofs.Rule.{copy-tag, copy-name, copy-long, copy-originals, copy-ascending, copy-mapped}
 use Rattle.sparing.proofs.copy_fits.Statement.{statement}
@@ -24,16 +25,16 @@ has-regid-requires : tie.Need-has-regid-requires
 has-regid-requires c κs = search needs
 
 returns-2 : tie.Need-returns-2
-unfolding sparingName
-returns-2 c = copy-name _ _ (sym (c .before .before .before .before .read16 .ensures) ∙ c .before .before .before .if1 .left) (sym (c .before .has-regid .ensures) ∙ not-true _ (c .if2 .taken))
+unfolding sparingName regid identifier
+returns-2 c = copy-name _ _ (sym (c .before .before .before .before .read16 .ensures) ∙ c .before .before .before .if1 .left) (sym (regid-told _ 16 sparingName) ∙ sym (c .before .has-regid .ensures) ∙ not-true _ (c .if2 .taken))
 
 -- what the tests before have shown, and the number of entries
 tagged : (c : tie.Else2) → field (c .before .before .before .before .before .before .args .b .now) 0 2 ≡ 0
 tagged c = sym (c .before .before .before .before .read16 .ensures) ∙ c .before .before .before .if1 .left
 
 named : (c : tie.Else2) → hasRegid (c .before .before .before .before .before .before .args .b .now) 16 sparingName ≡ true
-unfolding sparingName
-named c = sym (c .before .has-regid .ensures) ∙ not-false _ (c .if2 .left)
+unfolding sparingName regid identifier
+named c = sym (regid-told _ 16 sparingName) ∙ sym (c .before .has-regid .ensures) ∙ not-false _ (c .if2 .left)
 
 counted : (c : tie.After-wide16) → c .wide16 .result ≡ countIn (c .before .before .before .before .before .before .before .before .args .b .now)
 unfolding countIn

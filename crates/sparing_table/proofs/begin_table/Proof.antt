@@ -3,6 +3,7 @@ use Prim.Native.Nat.{ℕ}
 use mathlib.Core.Path.{ap, _∙_}
 use borrow.Author.Needs.{needs}
 use lib.ListN.{replicate}
+use Rattle.fields.specs.Regid.{identifier, regid}
 use Rattle.sparing_table.proofs.Written.{begun-written}
 use Rattle.model.specs.Sparing.{sparingName}
 use Rattle.sparing_table.proofs.begin_table.Statement.{statement}
@@ -27,7 +28,7 @@ same-length : tie.Need-same-length
 same-length c = search needs
 
 returns : tie.Need-returns
-unfolding sparingName
+unfolding sparingName regid identifier
 returns c =
     let b = c .before .before .before .before .before .before in
     let r = b .before .before .before .before in

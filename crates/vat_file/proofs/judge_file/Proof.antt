@@ -2,6 +2,8 @@
 use mathlib.Core.Path.{sym, _∙_}
 use borrow.Author.Needs.{needs}
 use borrow.Author.Tests.{not-true, not-false}
+use Rattle.fields.specs.Regid.{identifier, regid}
+use Rattle.fields.proofs.Laws.{regid-told}
 use Rattle.model.specs.Vat.{vatName}
 use Rattle.vat_file.proofs.Laws.{short, uneven, unnamed, too-many, judged}
 use Rattle.vat_file.proofs.judge_file.Statement.{statement}
@@ -20,22 +22,22 @@ has-regid-requires : tie.Need-has-regid-requires
 has-regid-requires c κs = search needs
 
 returns-3 : tie.Need-returns-3
-unfolding vatName
+unfolding vatName regid identifier
 returns-3 c =
     let b = c .before .before .before in
-    unnamed _ (b .before .if1 .left) (b .if2 .left) (sym (c .before .has-regid .ensures) ∙ not-true _ (c .if3 .taken))
+    unnamed _ (b .before .if1 .left) (b .if2 .left) (sym (regid-told _ _ vatName) ∙ sym (c .before .has-regid .ensures) ∙ not-true _ (c .if3 .taken))
 
 returns-4 : tie.Need-returns-4
-unfolding vatName
+unfolding vatName regid identifier
 returns-4 c =
     let b = c .before .before .before .before in
-    too-many _ (b .before .if1 .left) (b .if2 .left) (sym (c .before .before .has-regid .ensures) ∙ not-false _ (c .before .if3 .left)) (c .if4 .taken)
+    too-many _ (b .before .if1 .left) (b .if2 .left) (sym (regid-told _ _ vatName) ∙ sym (c .before .before .has-regid .ensures) ∙ not-false _ (c .before .if3 .left)) (c .if4 .taken)
 
 returns-5 : tie.Need-returns-5
-unfolding vatName
+unfolding vatName regid identifier
 returns-5 c =
     let b = c .before .before .before .before in
-    judged _ (b .before .if1 .left) (b .if2 .left) (sym (c .before .before .has-regid .ensures) ∙ not-false _ (c .before .if3 .left)) (c .if4 .left)
+    judged _ (b .before .if1 .left) (b .if2 .left) (sym (regid-told _ _ vatName) ∙ sym (c .before .before .has-regid .ensures) ∙ not-false _ (c .before .if3 .left)) (c .if4 .left)
 
 pub judge-file-spec : {M : Type 1} → statement M
 judge-file-spec =

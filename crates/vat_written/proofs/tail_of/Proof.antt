@@ -1,5 +1,6 @@
 -- `vat_written::tail_of` meets its contract: two splices into zeros (`tail-written`). Assumes nothing.
 use borrow.Author.Needs.{needs}
+use Rattle.fields.specs.Regid.{identifier, regid}
 use Rattle.model.specs.Vat.{vatName}
 use Rattle.vat_written.proofs.Laws.{tail-written}
 use Rattle.vat_written.proofs.tail_of.Statement.{statement}
@@ -21,7 +22,7 @@ write32-requires : tie.Need-write32-requires
 write32-requires c κs = search needs
 
 returns : tie.Need-returns
-unfolding vatName
+unfolding vatName regid identifier
 returns c = tail-written _ _ _ (c .before .before .before .before .write-regid .ensures) (c .before .write32 .ensures)
 
 pub tail-of-spec : {M : Type 1} → statement M

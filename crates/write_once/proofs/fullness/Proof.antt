@@ -4,7 +4,8 @@ use native.Mathlib.Omega.{arith}
 use borrow.Author.Needs.{needs}
 use Rattle.model.specs.Disc.{Disc, disc}
 use Rattle.model.specs.Examine.{Setting, setting, lentTable}
-use Rattle.write_once.proofs.Laws.{going, table-long, full-stopped, full-told}
+use Rattle.examine.proofs.Calls.{going, table-long}
+use Rattle.write_once.proofs.Laws.{full-stopped, full-told}
 use Rattle.write_once.proofs.fullness.Statement.{statement}
 use Rattle.write_once.proofs.fullness.Tie as tie
 

@@ -8,7 +8,7 @@ use Rattle.model.specs.Disc.{disc, Disc, sector}
 use Rattle.model.specs.Examine.{setting, Setting}
 use Rattle.model.proofs.Basics.{and-true}
 use Rattle.disc.proofs.Laws.{copied-part, part-room}
-use Rattle.write_once.proofs.Laws.{table-long}
+use Rattle.examine.proofs.Calls.{table-long}
 use Rattle.write_once.proofs.Reading.{read-stopped, read-room, read-few, read-made, read-most, read-own, read-number, read-place, read-unrecorded, read-given}
 use Rattle.write_once.proofs.read_virtual.Statement.{statement}
 use Rattle.write_once.proofs.read_virtual.Tie as tie
