@@ -19,7 +19,7 @@ const MOST_SECTORS: usize = 1048576;
 // How many marks are looked at in one turn, where there are many.
 const TURN: usize = 64;
 
-const MANY: usize = 8192;
+const MANY: usize = 1024;
 
 // How many marks are looked at in one step down: first very many, then fewer.
 const LONGEST_STEP: u32 = 65536;
