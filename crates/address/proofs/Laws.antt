@@ -55,20 +55,20 @@ module _ (s : Span) (b : LogicalAddress) where
   -- the refusal of the span
   pub off-disc : {why : Refusal} → first (spanTests s) ≡ Stop why → ToPhysical.Refused why ≡ physicalOf s b
   unfolding physicalOf
-  off-disc e = asPhysical (sectorOf s b) (stops-all (spanTests s) (blockTests s b) e)
+  off-disc e = asPhysical (sectorOf (s .start) b) (stops-all (spanTests s) (blockTests s b) e)
 
   -- from L on, 12
   pub past-end : first (spanTests s) ≡ Go → s .length ≤ b .0 → ToPhysical.Refused NumberOutside ≡ physicalOf s b
   unfolding physicalOf
   past-end e h =
-      asPhysical (sectorOf s b)
+      asPhysical (sectorOf (s .start) b)
       (goes-all (spanTests s) (blockTests s b) (Stop NumberOutside) e (stops _ (le-ltb _ _ h)))
 
   -- else S + b
-  pub inside : first (spanTests s) ≡ Go → b .0 < s .length → ToPhysical.At (sectorOf s b) ≡ physicalOf s b
+  pub inside : first (spanTests s) ≡ Go → b .0 < s .length → ToPhysical.At (sectorOf (s .start) b) ≡ physicalOf s b
   unfolding physicalOf
   inside e h =
-      asPhysical (sectorOf s b)
+      asPhysical (sectorOf (s .start) b)
       (goes-all (spanTests s) (blockTests s b) Go e (goes _ (lt-ltb _ _ h) refl))
 
 -- ---- what holds of spans and physical addresses
@@ -78,7 +78,7 @@ pub fits : (s : Span) → first (spanTests s) ≡ Go → s .start + s .length �
 fits s e = leb-true _ _ (passed (spanTests s) e .1 .0)
 
 -- a block of a partition that ends within the most sectors of a disc is at S + b
-pub lands : (s : Span) (b : LogicalAddress) → s .start + s .length ≤ mostSectors → b .0 < s .length → physicalOf s b ≡ ToPhysical.At (sectorOf s b)
+pub lands : (s : Span) (b : LogicalAddress) → s .start + s .length ≤ mostSectors → b .0 < s .length → physicalOf s b ≡ ToPhysical.At (sectorOf (s .start) b)
 lands s b e h =
     let n : s .length ≡ 0 → ⊥ = λ q. omega arith in
     sym (inside s b (sym (goes _ (ne _ _ n) (goes _ (le-leb _ _ e) refl))) h)
@@ -116,14 +116,14 @@ module _ (s : Span) (entries : List ℕ) (v : VirtualAddress) where
   pub off-disc-first : {why : Refusal} → first (spanTests s) ≡ Stop why → ToPhysical.Refused why ≡ physicalOfVirtual s entries v
   unfolding physicalOfVirtual
   off-disc-first e =
-      asPhysical (sectorOf s (entryOf entries v))
-      (stops-all (spanTests s) (entryTests entries v ++ blockTests s (entryOf entries v)) e)
+      asPhysical (sectorOf (s .start) (entryOf entries v))
+      (stops-all (spanTests s) (entryTests (length entries) entries v ++ blockTests s (entryOf entries v)) e)
 
   -- past the span's tests, what is left for the disc is the test of the block
-  goes-on : first (spanTests s) ≡ Go → (x : Verdict) → onward s (unlessLogical x (entryOf entries v)) ≡ unlessPhysical (andThen x (first (blockTests s (entryOf entries v)))) (sectorOf s (entryOf entries v))
+  goes-on : first (spanTests s) ≡ Go → (x : Verdict) → onward s (unlessLogical x (entryOf entries v)) ≡ unlessPhysical (andThen x (first (blockTests s (entryOf entries v)))) (sectorOf (s .start) (entryOf entries v))
   unfolding physicalOf
   goes-on e Go =
-      asPhysical (sectorOf s (entryOf entries v))
+      asPhysical (sectorOf (s .start) (entryOf entries v))
       (sym (goes-all (spanTests s) (blockTests s (entryOf entries v)) _ e refl))
   goes-on e (Stop why) = refl
 
@@ -131,7 +131,7 @@ module _ (s : Span) (entries : List ℕ) (v : VirtualAddress) where
   pub composed : first (spanTests s) ≡ Go → onward s (logicalOf entries v) ≡ physicalOfVirtual s entries v
   unfolding logicalOf physicalOfVirtual
   composed e =
-      goes-on e (first (entryTests entries v)) ∙
-      asPhysical (sectorOf s (entryOf entries v))
-      (goes-all (spanTests s) (entryTests entries v ++ blockTests s (entryOf entries v)) _ e
-      (sym (first-append (entryTests entries v) (blockTests s (entryOf entries v)))))
+      goes-on e (first (entryTests (length entries) entries v)) ∙
+      asPhysical (sectorOf (s .start) (entryOf entries v))
+      (goes-all (spanTests s) (entryTests (length entries) entries v ++ blockTests s (entryOf entries v)) _ e
+      (sym (first-append (entryTests (length entries) entries v) (blockTests s (entryOf entries v)))))

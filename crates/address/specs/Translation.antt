@@ -18,8 +18,8 @@ use Rattle.address.specs.declared.ToLogical.{ToLogical}
 use Rattle.address.specs.declared.ToPhysical.{ToPhysical}
 
 -- the entry of a virtual address that is unused (01, "The VAT and its ICB")
-abbrev pub none : ℕ
-none = 4294967295
+unfoldable pub none : ℕ
+none = 0xffffffff
 
 -- the most sectors that a disc has (01, "The disc and its addresses")
 abbrev pub mostSectors : ℕ
@@ -42,10 +42,10 @@ spanTests s =
     test (leb (s .start + s .length) mostSectors) SpanOutside ∷
     []
 
--- line 12 for v, and line 13: there is such an entry, and it is used (01, "Why a call is turned down")
-abbrev pub entryTests : List ℕ → VirtualAddress → List Test
-entryTests entries v =
-    test (ltb (v .0) (length entries)) NumberOutside ∷
+-- line 12 for v, and line 13: there is such an entry among the first n, and it is used (01, "Why a call is turned down")
+abbrev pub entryTests : ℕ → List ℕ → VirtualAddress → List Test
+entryTests n entries v =
+    test (ltb (v .0) n) NumberOutside ∷
     test (not (eqb (getD entries (v .0) 0) none)) UnusedEntry ∷
     []
 
@@ -58,24 +58,44 @@ abbrev pub entryOf : List ℕ → VirtualAddress → LogicalAddress
 entryOf entries v = record { 0 = getD entries (v .0) 0 }
 
 -- logical b is physical S + b (01, "The disc and its addresses")
-abbrev pub sectorOf : Span → LogicalAddress → PhysicalAddress
-sectorOf s b = record { 0 = s .start + b .0 }
+abbrev pub sectorOf : ℕ → LogicalAddress → PhysicalAddress
+sectorOf s b = record { 0 = s + b .0 }
+
+-- the sector i above a sector (01, "Calls and their sector writes": "upward"; "The sparing table": "mapped + (b modulo 32)")
+abbrev pub upFrom : PhysicalAddress → ℕ → PhysicalAddress
+upFrom p i = record { 0 = p .0 + i }
+
+-- the numbers of the two, as disc and marks are asked by number
+abbrev pub sectorAt : ℕ → ℕ → ℕ
+sectorAt s b = sectorOf s (record { 0 = b }) .0
+
+-- the sector at which a virtual block is
+abbrev pub entrySectorAt : ℕ → List ℕ → ℕ → ℕ
+entrySectorAt s entries v = sectorOf s (entryOf entries (record { 0 = v })) .0
+
+-- the sector i above one
+abbrev pub aboveAt : ℕ → ℕ → ℕ
+aboveAt p i = upFrom (record { 0 = p }) i .0
 
 -- a virtual address, by the entries of a VAT (01, "The disc and its addresses")
 unfoldable pub logicalOf : List ℕ → VirtualAddress → ToLogical
-logicalOf entries v = unlessLogical (first (entryTests entries v)) (entryOf entries v)
+logicalOf entries v = unlessLogical (first (entryTests (length entries) entries v)) (entryOf entries v)
 
 -- a logical address, on the disc (01, "The disc and its addresses")
 unfoldable pub physicalOf : Span → LogicalAddress → ToPhysical
-physicalOf s b = unlessPhysical (first (spanTests s ++ blockTests s b)) (sectorOf s b)
+physicalOf s b = unlessPhysical (first (spanTests s ++ blockTests s b)) (sectorOf (s .start) b)
 
 -- a media block address, on the disc: lent bytes are mapped by no device (01, "The disc and its addresses")
 abbrev pub physicalOfMedia : MediaBlockAddress → PhysicalAddress
 physicalOfMedia m = record { 0 = m .0 }
 
+-- a mapped start, on the disc: it is physical as it stands in the sparing table (01, "The sparing table")
+abbrev pub physicalOfMapped : ℕ → PhysicalAddress
+physicalOfMapped m = record { 0 = m }
+
 -- a virtual address, on the disc: by the VAT, then by the partition (01, "The disc and its addresses")
 unfoldable pub physicalOfVirtual : Span → List ℕ → VirtualAddress → ToPhysical
 physicalOfVirtual s entries v =
     unlessPhysical
-    (first (spanTests s ++ entryTests entries v ++ blockTests s (entryOf entries v)))
-    (sectorOf s (entryOf entries v))
+    (first (spanTests s ++ entryTests (length entries) entries v ++ blockTests s (entryOf entries v)))
+    (sectorOf (s .start) (entryOf entries v))

@@ -2,8 +2,9 @@
 // Each address has a type of its own, so that translation alone turns one into another.
 // The layers above may count on an answer for every argument: the address, or the first refusal that applies.
 ghost use mathlib.Core.Path.{_≡_};
+ghost use Prim.Native.Nat.{_+_, _<_, _^_};
 ghost use Rattle.refusal.specs.Tests.{first};
-ghost use Rattle.address.specs.Translation.{spanTests, logicalOf, physicalOf, physicalOfMedia, physicalOfVirtual};
+ghost use Rattle.address.specs.Translation.{spanTests, sectorOf, upFrom, logicalOf, physicalOf, physicalOfMapped, physicalOfMedia, physicalOfVirtual};
 use refusal::Refusal;
 use refusal::Verdict;
 
@@ -92,9 +93,33 @@ pub fn logical_to_physical(span: Span, b: LogicalAddress) -> ToPhysical
 
 // The physical address of a media block address: the same sector, as no device maps a lent disc.
 pub fn media_to_physical(m: MediaBlockAddress) -> PhysicalAddress
-    ensures { λ r. ⌜ r ≡ physicalOfMedia m ⌝ }
+    ensures { λ r. ⌜ r .0 ≡ physicalOfMedia m .0 ⌝ }
 {
     PhysicalAddress(m.0)
+}
+
+// The physical address that a number of a sparing table names: a mapped start is physical.
+pub fn mapped_to_physical(number: u32) -> PhysicalAddress
+    ensures { λ r. ⌜ r .0 ≡ physicalOfMapped number .0 ⌝ }
+{
+    PhysicalAddress(number)
+}
+
+// The physical address of a logical one inside the layers, where line 2 has been tested and b is a block of the
+// partition, or the end of it.
+pub fn sector_of(s: u32, b: LogicalAddress) -> PhysicalAddress
+    requires { ⌜ s + b .0 < 2 ^ 32 ⌝ }
+    ensures { λ r. ⌜ r .0 ≡ sectorOf s b .0 ⌝ }
+{
+    PhysicalAddress(s + b.0)
+}
+
+// The sector i above a sector: of a run, or of a packet. Inside the layers: the run has been found to be the disc's.
+pub fn up_from(first: PhysicalAddress, i: u32) -> PhysicalAddress
+    requires { ⌜ first .0 + i < 2 ^ 32 ⌝ }
+    ensures { λ r. ⌜ r .0 ≡ upFrom first i .0 ⌝ }
+{
+    PhysicalAddress(first.0 + i)
 }
 
 // The physical address of a virtual one: through the VAT, then through the partition.

@@ -22,7 +22,7 @@ use Rattle.model.specs.Sparing.{flat, entriesFit, writtenTable}
 use Rattle.model.specs.Examine.{Setting, volume, isOnce, writeOnce, geometry, examined, lentTable}
 use Rattle.model.specs.Once.{nextOn, newestFile, openOnceTests, foundRecord, passedOver}
 use Rattle.model.specs.Rewrite.{tableOn, copyTests, currentRecord, heldCurrent, rewritableVerdict, placeOf, blockTest, copiesTo}
-use Rattle.model.specs.Both.{openVerdict, recordOn, numbersOn, passedOn, openedBy, filledBy, opening, openedTable, entrySector, sectorOf, readOnceTests, readRewritableTests, readLent, readVerdict, givenBy, blockBy, reading, readBytes, spareEntries, makeTests, makeVerdict, makeWrites, madeBy, made}
+use Rattle.model.specs.Both.{openVerdict, recordOn, numbersOn, passedOn, openedBy, filledBy, opening, openedTable, entrySector, blockSector, readOnceTests, readRewritableTests, readLent, readVerdict, givenBy, blockBy, reading, readBytes, spareEntries, makeTests, makeVerdict, makeWrites, madeBy, made}
 use Rattle.write_once.specs.Calls.{openOnceVerdict, openingOnce, openedOnce, readOnceVerdict, readingOnce, readOnceBytes}
 use Rattle.making.specs.WriteOnce.{makeOnceVerdict, madeOnce}
 use Rattle.rewritable.specs.Calls.{openRewritableVerdict, openingRewritable, openedRewritable, readBlockVerdict, readingBlock, readBlockBytes}
@@ -96,7 +96,7 @@ module _ (e : Setting) (d : Disc) (w : writeOnce e ≡ true) where
     reading-once = ap givenBy read-once
 
     bytes-once : readOnceBytes e d t held v out ≡ readBytes e d t held v out
-    unfolding readOnceBytes readBytes sectorOf
+    unfolding readOnceBytes readBytes blockSector
     bytes-once =
         ap₂ (λ (x : Verdict) (p : ℕ). blockBy x (sector d p) out) read-once (once-is (entrySector e t v) (placeOf e d v) w)
 
@@ -143,8 +143,8 @@ module _ (e : Setting) (d : Disc) (w : writeOnce e ≡ false) where
   opens-again t h = (h .0 ∙ opening-again t, h .1 ∙ opened-again t)
 
   module _ (t : List ℕ) (held : Record) (b : ℕ) (out : List ℕ) where
-    place : placeOf e d b ≡ sectorOf e d t b
-    unfolding sectorOf
+    place : placeOf e d b ≡ blockSector e d t b
+    unfolding blockSector
     place = again-is (entrySector e t b) (placeOf e d b) w
 
     read-again : readBlockVerdict e d t held b out ≡ readVerdict e d t held b out

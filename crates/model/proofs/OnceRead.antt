@@ -18,7 +18,7 @@ use Rattle.model.specs.Disc.{Disc, sector, recorded, shapely, inside}
 use Rattle.model.specs.Vat.{none, allBelow}
 use Rattle.model.specs.Examine.{Setting, writeOnce, examined, lentTable}
 use Rattle.model.specs.Once.{nextOn, entriesHeld, nextHeld, lastHeld, heldFits, entryTests}
-use Rattle.model.specs.Both.{readVerdict, readBytes, readLent, readOnceTests, entrySector, sectorOf, blockBy}
+use Rattle.model.specs.Both.{readVerdict, readBytes, readLent, readOnceTests, entrySector, blockSector, blockBy}
 use Rattle.model.specs.Calls.{State}
 use Rattle.model.specs.Store.{Slot, unused, slotAt, entrySlot, entrySlots, Store, seenAs, look}
 use Rattle.model.specs.Demand.{seen, seenBy}
@@ -106,14 +106,14 @@ module _ (e : Setting) (once : writeOnce e ≡ true) (maps-go : readMaps (e .map
         ∷ test (not (eqb (getD (st .table) v 0) none)) UnusedEntry
         ∷ test (recorded (st .disc) (e .start + getD (st .table) v 0)) NotRecorded
         ∷ [])
-    unfolding readVerdict readOnceTests entryTests sectorOf entrySector readLent lentTable need
+    unfolding readVerdict readOnceTests entryTests blockSector entrySector readLent lentTable need
     read-tests =
         go-then _ (examined-once (st .disc) _ (i .kept .shape) (i .kept .within) (both (le-leb _ _ (i .lent)) (eq-eqb _ _ long)))
         ∙ rw (once, live-held e st σ i)
 
     shown : (w : Verdict) → readVerdict e (st .disc) (st .table) (st .held) v out ≡ w
         → seen e st v out ≡ seenBy w (blockBy w (sector (st .disc) (e .start + getD (st .table) v 0)) out)
-    unfolding seen readBytes sectorOf entrySector
+    unfolding seen readBytes blockSector entrySector
     shown w h = rw (h, once)
 
     -- reading shows what the plain store does

@@ -19,7 +19,7 @@ use Rattle.model.specs.Disc.{Disc, sector, recorded, shapely, inside}
 use Rattle.model.specs.Sparing.{Geometry, Entry, entries, flat, entriesFit, locate}
 use Rattle.model.specs.Examine.{Setting, writeOnce, geometry, examined, lentTable}
 use Rattle.model.specs.Rewrite.{tableOn, entriesOn, sequenceOn, countOn, copyTests, heldCurrent, placeOf, blockTest}
-use Rattle.model.specs.Both.{readVerdict, readBytes, readLent, readRewritableTests, sectorOf, blockBy}
+use Rattle.model.specs.Both.{readVerdict, readBytes, readLent, readRewritableTests, blockSector, blockBy}
 use Rattle.model.specs.Calls.{State}
 use Rattle.model.specs.Store.{Slot, unused, slotAt, start, Store, seenAs, look, next}
 use Rattle.model.specs.Demand.{seen, seenBy}
@@ -117,14 +117,14 @@ module _ (e : Setting) (g : Geometry) (again : writeOnce e ≡ false) (γ : Grou
 
     read-tests : readVerdict e (st .disc) (st .table) (st .held) b out
         ≡ first (test (ltb b (g .span)) NumberOutside ∷ test (recorded (st .disc) at-block) NotRecorded ∷ [])
-    unfolding readVerdict readRewritableTests blockTest sectorOf readLent lentTable need copyTests tableOn
+    unfolding readVerdict readRewritableTests blockTest blockSector readLent lentTable need copyTests tableOn
     read-tests =
         go-then _ (examined-again (st .disc) _ (i .ready) (both (le-leb _ _ (i .lent)) (eq-eqb _ _ long)))
         ∙ rw (again, i .ready .geo, settled-some (st .disc) g n l (i .ready .settled), settled-table (st .disc) g n l (i .ready .settled), settled-agree (st .disc) g n l (i .ready .settled), held-current st i, ready-place γ (i .ready) b, γ .span-is)
 
     shown : (w : Verdict) → readVerdict e (st .disc) (st .table) (st .held) b out ≡ w
         → seen e st b out ≡ seenBy w (blockBy w (sector (st .disc) at-block) out)
-    unfolding seen readBytes sectorOf
+    unfolding seen readBytes blockSector
     shown w h = rw (h, again, ready-place γ (i .ready) b)
 
     -- reading shows what the plain store does

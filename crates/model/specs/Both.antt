@@ -8,6 +8,7 @@ use Rattle.refusal.specs.declared.Refusal.the-variants.{Misaligned, StaleRecord
 use Rattle.refusal.specs.declared.Verdict.{Verdict}
 use Rattle.refusal.specs.declared.Verdict.the-variants.{Go, Stop}
 use Rattle.refusal.specs.Tests.{Test, test, first, andThen}
+use Rattle.address.specs.Translation.{entrySectorAt}
 use Rattle.model.specs.declared.Record.{Record}
 use Rattle.model.specs.declared.Opened.{Opened}
 use Rattle.model.specs.declared.Given.{Given}
@@ -61,17 +62,17 @@ openedTable e d t = filledBy (openVerdict e d t) (numbersOn e d) t
 
 -- the sector of a virtual block: S and its entry
 unfoldable pub entrySector : Setting → List ℕ → ℕ → ℕ
-entrySector e t v = e .start + getD t v 0
+entrySector e t v = entrySectorAt (e .start) t v
 
 -- the sector of a block: by its entry, or by the sparing table
-unfoldable pub sectorOf : Setting → Disc → List ℕ → ℕ → ℕ
-sectorOf e d t v = cond (writeOnce e) (entrySector e t v) (placeOf e d v)
+unfoldable pub blockSector : Setting → Disc → List ℕ → ℕ → ℕ
+blockSector e d t v = cond (writeOnce e) (entrySector e t v) (placeOf e d v)
 
 -- lines 11 to 14 on a write-once disc
 unfoldable pub readOnceTests : Setting → Disc → List ℕ → Record → ℕ → List Test
 readOnceTests e d t held v =
     test (heldFits e d t held) StaleRecord
-    ∷ (entryTests t held v ++ (test (recorded d (sectorOf e d t v)) NotRecorded ∷ []))
+    ∷ (entryTests t held v ++ (test (recorded d (blockSector e d t v)) NotRecorded ∷ []))
 
 -- lines 8, 10 to 12 and 14 on a rewritable disc
 unfoldable pub readRewritableTests : Setting → Disc → List ℕ → Record → ℕ → List Test
@@ -79,7 +80,7 @@ readRewritableTests e d t held b =
     copyTests e d
     ++ (test (heldCurrent e d t held) StaleRecord
     ∷ blockTest e b
-    ∷ test (recorded d (sectorOf e d t b)) NotRecorded
+    ∷ test (recorded d (blockSector e d t b)) NotRecorded
     ∷ [])
 
 -- line 3
@@ -108,7 +109,7 @@ reading e d t held v out = givenBy (readVerdict e d t held v out)
 
 -- the lent bytes after it
 unfoldable pub readBytes : Setting → Disc → List ℕ → Record → ℕ → List ℕ → List ℕ
-readBytes e d t held v out = blockBy (readVerdict e d t held v out) (sector d (sectorOf e d t v)) out
+readBytes e d t held v out = blockBy (readVerdict e d t held v out) (sector d (blockSector e d t v)) out
 
 -- ---- making: a blank write-once partition gets an empty VAT; a rewritable one gets packets of zeros, a list of spares and tables of
 -- sequence 0

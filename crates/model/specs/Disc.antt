@@ -6,6 +6,7 @@ use mathlib.Core.List.{List, [], _∷_, _++_}
 use lib.ListN.{length, getD}
 use lib.Dec.{eqb, leb}
 use Rattle.fields.specs.Bytes.{part}
+use Rattle.address.specs.Translation.{sectorAt}
 
 -- the lent bytes and marks
 pub record Disc : Type 0 where
@@ -42,7 +43,7 @@ joined d p (suc n) = sector d p ++ joined d (p + 1) n
 -- writes"): of the first l sectors from s on
 unfoldable pub nwa : Disc → ℕ → ℕ → ℕ
 nwa d s zero = 0
-nwa d s (suc k) = cond (eqb (mark d (s + k)) 0) (nwa d s k) (suc k)
+nwa d s (suc k) = cond (eqb (mark d (sectorAt s k)) 0) (nwa d s k) (suc k)
 
 -- no mark exceeds 2
 unfoldable pub known : List ℕ → Bool

@@ -2,11 +2,12 @@
 use Prim.Native.Nat.{ℕ, _+_, _-_, _*_, _/_}
 use mathlib.Core.Bool.{Bool, true, false, cond, not, _&&_}
 use mathlib.Core.List.{List, [], _∷_, _++_}
-use lib.ListN.{length, getD, set, take, drop}
+use lib.ListN.{length, set, take, drop}
 use lib.Dec.{eqb, leb, ltb}
-use Rattle.refusal.specs.declared.Refusal.the-variants.{OtherKind, NoTable, TooManyEntries, StaleRecord, NumberOutside, UnusedEntry, PassesAsIcb, NoRoom}
+use Rattle.refusal.specs.declared.Refusal.the-variants.{OtherKind, NoTable, TooManyEntries, StaleRecord, NumberOutside, PassesAsIcb, NoRoom}
 use Rattle.refusal.specs.declared.Verdict.{Verdict}
 use Rattle.refusal.specs.Tests.{Test, test, first, andThen}
+use Rattle.address.specs.Translation.{sectorAt, entryTests as testsOfEntry}
 use Rattle.model.specs.declared.Record.{Record}
 use Rattle.model.specs.Disc.{Disc, nwa}
 use Rattle.model.specs.Writes.{Write, upward}
@@ -114,7 +115,7 @@ savePlan e d t held v block =
     unless
     (onceVerdict e d t (saveLent t block) held (saveTests e d held v block))
     (carry
-    (record { place = e .start + nextHeld held; bytes = block } ∷ [])
+    (record { place = sectorAt (e .start) (nextHeld held); bytes = block } ∷ [])
     (set t v (nextHeld held))
     (Record.WriteOnce (countAfter (entriesHeld held) v) (nextHeld held + 1) (lastHeld held)))
 
@@ -122,10 +123,7 @@ savePlan e d t held v block =
 
 -- lines 12 and 13: there is an entry v, and it is used
 unfoldable pub entryTests : List ℕ → Record → ℕ → List Test
-entryTests t held v =
-    test (ltb v (entriesHeld held)) NumberOutside
-    ∷ test (not (eqb (getD t v 0) none)) UnusedEntry
-    ∷ []
+entryTests t held v = testsOfEntry (entriesHeld held) t (record { 0 = v })
 
 -- the plan
 unfoldable pub freePlan : Setting → Disc → List ℕ → Record → ℕ → Plan
@@ -149,8 +147,8 @@ icbBlock held = nextHeld held + dataSectors (entriesHeld held)
 -- the writes of a commit of the entries t
 unfoldable pub commitWrites : Setting → List ℕ → Record → List Write
 commitWrites e t held =
-    upward (dataSectors (entriesHeld held)) (e .start + nextHeld held) (writtenData t (lastHeld held)) 0
-    ++ (record { place = e .start + icbBlock held; bytes = writtenIcb (icbBlock held) t (lastHeld held) } ∷ [])
+    upward (dataSectors (entriesHeld held)) (sectorAt (e .start) (nextHeld held)) (writtenData t (lastHeld held)) 0
+    ++ (record { place = sectorAt (e .start) (icbBlock held); bytes = writtenIcb (icbBlock held) t (lastHeld held) } ∷ [])
 
 -- the plan
 unfoldable pub commitPlan : Setting → Disc → List ℕ → Record → Plan

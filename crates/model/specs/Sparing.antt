@@ -8,6 +8,7 @@ use lib.Dec.{eqb, leb, ltb}
 use Rattle.fields.specs.Bytes.{same, join}
 use Rattle.fields.specs.Number.{field, words, digits, quads}
 use Rattle.fields.specs.Regid.{hasRegid, regid}
+use Rattle.address.specs.Translation.{sectorAt, aboveAt}
 use Rattle.maps.specs.Kinds.{absent}
 use Rattle.model.specs.Disc.{Disc, sector, recorded}
 use Rattle.model.specs.Vat.{none}
@@ -192,11 +193,11 @@ packetOf b = b - b % 32
 -- the sector at which a packet that begins at p is read
 unfoldable pub startAt : Spot → ℕ → ℕ → ℕ
 startAt (mappedTo m) s p = m
-startAt inPlace s p = s + p
+startAt inPlace s p = sectorAt s p
 
 -- a packet with an entry is read at mapped + (b modulo 32), otherwise at S + b
 unfoldable pub locate : ℕ → List Entry → ℕ → ℕ
-locate s es b = startAt (spotOf es (packetOf b)) s (packetOf b) + b % 32
+locate s es b = aboveAt (startAt (spotOf es (packetOf b)) s (packetOf b)) (b % 32)
 
 -- ---- sparing, and the table as it is written
 

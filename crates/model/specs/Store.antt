@@ -8,6 +8,7 @@ use lib.Dec.{eqb, ltb}
 use Rattle.refusal.specs.declared.Refusal.{Refusal}
 use Rattle.refusal.specs.declared.Refusal.the-variants.{NumberOutside, UnusedEntry, NotRecorded}
 use Rattle.fields.specs.Bytes.{part}
+use Rattle.address.specs.Translation.{sectorAt}
 use Rattle.model.specs.declared.Cut.{Cut}
 use Rattle.model.specs.declared.Effect.{Effect}
 use Rattle.model.specs.declared.Landing.{Landing}
@@ -50,7 +51,7 @@ slotAt d p = cond (recorded d p) (holds (sector d p)) unreadable
 
 -- a VAT entry as a block; the partition starts at sector s
 unfoldable pub entrySlot : Disc → ℕ → ℕ → Slot
-entrySlot d s x = cond (eqb x none) unused (slotAt d (s + x))
+entrySlot d s x = cond (eqb x none) unused (slotAt d (sectorAt s x))
 
 -- the blocks of some entries
 unfoldable pub entrySlots : Disc → ℕ → List ℕ → List Slot

@@ -10,15 +10,13 @@ use Rattle.fields.specs.Number.{field, words}
 use Rattle.fields.specs.Regid.{hasRegid}
 use Rattle.tag.specs.Checksum.{checksumOf}
 use Rattle.tag.specs.Crc.{crcFrom}
+use Rattle.address.specs.Translation.{sectorAt}
 use Rattle.model.specs.Disc.{Disc, sector, recorded, recordedRun, joined}
+unfoldable pub use Rattle.address.specs.Translation.{none}
 
 -- "*UDF Virtual Alloc Tbl"
 unfoldable pub vatName : List ℕ
 vatName = 42 ∷ 85 ∷ 68 ∷ 70 ∷ 32 ∷ 86 ∷ 105 ∷ 114 ∷ 116 ∷ 117 ∷ 97 ∷ 108 ∷ 32 ∷ 65 ∷ 108 ∷ 108 ∷ 111 ∷ 99 ∷ 32 ∷ 84 ∷ 98 ∷ 108 ∷ []
-
--- an entry that is unused, and no previous ICB
-unfoldable pub none : ℕ
-none = 0xffffffff
 
 -- ---- the file: N entries of 4 bytes, a regid, and 4 bytes with the previous VAT ICB's logical block
 
@@ -123,12 +121,12 @@ sizes (x ∷ l) = x .size + sizes l
 unfoldable pub blocksFit : Disc → ℕ → ℕ → List Extent → Bool
 blocksFit d s k [] = true
 blocksFit d s k (x ∷ l) =
-    leb (x .block + blocksIn (x .size)) k && (recordedRun d (s + x .block) (blocksIn (x .size)) && blocksFit d s k l)
+    leb (x .block + blocksIn (x .size)) k && (recordedRun d (sectorAt s (x .block)) (blocksIn (x .size)) && blocksFit d s k l)
 
 -- the sectors of the extents, joined
 unfoldable pub contents : Disc → ℕ → List Extent → List ℕ
 contents d s [] = []
-contents d s (x ∷ l) = joined d (s + x .block) (blocksIn (x .size)) ++ contents d s l
+contents d s (x ∷ l) = joined d (sectorAt s (x .block)) (blocksIn (x .size)) ++ contents d s l
 
 -- embedded: A = F; otherwise A is a multiple of 8, and the extents are as above and add up to F
 unfoldable pub allocationFits : Disc → ℕ → ℕ → List ℕ → Bool
@@ -154,11 +152,11 @@ passes d s k b = tagFits k b && (entryFits b && (allocationFits d s k b && table
 
 -- a recorded sector at logical k is a VAT ICB
 unfoldable pub vatIcb : Disc → ℕ → ℕ → Bool
-vatIcb d s k = recorded d (s + k) && passes d s k (sector d (s + k))
+vatIcb d s k = recorded d (sectorAt s k) && passes d s k (sector d (sectorAt s k))
 
 -- the file of the VAT ICB at logical k
 unfoldable pub vatFile : Disc → ℕ → ℕ → List ℕ
-vatFile d s k = fileOf d s (sector d (s + k))
+vatFile d s k = fileOf d s (sector d (sectorAt s k))
 
 -- ---- finding it ("Opening goes down from the last sector that is not blank, inside the partition, to the first VAT ICB")
 

@@ -4,6 +4,7 @@
 use Prim.Native.Nat.{ℕ}
 use mathlib.Core.Bool.{Bool, true, false}
 use mathlib.Core.List.{List, [], _∷_, _++_}
+use lib.ListN.{length}
 use lib.Dec.{eqb, leb}
 use Rattle.refusal.specs.declared.Refusal.the-variants.{NoTable, TooManyEntries}
 use Rattle.refusal.specs.declared.Verdict.{Verdict}
@@ -22,7 +23,7 @@ fileTests f = test (fileFits f) NoTable ∷ test (leb (countOf f) 4096) TooManyE
 
 -- the logical address of virtual v, by the entries of the file; after lines 8 and 9 come 12 and 13 (01, "Why a call is turned down")
 unfoldable pub lookedUp : List ℕ → VirtualAddress → ToLogical
-lookedUp f v = unlessLogical (first (fileTests f ++ entryTests (entriesOf f) v)) (entryOf (entriesOf f) v)
+lookedUp f v = unlessLogical (first (fileTests f ++ entryTests (length (entriesOf f)) (entriesOf f) v)) (entryOf (entriesOf f) v)
 
 -- a number of entries, or the refusal of the first test that does not hold (01, "Why a call is turned down")
 abbrev pub unlessCounted : Verdict → ℕ → Counted

@@ -21,7 +21,7 @@ use Rattle.model.specs.Vat.{none, belowOrNone, allBelow}
 use Rattle.model.specs.Examine.{Setting, writeOnce, examined, lentTable}
 use Rattle.model.specs.Once.{nextOn, entriesHeld, heldFits, onceVerdict, entryTests}
 use Rattle.model.specs.Rewrite.{placeOf}
-use Rattle.model.specs.Both.{readOnceTests, readLent, sectorOf, entrySector, givenBy, blockBy}
+use Rattle.model.specs.Both.{readOnceTests, readLent, blockSector, entrySector, givenBy, blockBy}
 use Rattle.model.proofs.Basics.{and-true, other}
 use Rattle.model.proofs.Sectors.{shapely-made, shapely-most, inside-fits, nwa-most}
 use Rattle.model.proofs.Verdicts.{Examined, examined-tells, then-go, stop-test, next-test}
@@ -71,7 +71,7 @@ held-entry e d t (Record.Rewritable n sequence) v h p q u = let z : v < 0 = p in
 
 module _ (e : Setting) (d : Disc) (t : List ℕ) (held : Record) (v : ℕ) (out : List ℕ) where
   -- its tests are the common ones and its own
-  own-tests : readOnceVerdict e d t held v out ≡ onceVerdict e d t (readLent t out) held (entryTests t held v ++ (test (recorded d (sectorOf e d t v)) NotRecorded ∷ []))
+  own-tests : readOnceVerdict e d t held v out ≡ onceVerdict e d t (readLent t out) held (entryTests t held v ++ (test (recorded d (blockSector e d t v)) NotRecorded ∷ []))
   unfolding readOnceVerdict readOnceTests onceVerdict
   own-tests = refl
 
@@ -142,14 +142,14 @@ module _ (e : Setting) (d : Disc) (t : List ℕ) (held : Record) (v : ℕ) (out 
               let span = inside-fits d (e .start) (e .span) (told .seen .within) .1 in
               omega arith
 
-          last-test : readOnceVerdict e d t held v out ≡ first (test (recorded d (sectorOf e d t v)) NotRecorded ∷ [])
+          last-test : readOnceVerdict e d t held v out ≡ first (test (recorded d (blockSector e d t v)) NotRecorded ∷ [])
           last-test =
               own-tests
               ∙ once-goes e d t (readLent t out) held _ (common ∙ h)
-              ∙ sym (goes-all (entryTests t held v) (test (recorded d (sectorOf e d t v)) NotRecorded ∷ []) _ (sym g ∙ x) refl)
+              ∙ sym (goes-all (entryTests t held v) (test (recorded d (blockSector e d t v)) NotRecorded ∷ []) _ (sym g ∙ x) refl)
 
-          place : sectorOf e d t v ≡ e .start + getD t v 0
-          unfolding sectorOf entrySector
+          place : blockSector e d t v ≡ e .start + getD t v 0
+          unfolding blockSector entrySector
           place = ap (λ (b : Bool). cond b (e .start + getD t v 0) (placeOf e d v)) (told .once)
 
           -- line 14

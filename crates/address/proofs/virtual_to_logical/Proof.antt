@@ -1,5 +1,6 @@
 -- `address::virtual_to_logical` meets its contract: each return is a case of the definition.
 use borrow.Author.Needs.{needs}
+use Rattle.address.specs.Translation.{none}
 use Rattle.address.proofs.Laws.{no-entry, unused, entered}
 use Rattle.address.proofs.virtual_to_logical.Statement.{statement}
 use Rattle.address.proofs.virtual_to_logical.Tie as tie
@@ -17,9 +18,11 @@ shared-slice-read-entry : tie.Need-shared-slice-read-entry
 shared-slice-read-entry c = search needs
 
 returns-2 : tie.Need-returns-2
+unfolding none
 returns-2 c = unused _ _ (c .before .before .if1 .left) (c .if2 .taken)
 
 returns-3 : tie.Need-returns-3
+unfolding none
 returns-3 c = entered _ _ (c .before .before .if1 .left) (c .if2 .left)
 
 pub virtual-to-logical-spec : {M : Type 1} → statement M
