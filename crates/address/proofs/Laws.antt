@@ -17,7 +17,7 @@ use Rattle.address.specs.declared.PhysicalAddress.{PhysicalAddress}
 use Rattle.address.specs.declared.Span.{Span}
 use Rattle.address.specs.declared.ToLogical.{ToLogical}
 use Rattle.address.specs.declared.ToPhysical.{ToPhysical}
-use Rattle.address.specs.Translation.{none, mostSectors, unlessLogical, unlessPhysical, spanTests, entryTests, blockTests, entryOf, sectorOf, logicalOf, physicalOf, physicalOfVirtual}
+use Rattle.address.specs.Translation.{none, mostSectors, unlessLogical, unlessPhysical, spanTests, entryTests, blockTests, entryOf, sectorOf, entryNames, logicalOf, physicalOf, physicalOfVirtual}
 
 -- equal verdicts make equal answers
 asLogical : {x y : Verdict} (a : LogicalAddress) → x ≡ y → unlessLogical x a ≡ unlessLogical y a
@@ -31,7 +31,20 @@ given : (x : Verdict) {a p : PhysicalAddress} → unlessPhysical x a ≡ ToPhysi
 given Go q = (refl, cc)
 given (Stop why) q = let z : _≡_ {A = ℕ} 0 1 = cc in absurd (omega arith)
 
--- ---- a virtual address in the partition: the three answers
+-- ---- an entry: the two answers
+
+module _ (x : ℕ) where
+  -- where it is unused, 13
+  pub unused : x ≡ none → ToLogical.Refused UnusedEntry ≡ entryNames x
+  unfolding entryNames
+  unused q = asLogical (record { 0 = x }) (stops _ (eq _ _ q))
+
+  -- else the block
+  pub used : (x ≡ none → ⊥) → ToLogical.At (record { 0 = x }) ≡ entryNames x
+  unfolding entryNames
+  used n = asLogical (record { 0 = x }) (goes _ (ne _ _ n) refl)
+
+-- ---- a virtual address in the partition: the two answers
 
 module _ (entries : List ℕ) (v : VirtualAddress) where
   -- from N on, 12
@@ -39,15 +52,10 @@ module _ (entries : List ℕ) (v : VirtualAddress) where
   unfolding logicalOf
   no-entry h = asLogical (entryOf entries v) (stops _ (le-ltb _ _ h))
 
-  -- where the entry is unused, 13
-  pub unused : v .0 < length entries → getD entries (v .0) 0 ≡ none → ToLogical.Refused UnusedEntry ≡ logicalOf entries v
-  unfolding logicalOf
-  unused h q = asLogical (entryOf entries v) (goes _ (lt-ltb _ _ h) (stops _ (eq _ _ q)))
-
-  -- else the entry
-  pub entered : v .0 < length entries → (getD entries (v .0) 0 ≡ none → ⊥) → ToLogical.At (entryOf entries v) ≡ logicalOf entries v
-  unfolding logicalOf
-  entered h n = asLogical (entryOf entries v) (goes _ (lt-ltb _ _ h) (goes _ (ne _ _ n) refl))
+  -- below it, what the entry names
+  pub entered : {x : ℕ} {r : ToLogical} → v .0 < length entries → x ≡ getD entries (v .0) 0 → r ≡ entryNames x → r ≡ logicalOf entries v
+  unfolding logicalOf entryNames
+  entered h q e = e ∙ ap entryNames q ∙ asLogical (entryOf entries v) (goes _ (lt-ltb _ _ h) refl)
 
 -- ---- a logical address on the disc: the three answers
 

@@ -42,12 +42,13 @@ spanTests s =
     test (leb (s .start + s .length) mostSectors) SpanOutside ∷
     []
 
+-- line 13: an entry is used (01, "Why a call is turned down")
+abbrev pub usedTests : ℕ → List Test
+usedTests x = test (not (eqb x none)) UnusedEntry ∷ []
+
 -- line 12 for v, and line 13: there is such an entry among the first n, and it is used (01, "Why a call is turned down")
 abbrev pub entryTests : ℕ → List ℕ → VirtualAddress → List Test
-entryTests n entries v =
-    test (ltb (v .0) n) NumberOutside ∷
-    test (not (eqb (getD entries (v .0) 0) none)) UnusedEntry ∷
-    []
+entryTests n entries v = test (ltb (v .0) n) NumberOutside ∷ usedTests (getD entries (v .0) 0)
 
 -- line 12 for b: the partition has such a block (01, "Why a call is turned down")
 abbrev pub blockTests : Span → LogicalAddress → List Test
@@ -76,6 +77,10 @@ entrySectorAt s entries v = sectorOf s (entryOf entries (record { 0 = v })) .0
 -- the sector i above one
 abbrev pub aboveAt : ℕ → ℕ → ℕ
 aboveAt p i = upFrom (record { 0 = p }) i .0
+
+-- what an entry of a VAT names (01, "The VAT and its ICB": "0xffffffff means none (an entry then is unused)")
+unfoldable pub entryNames : ℕ → ToLogical
+entryNames x = unlessLogical (first (usedTests x)) (record { 0 = x })
 
 -- a virtual address, by the entries of a VAT (01, "The disc and its addresses")
 unfoldable pub logicalOf : List ℕ → VirtualAddress → ToLogical

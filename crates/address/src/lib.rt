@@ -4,7 +4,7 @@
 ghost use mathlib.Core.Path.{_≡_};
 ghost use Prim.Native.Nat.{_+_, _<_, _^_};
 ghost use Rattle.refusal.specs.Tests.{first};
-ghost use Rattle.address.specs.Translation.{spanTests, sectorOf, upFrom, logicalOf, physicalOf, physicalOfMapped, physicalOfMedia, physicalOfVirtual};
+ghost use Rattle.address.specs.Translation.{spanTests, sectorOf, upFrom, entryNames, logicalOf, physicalOf, physicalOfMapped, physicalOfMedia, physicalOfVirtual};
 use refusal::Refusal;
 use refusal::Verdict;
 
@@ -58,6 +58,16 @@ fn judge_span(span: Span) -> Verdict
     Verdict::Go
 }
 
+// The logical address that an entry of a VAT names.
+pub fn entry_to_logical(entry: u32) -> ToLogical
+    ensures { λ r. ⌜ r ≡ entryNames entry ⌝ }
+{
+    if entry == NONE {
+        return ToLogical::Refused(Refusal::UnusedEntry);
+    }
+    ToLogical::At(LogicalAddress(entry))
+}
+
 // The logical address of a virtual one; `entries` are the N entries of the VAT.
 pub fn virtual_to_logical(entries: &[u32], v: VirtualAddress) -> ToLogical
     ensures { λ r. ⌜ r ≡ logicalOf (now (entries .entry)) v ⌝ }
@@ -66,11 +76,7 @@ pub fn virtual_to_logical(entries: &[u32], v: VirtualAddress) -> ToLogical
     if entries.len() <= i {
         return ToLogical::Refused(Refusal::NumberOutside);
     }
-    let entry = entries[i];
-    if entry == NONE {
-        return ToLogical::Refused(Refusal::UnusedEntry);
-    }
-    ToLogical::At(LogicalAddress(entry))
+    entry_to_logical(entries[i])
 }
 
 // The physical address of a logical one: S + b.

@@ -1,7 +1,7 @@
--- `address::virtual_to_logical` meets its contract: each return is a case of the definition.
+-- `address::virtual_to_logical` meets its contract: past the end 12, and else what the entry names. Assumes nothing.
+use mathlib.Core.Path.{refl}
 use borrow.Author.Needs.{needs}
-use Rattle.address.specs.Translation.{none}
-use Rattle.address.proofs.Laws.{no-entry, unused, entered}
+use Rattle.address.proofs.Laws.{no-entry, entered}
 use Rattle.address.proofs.virtual_to_logical.Statement.{statement}
 use Rattle.address.proofs.virtual_to_logical.Tie as tie
 
@@ -11,20 +11,25 @@ cast-i c = search needs
 returns : tie.Need-returns
 returns c = no-entry _ _ (c .if1 .taken)
 
-mul-entry : tie.Need-mul-entry
-mul-entry c = search needs
+mul-entry-to-logical : tie.Need-mul-entry-to-logical
+mul-entry-to-logical c = search needs
 
-shared-slice-read-entry : tie.Need-shared-slice-read-entry
-shared-slice-read-entry c = search needs
+shared-slice-read-entry-to-logical : tie.Need-shared-slice-read-entry-to-logical
+shared-slice-read-entry-to-logical c = search needs
+
+entry-to-logical-requires : tie.Need-entry-to-logical-requires
+entry-to-logical-requires c κs = search needs
 
 returns-2 : tie.Need-returns-2
-unfolding none
-returns-2 c = unused _ _ (c .before .before .if1 .left) (c .if2 .taken)
-
-returns-3 : tie.Need-returns-3
-unfolding none
-returns-3 c = entered _ _ (c .before .before .if1 .left) (c .if2 .left)
+returns-2 c = entered _ _ (c .before .before .if1 .left) refl (c .entry-to-logical .ensures)
 
 pub virtual-to-logical-spec : {M : Type 1} → statement M
 virtual-to-logical-spec =
-    tie.close (tie.spec cast-i returns mul-entry shared-slice-read-entry returns-2 returns-3)
+    tie.close
+    (tie.spec
+    cast-i
+    returns
+    mul-entry-to-logical
+    shared-slice-read-entry-to-logical
+    entry-to-logical-requires
+    returns-2)
