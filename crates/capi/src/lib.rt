@@ -3,6 +3,7 @@
 // NWA or the sequence, the last ICB (0 on a rewritable disc), and how many sectors the opening passed over.
 // Every function returns a number: 0 done, the line of a refusal (document 01, "Why a call is turned down"),
 // 255 for a call that was cut. No function has a requires.
+use address::Span;
 use address::ToLogical;
 use address::VirtualAddress;
 use maps::Kind;
@@ -384,8 +385,7 @@ fn write_rewritable(partition: u16, size: u32, tables: &[u32], out: &mut [u8]) -
     let c = number_at(tables, 2);
     let d = number_at(tables, 3);
     let volume = Volume {
-        start: 0,
-        length: 0,
+        span: Span { start: 0, length: 0 },
         kind: Kind::Rewritable {
             partition,
             tables: count,
@@ -402,8 +402,7 @@ fn write_once_maps(partition: u16, out: &mut [u8]) -> u32
     ensures { λ _. ⌜ ((size : ℕ) (tables : List ℕ) → now (out .exit) ≡ writtenOr (lentVerdict 0 partition size tables (now (out .entry))) (volumeFor 0 partition size tables) (now (out .entry))) ⌝ }
 {
     let volume = Volume {
-        start: 0,
-        length: 0,
+        span: Span { start: 0, length: 0 },
         kind: Kind::WriteOnce { partition },
         tables: [0; 4],
     };

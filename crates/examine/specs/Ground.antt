@@ -22,7 +22,7 @@ placedOf s l n k t = cond (isOnce k) true (aligned (groundOf s l n (tablesIn k t
 
 -- the volume of the map list, with its span filled in
 abbrev pub spanned : Volume → ℕ → ℕ → Volume
-spanned v s l = record { start = s; length = l; kind = v .kind; tables = v .tables }
+spanned v s l = record { span = record { start = s; length = l }; kind = v .kind; tables = v .tables }
 
 -- the answer of a verdict: the volume, or none beside the refusal
 unfoldable pub handedOn : Verdict → Volume → Examined

@@ -2,6 +2,7 @@
 // for all calls of both kinds; and lines 7 and 11 of the calls on a write-once disc.
 // The calls above match the verdict, and go on with the volume and their own tests.
 // All functions here are inside the layers: where one has a `requires`, the callers have tested it.
+use address::Span;
 use maps::Kind;
 use maps::Volume;
 use model::Record;
@@ -178,8 +179,7 @@ fn stopped(why: Refusal) -> Examined
     Examined {
         verdict: Verdict::Stop(why),
         volume: Volume {
-            start: 0,
-            length: 0,
+            span: Span { start: 0, length: 0 },
             kind: Kind::WriteOnce { partition: 0 },
             tables: [0; 4],
         },
@@ -207,8 +207,7 @@ pub fn examine(disc: &[u8], marks: &[u8], maps: &[u8], s: u32, l: u32, lent: boo
         return stopped(why);
     }
     let mut volume = read.volume;
-    volume.start = s;
-    volume.length = l;
+    volume.span = Span { start: s, length: l };
     let kind = volume.kind;
     let tables = volume.tables;
     if !is_placed(marks.len(), s, l, kind, tables) {

@@ -56,7 +56,7 @@ used n t = take 4 (take n t ++ replicate 4 0)
 
 -- a volume with no span
 unfoldable pub volumeWith : Kind → List ℕ → Volume
-volumeWith k t = record { start = 0; length = 0; kind = k; tables = t }
+volumeWith k t = record { span = record { start = 0; length = 0 }; kind = k; tables = t }
 
 -- what a refused reading hands back beside its number
 unfoldable pub noVolume : Volume

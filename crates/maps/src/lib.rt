@@ -2,6 +2,7 @@
 // "The disc and its addresses"; 004, 5.3.2 and 5.4.3).
 // The layers above count on read_maps, and maps_written on tables_in_range and tables_apart too: what a list
 // is tested for is the same where it is written.
+use address::Span;
 use refusal::Refusal;
 use refusal::Verdict;
 ghost use mathlib.Core.Path.{_≡_};
@@ -92,8 +93,7 @@ pub enum Kind {
 // A volume: its span on the disc, which no map list gives and the caller fills in, its kind, and on a
 // rewritable one the sectors of its sparing tables (0 in the places that are not used).
 pub struct Volume {
-    pub start: u32,
-    pub length: u32,
+    pub span: Span,
     pub kind: Kind,
     pub tables: [u32; 4],
 }
@@ -118,8 +118,7 @@ fn refused(why: Refusal) -> MapsRead
     MapsRead {
         verdict: Verdict::Stop(why),
         volume: Volume {
-            start: 0,
-            length: 0,
+            span: Span { start: 0, length: 0 },
             kind: Kind::WriteOnce { partition: 0 },
             tables: [0; 4],
         },
@@ -133,8 +132,7 @@ fn accepted(kind: Kind, tables: [u32; 4]) -> MapsRead
     MapsRead {
         verdict: Verdict::Go,
         volume: Volume {
-            start: 0,
-            length: 0,
+            span: Span { start: 0, length: 0 },
             kind,
             tables,
         },

@@ -1,12 +1,12 @@
 // The map list of each kind of volume, written and read back (01, "The disc and its addresses").
+use address::Span;
 use maps::Kind;
 use maps::Volume;
 use refusal::Verdict;
 
 pub fn write_once(partition: u16) -> Volume {
     Volume {
-        start: 0,
-        length: 0,
+        span: Span { start: 0, length: 0 },
         kind: Kind::WriteOnce { partition },
         tables: [0; 4],
     }
@@ -14,8 +14,7 @@ pub fn write_once(partition: u16) -> Volume {
 
 pub fn rewritable(partition: u16, tables: u8, size: u32, sectors: [u32; 4]) -> Volume {
     Volume {
-        start: 0,
-        length: 0,
+        span: Span { start: 0, length: 0 },
         kind: Kind::Rewritable {
             partition,
             tables,
