@@ -26,7 +26,7 @@ all-on g (t ∷ ts) h zero l = omega (arith, outside-means g t (and-true (outsid
 all-on g (t ∷ ts) h (suc i) l = all-on g ts (and-true (outside g t) (allOutside g ts) h .1) i (omega arith)
 
 -- tables whose packets are on the disc are sectors of it
-pub tables-on : (x : Layout) → x .count ≤ length (x .tables) → allOutside (geometryIn x) (geometryIn x .tables) ≡ true → TablesOn x
+pub tables-on : (x : Layout) → x .count ≤ length (x .volume .tables) → allOutside (geometryIn x) (geometryIn x .tables) ≡ true → TablesOn x
 tables-on x c h i l =
-    let k : i < length (take (x .count) (x .tables)) = omega (arith, length-take (x .count) (x .tables)) in
-    rw (sym (getD-take (x .count) (x .tables) i 0 l)) (all-on (geometryIn x) (geometryIn x .tables) h i k)
+    let k : i < length (take (x .count) (x .volume .tables)) = omega (arith, length-take (x .count) (x .volume .tables)) in
+    rw (sym (getD-take (x .count) (x .volume .tables) i 0 l)) (all-on (geometryIn x) (geometryIn x .tables) h i k)

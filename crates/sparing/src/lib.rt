@@ -2,6 +2,7 @@
 // one, and whether a list of spares can become one.
 // The layers above count on the equations: each function gives what the definition of its name gives.
 // All functions here are inside the layers: where one has a `requires`, the callers have tested it.
+use maps::Volume;
 ghost use mathlib.Core.Path.{_≡_};
 ghost use mathlib.Core.Bool.{true};
 ghost use Prim.Native.Nat.{_+_, _*_, _/_, _%_, _≤_, _<_};
@@ -48,13 +49,11 @@ const SLOTS: usize = 256;
 // The original of a free spare.
 pub const FREE: u32 = 0xffffffff;
 
-// What a rewritable volume lies in: the partition's start and length, the sectors of the disc, the sectors
-// of its tables, of which the first `count` are used, and the bytes of each table.
+// What a rewritable volume lies in: the volume, the sectors of the disc, and what its kind holds, taken out
+// once: the number of its tables and the bytes of each.
 pub struct Layout {
-    pub start: u32,
-    pub span: u32,
+    pub volume: Volume,
     pub sectors: u32,
-    pub tables: [u32; 4],
     pub count: u8,
     pub size: u32,
 }
@@ -93,7 +92,7 @@ fn is_apart_from_tables(x: Layout, m: u32) -> bool
     requires { ⌜ x .count ≤ 4 ⌝ }
     ensures { λ r. ⌜ r ≡ apartFrom m (geometryIn x .tables) ⌝ }
 {
-    let tables = x.tables;
+    let tables = x.volume.tables;
     let n = wide8(x.count);
     let mut i: usize = 0;
     while i < n {
@@ -118,10 +117,11 @@ fn is_outside(x: Layout, m: u32) -> bool
     if x.sectors - m < PACKET {
         return false;
     }
-    if m < x.start {
-        return PACKET <= x.start - m;
+    let span = x.volume.span;
+    if m < span.start {
+        return PACKET <= span.start - m;
     }
-    x.span <= m - x.start
+    span.length <= m - span.start
 }
 
 // Whether a packet may be a spare: on the disc, outside the partition and every table's packet.
@@ -284,7 +284,7 @@ pub fn copy_fits(x: Layout, b: &[u8]) -> bool
     if wide32(x.size) < ENTRIES_AT + ENTRY * n {
         return false;
     }
-    if !originals_fit(b, n, x.span) {
+    if !originals_fit(b, n, x.volume.span.length) {
         return false;
     }
     if !is_ascending(b, n) {

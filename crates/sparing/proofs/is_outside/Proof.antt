@@ -18,10 +18,10 @@ sub-result : tie.Need-sub-result
 sub-result c = search needs
 
 returns-4 : tie.Need-returns-4
-returns-4 c = outside-before _ _ (c .before .before .before .before .before .before .before .if1 .left) (omega arith) (c .before .if4 .taken)
+returns-4 c = outside-before _ _ (c .before .before .before .before .before .before .before .before .if1 .left) (omega arith) (c .before .if4 .taken)
 
 returns-5 : tie.Need-returns-5
-returns-5 c = outside-behind _ _ (c .before .before .before .before .before .before .before .before .if1 .left) (omega arith) (c .before .before .if4 .left)
+returns-5 c = outside-behind _ _ (c .before .before .before .before .before .before .before .before .before .if1 .left) (omega arith) (c .before .before .if4 .left)
 
 pub is-outside-spec : {M : Type 1} → statement M
 is-outside-spec = tie.close (tie.spec returns returns-2 returns-3 sub-result returns-4 returns-5)
