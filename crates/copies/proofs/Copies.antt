@@ -142,22 +142,23 @@ module _ (d : Disc) (g : Geometry) (t : ℕ) (n : Newest) where
       go false = refl
 
   -- it is not
-  pub newer-first : (r : Bool) → r ≡ counts d g t → r ≡ true → n .sequence ≤ sequenceAt d t → record { found = true; at = t; sequence = sequenceAt d t } ≡ newerOf d g t n
+  pub newer-first : (r : Bool) → r ≡ counts d g t → r ≡ true → n .sequence ≤ sequenceAt d t → record { found = true; at = record { 0 = t }; sequence = sequenceAt d t } ≡ newerOf d g t n
   unfolding newerOf
   newer-first r s e h = rw (← s, e, le-ltb (sequenceAt d t) (n .sequence) h)
 
 module _ (d : Disc) (g : Geometry) (t : List ℕ) (n : ℕ) (h : n ≤ length t) where
   -- none of no copies
-  pub newest-none : (i : ℕ) → i ≡ n → record { found = false; at = 0; sequence = 0 } ≡ newestOf d g (drop i (take n t))
+  pub newest-none : (i : ℕ) → i ≡ n → record { found = false; at = record { 0 = 0 }; sequence = 0 } ≡ newestOf d g (drop i (take n t))
   unfolding newestOf
   newest-none i e = sym (ap (newestOf d g) (table-end t n i h (omega arith)))
 
   -- one copy more, looking down
-  pub newest-next : (i : ℕ) (m r : Newest) → 0 < i → i ≤ n → m ≡ newestOf d g (drop i (take n t)) → r ≡ newerOf d g (getD t (i - 1) 0) m → r ≡ newestOf d g (drop (i - 1) (take n t))
+  pub newest-next : (i p : ℕ) (m r : Newest) → 0 < i → i ≤ n → m ≡ newestOf d g (drop i (take n t)) → p ≡ getD t (i - 1) 0 → r ≡ newerOf d g p m → r ≡ newestOf d g (drop (i - 1) (take n t))
   unfolding newestOf
-  newest-next i m r z l em er =
+  newest-next i p m r z l em ep er =
       let e : i ≡ i - 1 + 1 = omega arith in
       er
+      ∙ ap (λ (k : ℕ). newerOf d g k m) ep
       ∙ ap (newerOf d g (getD t (i - 1) 0)) (em ∙ ap (λ (k : ℕ). newestOf d g (drop k (take n t))) e)
       ∙ sym (ap (newestOf d g) (table-step t n (i - 1) h (omega arith)))
 
@@ -165,7 +166,7 @@ module _ (d : Disc) (g : Geometry) (t : List ℕ) (n : ℕ) (h : n ≤ length t)
 record Told (d : Disc) (l : List ℕ) (n : Newest) : Type 0 where
   some : n .found ≡ not (isNone l)
   highest-is : n .sequence ≡ highest d l
-  first-is : n .found ≡ true → (r : List ℕ) × (withSequence d (n .sequence) l ≡ n .at ∷ r)
+  first-is : n .found ≡ true → (r : List ℕ) × (withSequence d (n .sequence) l ≡ n .at .0 ∷ r)
 
 -- there is one where one has a sequence
 some-newest : (d : Disc) (l : List ℕ) (n : Newest) (k : ℕ) → Told d l n → k < n .sequence → n .found ≡ true
@@ -186,7 +187,7 @@ older-told d t l n w e =
     }
 
 -- one that is not older
-newer-told : (d : Disc) (t : ℕ) (l : List ℕ) (n : Newest) → Told d l n → ltb (sequenceAt d t) (n .sequence) ≡ false → Told d (t ∷ l) (record { found = true; at = t; sequence = sequenceAt d t })
+newer-told : (d : Disc) (t : ℕ) (l : List ℕ) (n : Newest) → Told d l n → ltb (sequenceAt d t) (n .sequence) ≡ false → Told d (t ∷ l) (record { found = true; at = record { 0 = t }; sequence = sequenceAt d t })
 unfolding isNone highest withSequence
 newer-told d t l n w e =
     let q : ltb (sequenceAt d t) (highest d l) ≡ false = ap (ltb (sequenceAt d t)) (sym (w .highest-is)) ∙ e in
@@ -201,7 +202,7 @@ unfolding newestOf newerOf countingOf isNone highest
 newest-told d g [] = record { some = refl; highest-is = refl; first-is = λ q. absurd (false≢true q) }
 newest-told d g (t ∷ ts) = go (counts d g t) (newest-told d g ts)
   where
-    go : (b : Bool) → Told d (countingOf d g ts) (newestOf d g ts) → Told d (cond b (t ∷ countingOf d g ts) (countingOf d g ts)) (cond b (cond (ltb (sequenceAt d t) (newestOf d g ts .sequence)) (newestOf d g ts) (record { found = true; at = t; sequence = sequenceAt d t })) (newestOf d g ts))
+    go : (b : Bool) → Told d (countingOf d g ts) (newestOf d g ts) → Told d (cond b (t ∷ countingOf d g ts) (countingOf d g ts)) (cond b (cond (ltb (sequenceAt d t) (newestOf d g ts .sequence)) (newestOf d g ts) (record { found = true; at = record { 0 = t }; sequence = sequenceAt d t })) (newestOf d g ts))
     go true w =
         cond-elim (λ (r : Newest). Told d (t ∷ countingOf d g ts) r) (ltb (sequenceAt d t) (newestOf d g ts .sequence))
         (older-told d t (countingOf d g ts) (newestOf d g ts) w)
@@ -209,24 +210,24 @@ newest-told d g (t ∷ ts) = go (counts d g t) (newest-told d g ts)
     go false w = w
 
 -- the newest copy is at one of the sectors
-newest-on : (d : Disc) (g : Geometry) (ts : List ℕ) (k : ℕ) → ((i : ℕ) → i < length ts → getD ts i 0 < k) → newestOf d g ts .found ≡ true → newestOf d g ts .at < k
+newest-on : (d : Disc) (g : Geometry) (ts : List ℕ) (k : ℕ) → ((i : ℕ) → i < length ts → getD ts i 0 < k) → newestOf d g ts .found ≡ true → newestOf d g ts .at .0 < k
 unfolding newestOf newerOf
 newest-on d g [] k h q = absurd (false≢true q)
 newest-on d g (t ∷ ts) k h q =
-    cond-elim (λ (r : Newest). r .found ≡ true → r .at < k) (counts d g t)
-    (λ _. cond-elim (λ (r : Newest). r .found ≡ true → r .at < k) (ltb (sequenceAt d t) (newestOf d g ts .sequence))
+    cond-elim (λ (r : Newest). r .found ≡ true → r .at .0 < k) (counts d g t)
+    (λ _. cond-elim (λ (r : Newest). r .found ≡ true → r .at .0 < k) (ltb (sequenceAt d t) (newestOf d g ts .sequence))
     (λ _. newest-on d g ts k (λ i l. h (suc i) (omega arith)))
     (λ _ _. h zero (omega arith)))
     (λ _. newest-on d g ts k (λ i l. h (suc i) (omega arith)))
     q
 
 -- it counts
-newest-counts : (d : Disc) (g : Geometry) (ts : List ℕ) → newestOf d g ts .found ≡ true → counts d g (newestOf d g ts .at) ≡ true
+newest-counts : (d : Disc) (g : Geometry) (ts : List ℕ) → newestOf d g ts .found ≡ true → counts d g (newestOf d g ts .at .0) ≡ true
 unfolding newestOf newerOf
 newest-counts d g [] q = absurd (false≢true q)
 newest-counts d g (t ∷ ts) q =
-    cond-elim (λ (r : Newest). r .found ≡ true → counts d g (r .at) ≡ true) (counts d g t)
-    (λ e. cond-elim (λ (r : Newest). r .found ≡ true → counts d g (r .at) ≡ true) (ltb (sequenceAt d t) (newestOf d g ts .sequence))
+    cond-elim (λ (r : Newest). r .found ≡ true → counts d g (r .at .0) ≡ true) (counts d g t)
+    (λ e. cond-elim (λ (r : Newest). r .found ≡ true → counts d g (r .at .0) ≡ true) (ltb (sequenceAt d t) (newestOf d g ts .sequence))
     (λ _. newest-counts d g ts)
     (λ _ _. e))
     (λ _. newest-counts d g ts)
@@ -237,11 +238,11 @@ module _ (d : Disc) (g : Geometry) (ts : List ℕ) (n : Newest) (is : n ≡ newe
   found = ap (λ (m : Newest). m .found) (sym is) ∙ f
 
   -- the newest of sectors on the disc is on the disc
-  pub found-on : (k : ℕ) → ((i : ℕ) → i < length ts → getD ts i 0 < k) → n .at < k
+  pub found-on : (k : ℕ) → ((i : ℕ) → i < length ts → getD ts i 0 < k) → n .at .0 < k
   found-on k h = rw is (newest-on d g ts k h found)
 
   -- and counts
-  pub found-counts : counts d g (n .at) ≡ true
+  pub found-counts : counts d g (n .at .0) ≡ true
   found-counts = rw is (newest-counts d g ts found)
 
 -- ---- copies of one sequence agree
@@ -333,21 +334,21 @@ module _ (d : Disc) (g : Geometry) (n : Newest) (is : n ≡ newestOf d g (g .tab
     unfolding current currentSequence
     current-is = ap (λ (k : ℕ). withSequence d k (counting d g)) (told .highest-is)
 
-    table-is : tableAt d (n .at) ≡ currentTable d g
+    table-is : tableAt d (n .at .0) ≡ currentTable d g
     unfolding currentTable firstTable
     table-is = sym (ap (firstTable d) (sym current-is ∙ told .first-is f .1))
 
-    agreed : agreeing d g (n .at) (n .sequence) (g .tables) ≡ agree d (currentTable d g) (current d g)
+    agreed : agreeing d g (n .at .0) (n .sequence) (g .tables) ≡ agree d (currentTable d g) (current d g)
     unfolding agreeing counting
     agreed = ap₂ (agree d) table-is current-is
 
     -- the current copies differ
-    pub differ-found : (r : Current) (b : Bool) → r .verdict ≡ Stop CopiesDiffer → b ≡ agreeing d g (n .at) (n .sequence) (g .tables) → b ≡ false → FoundCurrent d g r
+    pub differ-found : (r : Current) (b : Bool) → r .verdict ≡ Stop CopiesDiffer → b ≡ agreeing d g (n .at .0) (n .sequence) (g .tables) → b ≡ false → FoundCurrent d g r
     differ-found r b e s q =
         turned-down r CopiesDiffer e (goes NoTable (sym (told .some) ∙ f) (stops _ (sym agreed ∙ sym s ∙ q)))
 
     -- they agree
-    pub current-found : (r : Current) (b : Bool) → r .verdict ≡ Go → b ≡ agreeing d g (n .at) (n .sequence) (g .tables) → b ≡ true → n .at < g .sectors → r .at ≡ n .at → r .sequence ≡ n .sequence → r .entries ≡ countIn (sector d (n .at)) → FoundCurrent d g r
+    pub current-found : (r : Current) (b : Bool) → r .verdict ≡ Go → b ≡ agreeing d g (n .at .0) (n .sequence) (g .tables) → b ≡ true → n .at .0 < g .sectors → r .at .0 ≡ n .at .0 → r .sequence ≡ n .sequence → r .entries ≡ countIn (sector d (n .at .0)) → FoundCurrent d g r
     unfolding currentSequence tableAt
     current-found r b e w q h a s c =
         record {
@@ -356,8 +357,8 @@ module _ (d : Disc) (g : Geometry) (n : Newest) (is : n ≡ newestOf d g (g .tab
           counted = λ _. ap (counts d g) a ∙ found-counts d g (g .tables) n is f;
           table = λ _. ap (tableAt d) a ∙ table-is;
           sequence = λ _. s ∙ told .highest-is;
-          count = λ _. c ∙ sym (table-count (sector d (n .at))) ∙ as-many;
+          count = λ _. c ∙ sym (table-count (sector d (n .at .0))) ∙ as-many;
         }
       where
-        as-many : length (entries (tableAt d (n .at))) ≡ length (entries (currentTable d g))
+        as-many : length (entries (tableAt d (n .at .0))) ≡ length (entries (currentTable d g))
         as-many = ap (λ (l : List ℕ). length (entries l)) table-is

@@ -24,12 +24,12 @@ usedAt d p t = part (sector d t) 0 (56 + 8 * countIn (sector d p))
 unfoldable pub newerOf : Disc → Geometry → ℕ → Newest → Newest
 newerOf d g t n =
     cond (counts d g t)
-    (cond (ltb (sequenceAt d t) (n .sequence)) n (record { found = true; at = t; sequence = sequenceAt d t }))
+    (cond (ltb (sequenceAt d t) (n .sequence)) n (record { found = true; at = record { 0 = t }; sequence = sequenceAt d t }))
     n
 
 -- the newest of the copies ts that count
 unfoldable pub newestOf : Disc → Geometry → List ℕ → Newest
-newestOf d g [] = record { found = false; at = 0; sequence = 0 }
+newestOf d g [] = record { found = false; at = record { 0 = 0 }; sequence = 0 }
 newestOf d g (t ∷ ts) = newerOf d g t (newestOf d g ts)
 
 -- the copy at t does not count, is of another sequence than n, or has the table of the copy at p
@@ -49,8 +49,8 @@ copyVerdict d g =
 -- the number of its entries
 pub record FoundCurrent (d : Disc) (g : Geometry) (r : Current) : Type 0 where
   pub verdict : r .verdict ≡ copyVerdict d g
-  pub place : r .verdict ≡ Go → r .at < g .sectors
-  pub counted : r .verdict ≡ Go → counts d g (r .at) ≡ true
-  pub table : r .verdict ≡ Go → tableAt d (r .at) ≡ currentTable d g
+  pub place : r .verdict ≡ Go → r .at .0 < g .sectors
+  pub counted : r .verdict ≡ Go → counts d g (r .at .0) ≡ true
+  pub table : r .verdict ≡ Go → tableAt d (r .at .0) ≡ currentTable d g
   pub sequence : r .verdict ≡ Go → r .sequence ≡ currentSequence d g
   pub count : r .verdict ≡ Go → r .entries ≡ length (entries (currentTable d g))

@@ -2,6 +2,8 @@
 // current.
 // The layers above count on the equations: each function gives what the definition of its name gives.
 // All functions here are inside the layers: where one has a `requires`, the callers have tested it.
+use address::MediaBlockAddress;
+use address::PhysicalAddress;
 use refusal::Refusal;
 use refusal::Verdict;
 use sparing::COUNT_AT;
@@ -29,7 +31,7 @@ const RECORDED: u8 = 1;
 // sequence.
 pub struct Newest {
     pub found: bool,
-    pub at: u32,
+    pub at: PhysicalAddress,
     pub sequence: u32,
 }
 
@@ -37,26 +39,33 @@ pub struct Newest {
 // number of its entries.
 pub struct Current {
     pub verdict: Verdict,
-    pub at: u32,
+    pub at: PhysicalAddress,
     pub sequence: u32,
     pub entries: u32,
 }
 
-// Where the bytes of sector `t` start.
-fn start_of(t: u32) -> usize
-    ensures { λ r. ⌜ (r ≡ 2048 * t) × (t < 4294967296) ⌝ }
+// The place that stands where there is none: nobody reads it.
+pub fn nowhere() -> PhysicalAddress
+    ensures { λ r. ⌜ r .0 ≡ 0 ⌝ }
 {
-    SECTOR * sparing::wide32(t)
+    address::media_to_physical(MediaBlockAddress(0))
+}
+
+// Where the bytes of sector `t` start.
+fn start_of(t: PhysicalAddress) -> usize
+    ensures { λ r. ⌜ (r ≡ 2048 * t .0) × (t .0 < 4294967296) ⌝ }
+{
+    SECTOR * sparing::wide32(t.0)
 }
 
 // Whether the copy at sector `t` counts.
-fn copy_counts(disc: &[u8], marks: &[u8], x: Layout, t: u32) -> bool
+fn copy_counts(disc: &[u8], marks: &[u8], x: Layout, t: PhysicalAddress) -> bool
     requires { ⌜ (x .count ≤ 4) × (x .size ≤ 2048) ⌝ }
     requires { ⌜ length (now disc) ≡ 2048 * length (now marks) ⌝ }
-    requires { ⌜ t < length (now marks) ⌝ }
-    ensures { λ r. ⌜ r ≡ counts (discOf (now (disc .entry)) (now (marks .entry))) (geometryIn x) t ⌝ }
+    requires { ⌜ t .0 < length (now marks) ⌝ }
+    ensures { λ r. ⌜ r ≡ counts (discOf (now (disc .entry)) (now (marks .entry))) (geometryIn x) (t .0) ⌝ }
 {
-    let at = sparing::wide32(t);
+    let at = sparing::wide32(t.0);
     if marks[at] != RECORDED {
         return false;
     }
@@ -66,26 +75,26 @@ fn copy_counts(disc: &[u8], marks: &[u8], x: Layout, t: u32) -> bool
 }
 
 // The sequence of the copy at sector `t`.
-fn sequence_at(disc: &[u8], t: u32) -> u32
-    requires { ⌜ 2048 * t + 2048 ≤ length (now disc) ⌝ }
-    ensures { λ r. ⌜ ((marks : List ℕ) → r ≡ sequenceAt (discOf (now (disc .entry)) marks) t) ⌝ }
+fn sequence_at(disc: &[u8], t: PhysicalAddress) -> u32
+    requires { ⌜ 2048 * t .0 + 2048 ≤ length (now disc) ⌝ }
+    ensures { λ r. ⌜ ((marks : List ℕ) → r ≡ sequenceAt (discOf (now (disc .entry)) marks) (t .0)) ⌝ }
 {
     fields::read32(disc, start_of(t) + SEQUENCE_AT)
 }
 
 // The number of its entries.
-fn count_at(disc: &[u8], t: u32) -> u16
-    requires { ⌜ 2048 * t + 2048 ≤ length (now disc) ⌝ }
-    ensures { λ r. ⌜ ((marks : List ℕ) → r ≡ countIn (sector (discOf (now (disc .entry)) marks) t)) ⌝ }
+fn count_at(disc: &[u8], t: PhysicalAddress) -> u16
+    requires { ⌜ 2048 * t .0 + 2048 ≤ length (now disc) ⌝ }
+    ensures { λ r. ⌜ ((marks : List ℕ) → r ≡ countIn (sector (discOf (now (disc .entry)) marks) (t .0))) ⌝ }
 {
     fields::read16(disc, start_of(t) + COUNT_AT)
 }
 
 // Whether sector `t` has the bytes of the copy at sector `other`, up to the end of its entries.
-fn same_copy(disc: &[u8], t: u32, other: u32) -> bool
-    requires { ⌜ (2048 * t + 2048 ≤ length (now disc)) × (2048 * other + 2048 ≤ length (now disc)) ⌝ }
-    requires { ⌜ ((marks : List ℕ) → 56 + 8 * countIn (sector (discOf (now disc) marks) other) ≤ 2048) ⌝ }
-    ensures { λ r. ⌜ ((marks : List ℕ) → r ≡ same (usedAt (discOf (now (disc .entry)) marks) other t) (usedAt (discOf (now (disc .entry)) marks) other other)) ⌝ }
+fn same_copy(disc: &[u8], t: PhysicalAddress, other: PhysicalAddress) -> bool
+    requires { ⌜ (2048 * t .0 + 2048 ≤ length (now disc)) × (2048 * other .0 + 2048 ≤ length (now disc)) ⌝ }
+    requires { ⌜ ((marks : List ℕ) → 56 + 8 * countIn (sector (discOf (now disc) marks) (other .0)) ≤ 2048) ⌝ }
+    ensures { λ r. ⌜ ((marks : List ℕ) → r ≡ same (usedAt (discOf (now (disc .entry)) marks) (other .0) (t .0)) (usedAt (discOf (now (disc .entry)) marks) (other .0) (other .0))) ⌝ }
 {
     let used = ENTRIES_AT + ENTRY * sparing::wide16(count_at(disc, other));
     let a = start_of(t);
@@ -97,25 +106,31 @@ fn same_copy(disc: &[u8], t: u32, other: u32) -> bool
 
 // Whether the copy at sector `t` counts, where the one at sector `at` does: if it is recorded and has the same
 // bytes, it is not tested again.
-pub fn counts_beside(disc: &[u8], marks: &[u8], x: Layout, t: u32, at: u32) -> bool
+pub fn counts_beside(
+    disc: &[u8],
+    marks: &[u8],
+    x: Layout,
+    t: PhysicalAddress,
+    at: PhysicalAddress,
+) -> bool
     requires { ⌜ (x .count ≤ 4) × (x .size ≤ 2048) ⌝ }
     requires { ⌜ length (now disc) ≡ 2048 * length (now marks) ⌝ }
-    requires { ⌜ (t < length (now marks)) × (at < length (now marks)) ⌝ }
-    requires { ⌜ counts (discOf (now disc) (now marks)) (geometryIn x) at ≡ true ⌝ }
-    ensures { λ r. ⌜ r ≡ counts (discOf (now (disc .entry)) (now (marks .entry))) (geometryIn x) t ⌝ }
+    requires { ⌜ (t .0 < length (now marks)) × (at .0 < length (now marks)) ⌝ }
+    requires { ⌜ counts (discOf (now disc) (now marks)) (geometryIn x) (at .0) ≡ true ⌝ }
+    ensures { λ r. ⌜ r ≡ counts (discOf (now (disc .entry)) (now (marks .entry))) (geometryIn x) (t .0) ⌝ }
 {
     if !same_copy(disc, t, at) {
         return copy_counts(disc, marks, x, t);
     }
-    let i = sparing::wide32(t);
+    let i = sparing::wide32(t.0);
     marks[i] == RECORDED
 }
 
 // Whether the copies at sectors `t` and `other` have the same number of entries, and the same entries.
-fn same_table(disc: &[u8], t: u32, other: u32) -> bool
-    requires { ⌜ (2048 * t + 2048 ≤ length (now disc)) × (2048 * other + 2048 ≤ length (now disc)) ⌝ }
-    requires { ⌜ ((marks : List ℕ) → 56 + 8 * countIn (sector (discOf (now disc) marks) t) ≤ 2048) ⌝ }
-    ensures { λ r. ⌜ ((marks : List ℕ) → r ≡ same (tableAt (discOf (now (disc .entry)) marks) t) (tableAt (discOf (now (disc .entry)) marks) other)) ⌝ }
+fn same_table(disc: &[u8], t: PhysicalAddress, other: PhysicalAddress) -> bool
+    requires { ⌜ (2048 * t .0 + 2048 ≤ length (now disc)) × (2048 * other .0 + 2048 ≤ length (now disc)) ⌝ }
+    requires { ⌜ ((marks : List ℕ) → 56 + 8 * countIn (sector (discOf (now disc) marks) (t .0)) ≤ 2048) ⌝ }
+    ensures { λ r. ⌜ ((marks : List ℕ) → r ≡ same (tableAt (discOf (now (disc .entry)) marks) (t .0)) (tableAt (discOf (now (disc .entry)) marks) (other .0))) ⌝ }
 {
     let n = count_at(disc, t);
     if n != count_at(disc, other) {
@@ -130,13 +145,13 @@ fn same_table(disc: &[u8], t: u32, other: u32) -> bool
 }
 
 // Whether the copy at sector `t` counts, where the newest of some others is known.
-fn counts_after(disc: &[u8], marks: &[u8], x: Layout, t: u32, newest: Newest) -> bool
+fn counts_after(disc: &[u8], marks: &[u8], x: Layout, t: PhysicalAddress, newest: Newest) -> bool
     requires { ⌜ (x .count ≤ 4) × (x .size ≤ 2048) ⌝ }
     requires { ⌜ length (now disc) ≡ 2048 * length (now marks) ⌝ }
-    requires { ⌜ t < length (now marks) ⌝ }
-    requires { ⌜ (newest .found ≡ true → newest .at < length (now marks)) ⌝ }
-    requires { ⌜ (newest .found ≡ true → counts (discOf (now disc) (now marks)) (geometryIn x) (newest .at) ≡ true) ⌝ }
-    ensures { λ r. ⌜ r ≡ counts (discOf (now (disc .entry)) (now (marks .entry))) (geometryIn x) t ⌝ }
+    requires { ⌜ t .0 < length (now marks) ⌝ }
+    requires { ⌜ (newest .found ≡ true → newest .at .0 < length (now marks)) ⌝ }
+    requires { ⌜ (newest .found ≡ true → counts (discOf (now disc) (now marks)) (geometryIn x) (newest .at .0) ≡ true) ⌝ }
+    ensures { λ r. ⌜ r ≡ counts (discOf (now (disc .entry)) (now (marks .entry))) (geometryIn x) (t .0) ⌝ }
 {
     let found = newest.found;
     if found {
@@ -147,13 +162,13 @@ fn counts_after(disc: &[u8], marks: &[u8], x: Layout, t: u32, newest: Newest) ->
 
 // The newest of copies of which the first is at sector `t`, and `newest` is the newest of the others. Whether
 // an older one counts is not asked.
-fn newer_copy(disc: &[u8], marks: &[u8], x: Layout, t: u32, newest: Newest) -> Newest
+fn newer_copy(disc: &[u8], marks: &[u8], x: Layout, t: PhysicalAddress, newest: Newest) -> Newest
     requires { ⌜ (x .count ≤ 4) × (x .size ≤ 2048) ⌝ }
     requires { ⌜ length (now disc) ≡ 2048 * length (now marks) ⌝ }
-    requires { ⌜ t < length (now marks) ⌝ }
-    requires { ⌜ (newest .found ≡ true → newest .at < length (now marks)) ⌝ }
-    requires { ⌜ (newest .found ≡ true → counts (discOf (now disc) (now marks)) (geometryIn x) (newest .at) ≡ true) ⌝ }
-    ensures { λ r. ⌜ r ≡ newerOf (discOf (now (disc .entry)) (now (marks .entry))) (geometryIn x) t newest ⌝ }
+    requires { ⌜ t .0 < length (now marks) ⌝ }
+    requires { ⌜ (newest .found ≡ true → newest .at .0 < length (now marks)) ⌝ }
+    requires { ⌜ (newest .found ≡ true → counts (discOf (now disc) (now marks)) (geometryIn x) (newest .at .0) ≡ true) ⌝ }
+    ensures { λ r. ⌜ r ≡ newerOf (discOf (now (disc .entry)) (now (marks .entry))) (geometryIn x) (t .0) newest ⌝ }
 {
     let sequence = sequence_at(disc, t);
     if sequence < newest.sequence {
@@ -176,30 +191,38 @@ fn newest_copy(disc: &[u8], marks: &[u8], x: Layout) -> Newest
     requires { ⌜ (x .sectors ≡ length (now marks)) × TablesOn x ⌝ }
     ensures { λ r. ⌜ r ≡ newestOf (discOf (now (disc .entry)) (now (marks .entry))) (geometryIn x) (geometryIn x .tables) ⌝ }
 {
-    let tables = x.tables;
+    let tables = x.volume.tables;
     let mut newest = Newest {
         found: false,
-        at: 0,
+        at: nowhere(),
         sequence: 0,
     };
     let mut i = sparing::wide8(x.count);
     while 0 < i {
         i -= 1;
-        newest = newer_copy(disc, marks, x, tables[i], newest);
+        let t = address::media_to_physical(MediaBlockAddress(tables[i]));
+        newest = newer_copy(disc, marks, x, t, newest);
     }
     newest
 }
 
 // Whether the copy at sector `t` does not count, is of another sequence, or has the table of that at `at`,
 // which counts. Whether it counts is asked last, so that copies that agree are not tested again.
-fn copy_agrees(disc: &[u8], marks: &[u8], x: Layout, t: u32, at: u32, sequence: u32) -> bool
+fn copy_agrees(
+    disc: &[u8],
+    marks: &[u8],
+    x: Layout,
+    t: PhysicalAddress,
+    at: PhysicalAddress,
+    sequence: u32,
+) -> bool
     requires { ⌜ (x .count ≤ 4) × (x .size ≤ 2048) ⌝ }
     requires { ⌜ length (now disc) ≡ 2048 * length (now marks) ⌝ }
-    requires { ⌜ (t < length (now marks)) × (at < length (now marks)) ⌝ }
-    requires { ⌜ counts (discOf (now disc) (now marks)) (geometryIn x) at ≡ true ⌝ }
-    ensures { λ r. ⌜ r ≡ agrees (discOf (now (disc .entry)) (now (marks .entry))) (geometryIn x) at sequence t ⌝ }
+    requires { ⌜ (t .0 < length (now marks)) × (at .0 < length (now marks)) ⌝ }
+    requires { ⌜ counts (discOf (now disc) (now marks)) (geometryIn x) (at .0) ≡ true ⌝ }
+    ensures { λ r. ⌜ r ≡ agrees (discOf (now (disc .entry)) (now (marks .entry))) (geometryIn x) (at .0) sequence (t .0) ⌝ }
 {
-    if t == at {
+    if t.0 == at.0 {
         return true;
     }
     if sequence_at(disc, t) != sequence {
@@ -212,19 +235,20 @@ fn copy_agrees(disc: &[u8], marks: &[u8], x: Layout, t: u32, at: u32, sequence: 
 }
 
 // Whether every copy that counts and is of this sequence has the table of the copy at `at`, which counts.
-fn copies_agree(disc: &[u8], marks: &[u8], x: Layout, at: u32, sequence: u32) -> bool
+fn copies_agree(disc: &[u8], marks: &[u8], x: Layout, at: PhysicalAddress, sequence: u32) -> bool
     requires { ⌜ (x .count ≤ 4) × (x .size ≤ 2048) ⌝ }
     requires { ⌜ length (now disc) ≡ 2048 * length (now marks) ⌝ }
     requires { ⌜ (x .sectors ≡ length (now marks)) × TablesOn x ⌝ }
-    requires { ⌜ at < length (now marks) ⌝ }
-    requires { ⌜ counts (discOf (now disc) (now marks)) (geometryIn x) at ≡ true ⌝ }
-    ensures { λ r. ⌜ r ≡ agreeing (discOf (now (disc .entry)) (now (marks .entry))) (geometryIn x) at sequence (geometryIn x .tables) ⌝ }
+    requires { ⌜ at .0 < length (now marks) ⌝ }
+    requires { ⌜ counts (discOf (now disc) (now marks)) (geometryIn x) (at .0) ≡ true ⌝ }
+    ensures { λ r. ⌜ r ≡ agreeing (discOf (now (disc .entry)) (now (marks .entry))) (geometryIn x) (at .0) sequence (geometryIn x .tables) ⌝ }
 {
-    let tables = x.tables;
+    let tables = x.volume.tables;
     let n = sparing::wide8(x.count);
     let mut i: usize = 0;
     while i < n {
-        if !copy_agrees(disc, marks, x, tables[i], at, sequence) {
+        let t = address::media_to_physical(MediaBlockAddress(tables[i]));
+        if !copy_agrees(disc, marks, x, t, at, sequence) {
             return false;
         }
         i += 1;
@@ -238,7 +262,7 @@ fn no_current(why: Refusal) -> Current
 {
     Current {
         verdict: Verdict::Stop(why),
-        at: 0,
+        at: nowhere(),
         sequence: 0,
         entries: 0,
     }

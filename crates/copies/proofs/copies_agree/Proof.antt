@@ -7,13 +7,13 @@ use lib.ListN.{length, take, drop}
 use borrow.Author.Tests.{not-true, not-false}
 use Rattle.copies.proofs.Copies.{agreeing-end, agreeing-off, agreeing-next}
 use Rattle.sparing.specs.Layout.{geometryIn}
-use Rattle.copies.specs.Copies.{agreeing}
+use Rattle.copies.specs.Copies.{agrees, agreeing}
 use Rattle.model.specs.Disc.{disc as discOf}
 use Rattle.copies.proofs.copies_agree.Statement.{statement}
 use Rattle.copies.proofs.copies_agree.Tie as tie
 
 abbrev Inv-loop : tie.InvT-loop
-Inv-loop disc marks x at sequence tables n i₀ i = agreeing (discOf disc marks) (geometryIn x) at sequence (drop i (take n tables)) ≡ agreeing (discOf disc marks) (geometryIn x) at sequence (take n tables)
+Inv-loop disc marks x at sequence tables n i₀ i = agreeing (discOf disc marks) (geometryIn x) (at .0) sequence (drop i (take n tables)) ≡ agreeing (discOf disc marks) (geometryIn x) (at .0) sequence (take n tables)
 
 abbrev μ-loop : tie.MeasureT-loop
 μ-loop disc marks x at sequence tables n i₀ i = n - i
@@ -24,36 +24,39 @@ wide8-requires c κs = search needs
 loop-holds : tie.Need-loop-holds Inv-loop μ-loop
 loop-holds c = refl
 
-mul-copy-agrees : tie.Need-mul-copy-agrees Inv-loop μ-loop
-mul-copy-agrees c = search needs
+mul-t11 : tie.Need-mul-t11 Inv-loop μ-loop
+mul-t11 c = search needs
 
-array-read-copy-agrees : tie.Need-array-read-copy-agrees Inv-loop μ-loop
-array-read-copy-agrees c = search needs
+array-read-t14 : tie.Need-array-read-t14 Inv-loop μ-loop
+array-read-t14 c = search needs
+
+media-to-physical-requires : tie.Need-media-to-physical-requires Inv-loop μ-loop
+media-to-physical-requires c κs = search needs
 
 copy-agrees-requires : tie.Need-copy-agrees-requires Inv-loop μ-loop
 copy-agrees-requires c κs =
-    let s = c .before .before .before .before .before .before in
-    let i = c .before .loop .i in
+    let s = c .before .before .before .before .before .before .before in
+    let i = c .before .before .loop .i in
     (s .pre .0, (s .pre .1 .0, ((omega (arith, s .pre .1 .1 .0 .1 i (omega arith)), s .pre .1 .1 .1 .0), s .pre .1 .1 .1 .1)))
 
 -- at most four tables are used
-few : (c : tie.After-wide8 Inv-loop μ-loop) → c .wide8 .result ≤ length (c .before .before .before .before .args .x .tables)
+few : (c : tie.After-wide8 Inv-loop μ-loop) → c .wide8 .result ≤ length (c .before .before .before .before .args .x .volume .tables)
 few c =
-    let e : length (c .before .before .before .before .args .x .tables) ≡ 4 = search needs in
+    let e : length (c .before .before .before .before .args .x .volume .tables) ≡ 4 = search needs in
     omega arith
 
 -- as many as the layout says
-counted : (c : tie.After-wide8 Inv-loop μ-loop) → let a = c .before .before .before .before .args in agreeing (discOf (a .disc .now) (a .marks .now)) (geometryIn (a .x)) (a .at) (a .sequence) (take (c .wide8 .result) (a .x .tables)) ≡ agreeing (discOf (a .disc .now) (a .marks .now)) (geometryIn (a .x)) (a .at) (a .sequence) (take (a .x .count) (a .x .tables))
+counted : (c : tie.After-wide8 Inv-loop μ-loop) → let a = c .before .before .before .before .args in agreeing (discOf (a .disc .now) (a .marks .now)) (geometryIn (a .x)) (a .at .0) (a .sequence) (take (c .wide8 .result) (a .x .volume .tables)) ≡ agreeing (discOf (a .disc .now) (a .marks .now)) (geometryIn (a .x)) (a .at .0) (a .sequence) (take (a .x .count) (a .x .volume .tables))
 counted c =
     let a = c .before .before .before .before .args in
-    ap (λ (n : ℕ). agreeing (discOf (a .disc .now) (a .marks .now)) (geometryIn (a .x)) (a .at) (a .sequence) (take n (a .x .tables))) (c .wide8 .ensures .0)
+    ap (λ (n : ℕ). agreeing (discOf (a .disc .now) (a .marks .now)) (geometryIn (a .x)) (a .at .0) (a .sequence) (take n (a .x .volume .tables))) (c .wide8 .ensures .0)
 
 returns : tie.Need-returns Inv-loop μ-loop
 returns c =
-    let l = c .before .before in
+    let l = c .before .before .before in
     let w = l .before .before in
     let a = w .before .before .before .before .args in
-    agreeing-off _ _ _ _ (a .x .tables) (w .wide8 .result) (l .before .loop .i) (few w) _ (l .loop-test .taken) (c .before .copy-agrees .ensures) (not-true _ (c .if1 .taken))
+    agreeing-off _ _ _ _ (a .x .volume .tables) (w .wide8 .result) (l .before .loop .i) (few w) _ (l .loop-test .taken) (c .before .copy-agrees .ensures ∙ ap (agrees _ _ _ _) (c .before .before .media-to-physical .ensures)) (not-true _ (c .if1 .taken))
     ∙ l .before .loop .inv
     ∙ counted w
 
@@ -65,17 +68,17 @@ loop-less c = search needs
 
 loop-again : tie.Need-loop-again Inv-loop μ-loop
 loop-again c =
-    let l = c .before .before in
+    let l = c .before .before .before in
     let w = l .before .before in
     let a = w .before .before .before .before .args in
-    agreeing-next _ _ _ _ (a .x .tables) (w .wide8 .result) (l .before .loop .i) (few w) _ (l .loop-test .taken) (c .before .copy-agrees .ensures) (not-false _ (c .if1 .left))
+    agreeing-next _ _ _ _ (a .x .volume .tables) (w .wide8 .result) (l .before .loop .i) (few w) _ (l .loop-test .taken) (c .before .copy-agrees .ensures ∙ ap (agrees _ _ _ _) (c .before .before .media-to-physical .ensures)) (not-false _ (c .if1 .left))
     ∙ l .before .loop .inv
 
 returns-2 : tie.Need-returns-2 Inv-loop μ-loop
 returns-2 c =
     let w = c .before .before in
     let a = w .before .before .before .before .args in
-    agreeing-end _ _ _ _ (a .x .tables) (w .wide8 .result) (c .before .loop .i) (few w) (c .loop-test .left)
+    agreeing-end _ _ _ _ (a .x .volume .tables) (w .wide8 .result) (c .before .loop .i) (few w) (c .loop-test .left)
     ∙ c .before .loop .inv
     ∙ counted w
 
@@ -87,8 +90,9 @@ copies-agree-spec =
     μ-loop
     wide8-requires
     loop-holds
-    mul-copy-agrees
-    array-read-copy-agrees
+    mul-t11
+    array-read-t14
+    media-to-physical-requires
     copy-agrees-requires
     returns
     add-i

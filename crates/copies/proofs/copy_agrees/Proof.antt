@@ -20,7 +20,7 @@ returns-2 c = agrees-other _ _ _ _ _ (λ e. c .if2 .taken (c .before .sequence-a
 
 same-table-requires : tie.Need-same-table-requires
 same-table-requires c κs =
-    let s = c .before .before .before .before .before in
+    let s = c .before .before .before .before .before .before .before in
     ((omega arith, omega arith), counts-short _ _ _ _ (s .pre .1 .1 .1) (s .pre .0 .1))
 
 returns-3 : tie.Need-returns-3

@@ -21,7 +21,7 @@ returns c =
     let a = c .before .before .before .args in
     λ m. c .read16 .ensures
     ∙ ap (λ (k : ℕ). field (a .disc .now) (k + 48) 2) (c .before .start-of .ensures .0)
-    ∙ count-read (a .disc .now) m (a .t)
+    ∙ count-read (a .disc .now) m (a .t .0)
 
 pub count-at-spec : {M : Type 1} → statement M
 count-at-spec = tie.close (tie.spec start-of-requires add-read16 read16-requires returns)

@@ -26,7 +26,7 @@ returns-3 c =
     let s = c .before .before .before .before in
     let a = s .before .before .before .args in
     let e = s .sequence-at .ensures (a .marks .now) in
-    ap (λ (n : ℕ). record { found = true; at = a .t; sequence = n }) e
+    ap (λ (n : ℕ). record { found = true; at = record { 0 = a .t .0 }; sequence = n }) e
     ∙ newer-first _ _ _ _ _ (c .before .counts-after .ensures) (not-false _ (c .if2 .left)) (omega arith)
 
 pub newer-copy-spec : {M : Type 1} → statement M

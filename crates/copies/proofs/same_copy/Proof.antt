@@ -68,8 +68,8 @@ returns c =
     let k = w .wide16 .ensures .0 ∙ n .count-at .ensures m in
     c .same-bytes .ensures
     ∙ ap₂ same
-    (used-read d m (s .args .t) (s .args .other) (w .wide16 .result) _ _ k (omega (arith, k, s .pre .1 m)) (b .before .start-of .ensures .0) refl)
-    (used-read d m (s .args .other) (s .args .other) (w .wide16 .result) _ _ k (omega (arith, k, s .pre .1 m)) (b .start-of2 .ensures .0) refl)
+    (used-read d m (s .args .t .0) (s .args .other .0) (w .wide16 .result) _ _ k (omega (arith, k, s .pre .1 m)) (b .before .start-of .ensures .0) refl)
+    (used-read d m (s .args .other .0) (s .args .other .0) (w .wide16 .result) _ _ k (omega (arith, k, s .pre .1 m)) (b .start-of2 .ensures .0) refl)
 
 pub same-copy-spec : {M : Type 1} → statement M
 same-copy-spec =

@@ -21,7 +21,7 @@ returns c =
     let a = c .before .before .before .args in
     λ m. c .read32 .ensures
     ∙ ap (λ (k : ℕ). field (a .disc .now) (k + 52) 4) (c .before .start-of .ensures .0)
-    ∙ sequence-read (a .disc .now) m (a .t)
+    ∙ sequence-read (a .disc .now) m (a .t .0)
 
 pub sequence-at-spec : {M : Type 1} → statement M
 sequence-at-spec = tie.close (tie.spec start-of-requires add-read32 read32-requires returns)
