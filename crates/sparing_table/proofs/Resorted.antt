@@ -207,8 +207,8 @@ module _ (t : List ℕ) (n p k u : ℕ) (fits : 2 * n ≤ length t) (at : k ≡ 
   taken-is : firstFree (freeOf (entries (take (2 * n) t))) ≡ getD t (2 * u + 1) 0
   taken-is =
       let es : List Entry = entries (take (2 * n) t) in
-      sym (free-at (freeOf es) (getD t (2 * u + 1) 0)
-      (free-found es (lentEntry t u) (drop (u + 1) es) (entry-found t n n u none fits refl free spared-within)) .1)
+      sym (free-at (freeOf es) (record { 0 = getD t (2 * u + 1) 0 })
+      (free-found es (lentEntry t u) (drop (u + 1) es) _ (entry-found t n n u none fits refl free spared-within) refl) .1)
 
   first-part : flat (take k (entries (take (2 * n) t))) ≡ take (2 * k) t
   unfolding part

@@ -20,6 +20,7 @@ use Rattle.model.proofs.Basics.{by-lt}
 use Rattle.model.proofs.OnceOpen.{length-words}
 use Rattle.model.proofs.SparingLaws.{packet-own}
 use Rattle.sparing_table.specs.declared.FirstFree.the-variants.{At, Nothing}
+use Rattle.address.specs.declared.PhysicalAddress.{PhysicalAddress}
 use Rattle.sparing_table.specs.Table.{lentEntry, has, placeWhere, freeIn}
 use Rattle.sparing.proofs.Words.{getD-words}
 use Rattle.sparing.proofs.Entries.{entries-step, entries-end}
@@ -138,13 +139,13 @@ spot-missing (x ∷ l) o h = go (eqb (x .original) o) h (spot-missing l o)
     go false k f = f k
 
 -- the first entry of the original that no packet has is the first that is free
-pub free-found : (es : List Entry) (e : Entry) (r : List Entry) → drop (placeWhere (has none) es) es ≡ e ∷ r → At (e .mapped) ≡ freeIn (freeOf es)
+pub free-found : (es : List Entry) (e : Entry) (r : List Entry) (p : PhysicalAddress) → drop (placeWhere (has none) es) es ≡ e ∷ r → p .0 ≡ e .mapped → At p ≡ freeIn (freeOf es)
 unfolding placeWhere freeOf isFree freeIn
-free-found [] e r h = let z : _≡_ {A = ℕ} 0 1 = cc in absurd (omega arith)
-free-found (x ∷ l) e r h = go (eqb (x .original) none) h (free-found l e r)
+free-found [] e r p h m = let z : _≡_ {A = ℕ} 0 1 = cc in absurd (omega arith)
+free-found (x ∷ l) e r p h m = go (eqb (x .original) none) h (λ k. free-found l e r p k m)
   where
-    go : (b : Bool) → drop (cond b 0 (suc (placeWhere (has none) l))) (x ∷ l) ≡ e ∷ r → (drop (placeWhere (has none) l) l ≡ e ∷ r → At (e .mapped) ≡ freeIn (freeOf l)) → At (e .mapped) ≡ freeIn (cond b (x ∷ freeOf l) (freeOf l))
-    go true k f = let q : e ≡ x = cc in ap (λ (y : Entry). At (y .mapped)) q
+    go : (b : Bool) → drop (cond b 0 (suc (placeWhere (has none) l))) (x ∷ l) ≡ e ∷ r → (drop (placeWhere (has none) l) l ≡ e ∷ r → At p ≡ freeIn (freeOf l)) → At p ≡ freeIn (cond b (x ∷ freeOf l) (freeOf l))
+    go true k f = let q : e ≡ x = cc in ap (λ (n : ℕ). At (record { 0 = n })) (m ∙ ap (λ (y : Entry). y .mapped) q)
     go false k f = f k
 
 -- none is free
@@ -194,7 +195,7 @@ spared-told t r n i p h c q =
 -- ---- the free entry of lowest index, for those who cite it
 
 -- there is one, and this is its mapped start
-pub free-at : (l : List Entry) (m : ℕ) → At m ≡ freeIn l → (noEntry l ≡ false) × (m ≡ firstFree l)
+pub free-at : (l : List Entry) (m : PhysicalAddress) → At m ≡ freeIn l → (noEntry l ≡ false) × (m .0 ≡ firstFree l)
 unfolding freeIn noEntry firstFree
 free-at [] m h = let z : _≡_ {A = ℕ} 0 1 = cc in absurd (omega arith)
 free-at (e ∷ l) m h = (refl, cc)

@@ -28,4 +28,4 @@ placeWhere f (e ∷ l) = cond (f e) 0 (suc (placeWhere f l))
 -- the mapped start of the first of the free entries, if there is one
 unfoldable pub freeIn : List Entry → FirstFree
 freeIn [] = Nothing
-freeIn (e ∷ l) = At (e .mapped)
+freeIn (e ∷ l) = At (record { 0 = e .mapped })

@@ -2,6 +2,8 @@
 // with a sector, filled from one, an entry looked for in it, and the sector that it is written to.
 // The layers above count on the equations: each function gives what the definition of its name gives.
 // All functions here are inside the layers: where one has a `requires`, the callers have tested it.
+use address::LogicalAddress;
+use address::PhysicalAddress;
 use sparing::COUNT_AT;
 use sparing::ENTRIES_AT;
 use sparing::ENTRY;
@@ -26,21 +28,8 @@ ghost use Rattle.sparing_table.specs.Written.{begun, sparedNumbers};
 
 // The mapped start of the free entry of lowest index, if there is one.
 pub enum FirstFree {
-    At(u32),
+    At(PhysicalAddress),
     Nothing,
-}
-
-// A number in a wider type.
-fn wide16(x: u16) -> usize
-    ensures { λ r. ⌜ (r ≡ x) × (r < 65536) ⌝ }
-{
-    x as usize
-}
-
-fn wide32(x: u32) -> usize
-    ensures { λ r. ⌜ (r ≡ x) × (r < 4294967296) ⌝ }
-{
-    x as usize
 }
 
 // Number `i` of the entries of a table's sector, original and mapped by turns.
@@ -57,7 +46,7 @@ pub fn is_same(b: &[u8], table: &[u32], r: u32) -> bool
     requires { ⌜ (r ≡ countIn (now b)) × (56 + 8 * r ≤ 2048) × (2 * r ≤ length (now table)) ⌝ }
     ensures { λ s. ⌜ s ≡ same (take (2 * r) (now (table .entry))) (tableIn (now (b .entry))) ⌝ }
 {
-    let n = 2 * wide32(r);
+    let n = 2 * sparing::wide32(r);
     let mut i: usize = 0;
     while i < n {
         if table[i] != number_at(b, i) {
@@ -74,7 +63,7 @@ pub fn fill_table(b: &[u8], table: &mut [u32])
     requires { ⌜ (56 + 8 * countIn (now b) ≤ 2048) × (2 * countIn (now b) ≤ length (now table)) ⌝ }
     ensures { λ _. ⌜ now (table .exit) ≡ filledFrom (tableIn (now (b .entry))) (now (table .entry)) ⌝ }
 {
-    let n = 2 * wide16(fields::read16(b, COUNT_AT));
+    let n = 2 * sparing::wide16(fields::read16(b, COUNT_AT));
     let mut k: usize = 0;
     while k < n {
         table[k] = number_at(b, k);
@@ -98,13 +87,13 @@ fn find_entry(table: &[u32], n: usize, original: u32) -> usize
 }
 
 // The place of the first of `n` entries with a higher original than `p`, or `n` where there is none.
-fn find_above(table: &[u32], n: usize, p: u32) -> usize
+fn find_above(table: &[u32], n: usize, p: LogicalAddress) -> usize
     requires { ⌜ 2 * n ≤ length (now table) ⌝ }
-    ensures { λ i. ⌜ i ≡ placeWhere (above p) (entries (take (2 * n) (now (table .entry)))) ⌝ }
+    ensures { λ i. ⌜ i ≡ placeWhere (above (p .0)) (entries (take (2 * n) (now (table .entry)))) ⌝ }
 {
     let mut i: usize = 0;
     while i < n {
-        if p < table[2 * i] {
+        if p.0 < table[2 * i] {
             return i;
         }
         i += 1;
@@ -113,26 +102,26 @@ fn find_above(table: &[u32], n: usize, p: u32) -> usize
 }
 
 // The sector at which the packet that begins at block `p` is read, in a partition that starts at `s`.
-pub fn find_packet(table: &[u32], r: u32, s: u32, p: u32) -> u32
+pub fn find_packet(table: &[u32], r: u32, s: u32, p: LogicalAddress) -> PhysicalAddress
     requires { ⌜ 2 * r ≤ length (now table) ⌝ }
-    requires { ⌜ (p % 32 ≡ 0) × (s + p < 2 ^ 32) ⌝ }
-    ensures { λ a. ⌜ a ≡ locate s (entries (take (2 * r) (now (table .entry)))) p ⌝ }
+    requires { ⌜ (p .0 % 32 ≡ 0) × (s + p .0 < 2 ^ 32) ⌝ }
+    ensures { λ a. ⌜ a .0 ≡ locate s (entries (take (2 * r) (now (table .entry)))) (p .0) ⌝ }
 {
-    let n = wide32(r);
-    let i = find_entry(table, n, p);
+    let n = sparing::wide32(r);
+    let i = find_entry(table, n, p.0);
     if i < n {
-        return table[2 * i + 1];
+        return address::mapped_to_physical(table[2 * i + 1]);
     }
-    s + p
+    address::sector_of(s, p)
 }
 
 // Whether the packet that begins at block `p` has an entry.
-pub fn is_spared(table: &[u32], r: u32, p: u32) -> bool
+pub fn is_spared(table: &[u32], r: u32, p: LogicalAddress) -> bool
     requires { ⌜ 2 * r ≤ length (now table) ⌝ }
-    ensures { λ s. ⌜ s ≡ isSpared (spotOf (entries (take (2 * r) (now (table .entry)))) p) ⌝ }
+    ensures { λ s. ⌜ s ≡ isSpared (spotOf (entries (take (2 * r) (now (table .entry)))) (p .0)) ⌝ }
 {
-    let n = wide32(r);
-    find_entry(table, n, p) < n
+    let n = sparing::wide32(r);
+    find_entry(table, n, p.0) < n
 }
 
 // The free entry of lowest index: an entry of the original that no packet has.
@@ -140,10 +129,10 @@ pub fn first_free(table: &[u32], r: u32) -> FirstFree
     requires { ⌜ 2 * r ≤ length (now table) ⌝ }
     ensures { λ f. ⌜ f ≡ freeIn (freeOf (entries (take (2 * r) (now (table .entry))))) ⌝ }
 {
-    let n = wide32(r);
+    let n = sparing::wide32(r);
     let i = find_entry(table, n, FREE);
     if i < n {
-        return FirstFree::At(table[2 * i + 1]);
+        return FirstFree::At(address::mapped_to_physical(table[2 * i + 1]));
     }
     FirstFree::Nothing
 }
@@ -184,30 +173,37 @@ fn put_numbers(sector: &mut [u8], i: usize, numbers: &[u32])
 
 // Writes the entries once packet `p` took the free entry at place `free`: those before `place` stay, then
 // comes its own, those from there to `free` move up by one, and those behind `free` stay.
-fn put_spared(sector: &mut [u8], table: &[u32], n: usize, p: u32, place: usize, free: usize)
+fn put_spared(
+    sector: &mut [u8],
+    table: &[u32],
+    n: usize,
+    p: LogicalAddress,
+    place: usize,
+    free: usize,
+)
     requires { ⌜ (place ≤ free) × (free < n) × (2 * n ≤ length (now table)) × (56 + 8 * n ≤ length (now sector)) ⌝ }
-    ensures { λ _. ⌜ now (sector .exit) ≡ splice (now (sector .entry)) 56 (quads (sparedNumbers (now (table .entry)) n p place free)) ⌝ }
+    ensures { λ _. ⌜ now (sector .exit) ≡ splice (now (sector .entry)) 56 (quads (sparedNumbers (now (table .entry)) n (p .0) place free)) ⌝ }
 {
     let below = 2 * place;
     let taken = 2 * free;
     let behind = taken + 2;
     let end = 2 * n;
     put_numbers(sector, 0, &table[..below]);
-    put_entry(sector, place, p, table[taken + 1]);
+    put_entry(sector, place, p.0, table[taken + 1]);
     put_numbers(sector, place + 1, &table[below..taken]);
     put_numbers(sector, free + 1, &table[behind..end]);
 }
 
 // Writes the sector of the table once packet `p` took the free entry of lowest index, resorted. The lent
 // table is not changed.
-pub fn write_spared(sector: &mut [u8], table: &[u32], r: u32, p: u32, sequence: u32)
+pub fn write_spared(sector: &mut [u8], table: &[u32], r: u32, p: LogicalAddress, sequence: u32)
     requires { ⌜ length (now sector) ≡ 2048 ⌝ }
-    requires { ⌜ (56 + 8 * r ≤ 2048) × (2 * r ≤ length (now table)) × (p < 0xffffffff) ⌝ }
+    requires { ⌜ (56 + 8 * r ≤ 2048) × (2 * r ≤ length (now table)) × (p .0 < 0xffffffff) ⌝ }
     requires { ⌜ entries (take (2 * r) (now table)) ≡ usedOf (entries (take (2 * r) (now table))) ++ freeOf (entries (take (2 * r) (now table))) ⌝ }
     requires { ⌜ noEntry (freeOf (entries (take (2 * r) (now table)))) ≡ false ⌝ }
-    ensures { λ _. ⌜ now (sector .exit) ≡ writtenTable sequence (flat (resorted (entries (take (2 * r) (now (table .entry)))) p)) ⌝ }
+    ensures { λ _. ⌜ now (sector .exit) ≡ writtenTable sequence (flat (resorted (entries (take (2 * r) (now (table .entry)))) (p .0))) ⌝ }
 {
-    let n = wide32(r);
+    let n = sparing::wide32(r);
     let place = find_above(table, n, p);
     let free = find_entry(table, n, FREE);
     begin_table(sector, r as u16, sequence);

@@ -13,7 +13,7 @@ use Rattle.sparing_table.proofs.find_above.Statement.{statement}
 use Rattle.sparing_table.proofs.find_above.Tie as tie
 
 abbrev Inv-loop : tie.InvT-loop
-Inv-loop table n p i₀ i = (i ≤ n) × (i + placeWhere (above p) (drop i (entries (take (2 * n) table))) ≡ placeWhere (above p) (entries (take (2 * n) table)))
+Inv-loop table n p i₀ i = (i ≤ n) × (i + placeWhere (above (p .0)) (drop i (entries (take (2 * n) table))) ≡ placeWhere (above (p .0)) (entries (take (2 * n) table)))
 
 abbrev μ-loop : tie.MeasureT-loop
 μ-loop table n p i₀ i = n - i
@@ -32,10 +32,10 @@ shared-slice-read-if1 c = search needs
 
 returns : tie.Need-returns Inv-loop μ-loop
 returns c =
-    let v = c .before .before .before in
+    let v = c .before .before .before .before in
     let s = v .before in
     let a = s .args in
-    place-found (above (a .p)) (entries (take (2 * a .n) (a .table .now))) (v .loop .i) _ (lent-step (a .table .now) (a .n) (v .loop .i) (s .pre) (c .before .before .loop-test .taken)) (lt-ltb _ _ (c .if1 .taken))
+    place-found (above (a .p .0)) (entries (take (2 * a .n) (a .table .now))) (v .loop .i) _ (lent-step (a .table .now) (a .n) (v .loop .i) (s .pre) (c .before .before .before .loop-test .taken)) (lt-ltb _ _ (c .if1 .taken))
     ∙ v .loop .inv .1
 
 add-i : tie.Need-add-i Inv-loop μ-loop
@@ -46,11 +46,11 @@ loop-less c = search needs
 
 loop-again : tie.Need-loop-again Inv-loop μ-loop
 loop-again c =
-    let v = c .before .before .before in
+    let v = c .before .before .before .before in
     let s = v .before in
     let a = s .args in (
       omega arith,
-      place-next (above (a .p)) (entries (take (2 * a .n) (a .table .now))) (v .loop .i) _ (lent-step (a .table .now) (a .n) (v .loop .i) (s .pre) (c .before .before .loop-test .taken)) (le-ltb _ _ (c .if1 .left))
+      place-next (above (a .p .0)) (entries (take (2 * a .n) (a .table .now))) (v .loop .i) _ (lent-step (a .table .now) (a .n) (v .loop .i) (s .pre) (c .before .before .before .loop-test .taken)) (le-ltb _ _ (c .if1 .left))
           ∙ v .loop .inv .1,
     )
 
@@ -61,7 +61,7 @@ returns-2 c =
     let a = s .args in
     let e : a .n ≡ v .loop .i = omega arith in
     e
-    ∙ place-end (above (a .p)) (entries (take (2 * a .n) (a .table .now))) (v .loop .i) (lent-end (a .table .now) (a .n) (v .loop .i) (s .pre) (c .loop-test .left))
+    ∙ place-end (above (a .p .0)) (entries (take (2 * a .n) (a .table .now))) (v .loop .i) (lent-end (a .table .now) (a .n) (v .loop .i) (s .pre) (c .loop-test .left))
     ∙ v .loop .inv .1
 
 pub find-above-spec : {M : Type 1} → statement M

@@ -1,5 +1,6 @@
 -- `sparing_table::find_packet` meets its contract: by its entry, or in its place. Assumes nothing.
 use Prim.Native.Nat.{_*_}
+use mathlib.Core.Path.{_∙_}
 use borrow.Author.Needs.{needs}
 use lib.ListN.{take}
 use Rattle.sparing_table.proofs.Table.{entry-found, entry-missing, packet-mapped, packet-in-place}
@@ -13,32 +14,35 @@ wide32-requires c κs = search needs
 find-entry-requires : tie.Need-find-entry-requires
 find-entry-requires c κs = search needs
 
-mul-result : tie.Need-mul-result
-mul-result c = search needs
+mul-mapped-to-physical : tie.Need-mul-mapped-to-physical
+mul-mapped-to-physical c = search needs
 
-add-result : tie.Need-add-result
-add-result c = search needs
+add-mapped-to-physical : tie.Need-add-mapped-to-physical
+add-mapped-to-physical c = search needs
 
-mul-result-2 : tie.Need-mul-result-2
-mul-result-2 c = search needs
+mul-mapped-to-physical-2 : tie.Need-mul-mapped-to-physical-2
+mul-mapped-to-physical-2 c = search needs
 
-shared-slice-read-result : tie.Need-shared-slice-read-result
-shared-slice-read-result c = search needs
+shared-slice-read-mapped-to-physical : tie.Need-shared-slice-read-mapped-to-physical
+shared-slice-read-mapped-to-physical c = search needs
+
+mapped-to-physical-requires : tie.Need-mapped-to-physical-requires
+mapped-to-physical-requires c κs = search needs
 
 returns : tie.Need-returns
 returns c =
-    let s = c .before .before .before .before .before in
+    let s = c .before .before .before .before .before .before in
     let a = s .args in
-    packet-mapped (a .s) (entries (take (2 * a .r) (a .table .now))) (a .p) _ _ (s .pre .1 .0) (entry-found (a .table .now) (a .r) _ _ (a .p) (s .pre .0) (c .before .before .before .wide32 .ensures .0) (c .before .before .find-entry .ensures) (c .before .if1 .taken))
+    c .mapped-to-physical .ensures ∙ packet-mapped (a .s) (entries (take (2 * a .r) (a .table .now))) (a .p .0) _ _ (s .pre .1 .0) (entry-found (a .table .now) (a .r) _ _ (a .p .0) (s .pre .0) (c .before .before .before .before .wide32 .ensures .0) (c .before .before .before .find-entry .ensures) (c .before .before .if1 .taken))
 
-add-result-2 : tie.Need-add-result-2
-add-result-2 c = search needs
+sector-of-requires : tie.Need-sector-of-requires
+sector-of-requires c κs = search needs
 
 returns-2 : tie.Need-returns-2
 returns-2 c =
-    let s = c .before .before .before .before in
+    let s = c .before .before .before .before .before in
     let a = s .args in
-    packet-in-place (a .s) (entries (take (2 * a .r) (a .table .now))) (a .p) (s .pre .1 .0) (entry-missing (a .table .now) (a .r) _ _ (a .p) (s .pre .0) (c .before .before .wide32 .ensures .0) (c .before .find-entry .ensures) (c .if1 .left))
+    c .sector-of .ensures ∙ packet-in-place (a .s) (entries (take (2 * a .r) (a .table .now))) (a .p .0) (s .pre .1 .0) (entry-missing (a .table .now) (a .r) _ _ (a .p .0) (s .pre .0) (c .before .before .before .wide32 .ensures .0) (c .before .before .find-entry .ensures) (c .before .if1 .left))
 
 pub find-packet-spec : {M : Type 1} → statement M
 find-packet-spec =
@@ -46,10 +50,11 @@ find-packet-spec =
     (tie.spec
     wide32-requires
     find-entry-requires
-    mul-result
-    add-result
-    mul-result-2
-    shared-slice-read-result
+    mul-mapped-to-physical
+    add-mapped-to-physical
+    mul-mapped-to-physical-2
+    shared-slice-read-mapped-to-physical
+    mapped-to-physical-requires
     returns
-    add-result-2
+    sector-of-requires
     returns-2)

@@ -14,24 +14,27 @@ wide32-requires c κs = search needs
 find-entry-requires : tie.Need-find-entry-requires
 find-entry-requires c κs = search needs
 
-mul-t6 : tie.Need-mul-t6
-mul-t6 c = search needs
+mul-mapped-to-physical : tie.Need-mul-mapped-to-physical
+mul-mapped-to-physical c = search needs
 
-add-t7 : tie.Need-add-t7
-add-t7 c = search needs
+add-mapped-to-physical : tie.Need-add-mapped-to-physical
+add-mapped-to-physical c = search needs
 
-mul-t8 : tie.Need-mul-t8
-mul-t8 c = search needs
+mul-mapped-to-physical-2 : tie.Need-mul-mapped-to-physical-2
+mul-mapped-to-physical-2 c = search needs
 
-shared-slice-read-t10 : tie.Need-shared-slice-read-t10
-shared-slice-read-t10 c = search needs
+shared-slice-read-mapped-to-physical : tie.Need-shared-slice-read-mapped-to-physical
+shared-slice-read-mapped-to-physical c = search needs
+
+mapped-to-physical-requires : tie.Need-mapped-to-physical-requires
+mapped-to-physical-requires c κs = search needs
 
 returns : tie.Need-returns
 unfolding none
 returns c =
-    let s = c .before .before .before .before .before in
+    let s = c .before .before .before .before .before .before in
     let a = s .args in
-    free-found (entries (take (2 * a .r) (a .table .now))) _ _ (entry-found (a .table .now) (a .r) _ _ 0xffffffff (s .pre) (c .before .before .before .wide32 .ensures .0) (c .before .before .find-entry .ensures) (c .before .if1 .taken))
+    free-found (entries (take (2 * a .r) (a .table .now))) _ _ _ (entry-found (a .table .now) (a .r) _ _ 0xffffffff (s .pre) (c .before .before .before .before .wide32 .ensures .0) (c .before .before .before .find-entry .ensures) (c .before .before .if1 .taken)) (c .mapped-to-physical .ensures)
 
 returns-2 : tie.Need-returns-2
 unfolding none
@@ -46,9 +49,10 @@ first-free-spec =
     (tie.spec
     wide32-requires
     find-entry-requires
-    mul-t6
-    add-t7
-    mul-t8
-    shared-slice-read-t10
+    mul-mapped-to-physical
+    add-mapped-to-physical
+    mul-mapped-to-physical-2
+    shared-slice-read-mapped-to-physical
+    mapped-to-physical-requires
     returns
     returns-2)

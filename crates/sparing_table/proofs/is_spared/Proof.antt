@@ -13,7 +13,7 @@ find-entry-requires c κs = search needs
 returns : tie.Need-returns
 returns c =
     let s = c .before .before .before in
-    spared-told (s .args .table .now) (s .args .r) _ _ (s .args .p) (s .pre) (c .before .wide32 .ensures .0) (c .find-entry .ensures)
+    spared-told (s .args .table .now) (s .args .r) _ _ (s .args .p .0) (s .pre) (c .before .wide32 .ensures .0) (c .find-entry .ensures)
 
 pub is-spared-spec : {M : Type 1} → statement M
 is-spared-spec = tie.close (tie.spec wide32-requires find-entry-requires returns)

@@ -32,10 +32,10 @@ begin-table-requires : tie.Need-begin-table-requires
 begin-table-requires c κs = search needs
 
 -- the places found, among the entries that the lent table has
-packet-at : (c : tie.After-find-entry) → let a = c .before .before .before .before .before .args in c .before .find-above .result ≡ placeWhere (above (a .p)) (entries (take (2 * a .r) (a .table .now)))
+packet-at : (c : tie.After-find-entry) → let a = c .before .before .before .before .before .args in c .before .find-above .result ≡ placeWhere (above (a .p .0)) (entries (take (2 * a .r) (a .table .now)))
 packet-at c =
     let a = c .before .before .before .before .before .args in
-    c .before .find-above .ensures ∙ ap (λ (n : ℕ). placeWhere (above (a .p)) (entries (take (2 * n) (a .table .now)))) (c .before .before .wide32 .ensures .0)
+    c .before .find-above .ensures ∙ ap (λ (n : ℕ). placeWhere (above (a .p .0)) (entries (take (2 * n) (a .table .now)))) (c .before .before .wide32 .ensures .0)
 
 free-at : (c : tie.After-find-entry) → let a = c .before .before .before .before .before .args in c .find-entry .result ≡ placeWhere (has none) (entries (take (2 * a .r) (a .table .now)))
 unfolding none
@@ -47,19 +47,19 @@ spared-first : (c : tie.After-find-entry) → c .before .find-above .result ≤ 
 unfolding none
 spared-first c =
     let s = c .before .before .before .before .before in
-    spared-before (s .args .table .now) (s .args .r) (s .args .p) _ _ (s .pre .1 .0 .1) (packet-at c) (free-at c) (s .pre .1 .1 .0) (s .pre .1 .1 .1) (s .pre .1 .0 .2)
+    spared-before (s .args .table .now) (s .args .r) (s .args .p .0) _ _ (s .pre .1 .0 .1) (packet-at c) (free-at c) (s .pre .1 .1 .0) (s .pre .1 .1 .1) (s .pre .1 .0 .2)
 
 spared-last : (c : tie.After-find-entry) → c .find-entry .result < c .before .before .before .before .before .args .r
 unfolding none
 spared-last c =
     let s = c .before .before .before .before .before in
-    spared-within (s .args .table .now) (s .args .r) (s .args .p) _ _ (s .pre .1 .0 .1) (packet-at c) (free-at c) (s .pre .1 .1 .0) (s .pre .1 .1 .1) (s .pre .1 .0 .2)
+    spared-within (s .args .table .now) (s .args .r) (s .args .p .0) _ _ (s .pre .1 .0 .1) (packet-at c) (free-at c) (s .pre .1 .1 .0) (s .pre .1 .1 .1) (s .pre .1 .0 .2)
 
-resorted-is : (c : tie.After-find-entry) → let a = c .before .before .before .before .before .args in flat (resorted (entries (take (2 * a .r) (a .table .now))) (a .p)) ≡ sparedNumbers (a .table .now) (a .r) (a .p) (c .before .find-above .result) (c .find-entry .result)
+resorted-is : (c : tie.After-find-entry) → let a = c .before .before .before .before .before .args in flat (resorted (entries (take (2 * a .r) (a .table .now))) (a .p .0)) ≡ sparedNumbers (a .table .now) (a .r) (a .p .0) (c .before .find-above .result) (c .find-entry .result)
 unfolding none
 resorted-is c =
     let s = c .before .before .before .before .before in
-    spared-is (s .args .table .now) (s .args .r) (s .args .p) _ _ (s .pre .1 .0 .1) (packet-at c) (free-at c) (s .pre .1 .1 .0) (s .pre .1 .1 .1) (s .pre .1 .0 .2)
+    spared-is (s .args .table .now) (s .args .r) (s .args .p .0) _ _ (s .pre .1 .0 .1) (packet-at c) (free-at c) (s .pre .1 .1 .0) (s .pre .1 .1 .1) (s .pre .1 .0 .2)
 
 put-spared-requires : tie.Need-put-spared-requires
 put-spared-requires c κs =
@@ -79,10 +79,10 @@ returns c =
     let t : List ℕ = a .table .now in
     let k : ℕ = f .before .find-above .result in
     let u : ℕ = f .find-entry .result in
-    let l : length (sparedNumbers t (a .r) (a .p) k u) ≡ 2 * a .r = length-spared t (a .r) (a .p) k u (spared-first f) (spared-last f) (s .pre .1 .0 .1) in
+    let l : length (sparedNumbers t (a .r) (a .p .0) k u) ≡ 2 * a .r = length-spared t (a .r) (a .p .0) k u (spared-first f) (spared-last f) (s .pre .1 .0 .1) in
     c .before .before .put-spared .ensures
-    ∙ ap₂ (λ (x : List ℕ) (n : ℕ). splice x 56 (quads (sparedNumbers t n (a .p) k u))) (b .begin-table .ensures) (f .before .before .wide32 .ensures .0)
-    ∙ table-written (a .sequence) (a .r) (sparedNumbers t (a .r) (a .p) k u) (omega arith) (omega arith)
+    ∙ ap₂ (λ (x : List ℕ) (n : ℕ). splice x 56 (quads (sparedNumbers t n (a .p .0) k u))) (b .begin-table .ensures) (f .before .before .wide32 .ensures .0)
+    ∙ table-written (a .sequence) (a .r) (sparedNumbers t (a .r) (a .p .0) k u) (omega arith) (omega arith)
     ∙ ap (writtenTable (a .sequence)) (sym (resorted-is f))
 
 pub write-spared-spec : {M : Type 1} → statement M
