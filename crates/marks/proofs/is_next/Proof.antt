@@ -7,14 +7,14 @@ use Rattle.marks.proofs.is_next.Tie as tie
 returns : tie.Need-returns
 returns c bytes = not-past _ _ _ _ (c .if1 .taken)
 
-add-from : tie.Need-add-from
-add-from c = search needs
+sector-of-requires : tie.Need-sector-of-requires
+sector-of-requires c κs = search needs
 
 cast-from : tie.Need-cast-from
 cast-from c = search needs
 
-add-to : tie.Need-add-to
-add-to c = search needs
+sector-of-requires-2 : tie.Need-sector-of-requires-2
+sector-of-requires-2 c κs = search needs
 
 cast-to : tie.Need-cast-to
 cast-to c = search needs
@@ -36,7 +36,7 @@ returns-2 c bytes = not-blank _ _ _ _ _ (c .before .highest-mark .ensures) (c .i
 
 returns-3 : tie.Need-returns-3
 returns-3 c bytes =
-    from-start _ _ _ _ _ (c .before .before .highest-mark .ensures) (c .before .if2 .left) (c .before .before .before .before .if1 .left) (c .if3 .taken)
+    from-start _ _ _ _ _ (c .before .before .before .highest-mark .ensures) (c .before .before .if2 .left) (c .before .before .before .before .before .before .before .before .before .if1 .left) (c .if3 .taken)
 
 sub-result : tie.Need-sub-result
 sub-result c = search needs
@@ -46,17 +46,17 @@ shared-slice-read-result c = search needs
 
 returns-4 : tie.Need-returns-4
 returns-4 c bytes =
-    let at-mark = c .before .before .before in
-    from-below _ _ _ _ _ (at-mark .highest-mark .ensures) (c .before .before .if2 .left) (at-mark .before .before .if1 .left) (c .before .if3 .left)
+    let at-mark = c .before .before .before .before in
+    from-below _ _ _ _ _ (at-mark .highest-mark .ensures) (c .before .before .before .if2 .left) (at-mark .before .before .before .before .before .before .if1 .left) (c .before .if3 .left)
 
 pub is-next-spec : {M : Type 1} → statement M
 is-next-spec =
     tie.close
     (tie.spec
     returns
-    add-from
+    sector-of-requires
     cast-from
-    add-to
+    sector-of-requires-2
     cast-to
     sub-highest-mark
     part-highest-mark-start
