@@ -44,7 +44,7 @@ shared-slice-read-if1 : tie.Need-shared-slice-read-if1 Inv-loop μ-loop
 shared-slice-read-if1 c = search needs
 
 returns : tie.Need-returns Inv-loop μ-loop
-returns c bytes = used-below _ _ _ (c .before .before .before .before .loop-test .taken) (c .if1 .taken) ∙ c .before .before .before .before .before .loop .inv .1 bytes
+returns c bytes = used-below _ _ _ (c .before .before .before .before .loop-test .taken) (c .before .before .before .sector-of .ensures) (c .if1 .taken) ∙ c .before .before .before .before .before .loop .inv .1 bytes
 
 loop-less : tie.Need-loop-less Inv-loop μ-loop
 loop-less c = search needs
@@ -52,7 +52,7 @@ loop-less c = search needs
 loop-again : tie.Need-loop-again Inv-loop μ-loop
 loop-again c = (
   omega arith,
-  λ bytes. blank-below _ _ _ (c .before .before .before .before .loop-test .taken) (c .if1 .left) ∙ c .before .before .before .before .before .loop .inv .1 bytes,
+  λ bytes. blank-below _ _ _ (c .before .before .before .before .loop-test .taken) (c .before .before .before .sector-of .ensures) (c .if1 .left) ∙ c .before .before .before .before .before .loop .inv .1 bytes,
 )
 
 returns-2 : tie.Need-returns-2 Inv-loop μ-loop

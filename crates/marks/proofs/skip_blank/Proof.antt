@@ -5,7 +5,7 @@ use mathlib.Core.Path.{_≡_, refl, _∙_}
 use mathlib.Core.List.{List}
 use native.Mathlib.Omega.{arith}
 use Rattle.model.specs.Disc.{disc, nwa}
-use Rattle.marks.proofs.Laws.{blanks-below}
+use Rattle.marks.proofs.Laws.{blanks-below, between-there}
 use Rattle.marks.proofs.skip_blank.Statement.{statement}
 use Rattle.marks.proofs.skip_blank.Tie as tie
 
@@ -49,10 +49,11 @@ loop-less : tie.Need-loop-less Inv-loop μ-loop
 loop-less c = search needs
 
 loop-again : tie.Need-loop-again Inv-loop μ-loop
-loop-again c = (
-  omega arith,
-  λ bytes. blanks-below _ _ _ _ _ (omega arith) (c .before .highest-mark .ensures) (c .if1 .left) ∙ c .before .before .before .before .before .before .before .before .loop .inv .1 bytes,
-)
+loop-again c =
+    let v = c .before .before .before .before in (
+      omega arith,
+      λ bytes. blanks-below _ _ _ _ _ (omega arith) (between-there _ (v .before .before .sector-of .ensures) (v .sector-of2 .ensures) (c .before .highest-mark .ensures)) (c .if1 .left) ∙ c .before .before .before .before .before .before .before .before .loop .inv .1 bytes,
+    )
 
 returns-2 : tie.Need-returns-2 Inv-loop μ-loop
 returns-2 c = c .before .loop .inv
