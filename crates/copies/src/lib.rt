@@ -75,7 +75,7 @@ fn copy_counts(disc: &[u8], marks: &[u8], x: Layout, t: PhysicalAddress) -> bool
 }
 
 // The sequence of the copy at sector `t`.
-fn sequence_at(disc: &[u8], t: PhysicalAddress) -> u32
+pub fn sequence_at(disc: &[u8], t: PhysicalAddress) -> u32
     requires { ⌜ 2048 * t .0 + 2048 ≤ length (now disc) ⌝ }
     ensures { λ r. ⌜ ((marks : List ℕ) → r ≡ sequenceAt (discOf (now (disc .entry)) marks) (t .0)) ⌝ }
 {

@@ -9,6 +9,7 @@ use borrow.Author.Tests.{eq-eqb, ne-eqb, eqb-true}
 use lib.Dec.{eqb}
 use lib.ListN.{length, getD, set, take, drop, length-append, length-set}
 use lib.Seq.{take-suc-set, getD-take}
+use Rattle.address.specs.declared.PhysicalAddress.{PhysicalAddress}
 use Rattle.model.specs.Disc.{Disc}
 use Rattle.model.specs.Sparing.{Geometry, counts, countingOf, counting, sequenceAt, withSequence, current, currentSequence}
 use Rattle.model.specs.Examine.{Setting, geometry}
@@ -16,7 +17,39 @@ use Rattle.model.specs.Rewrite.{notIn, stale, copyOrder, sequenceOn}
 use Rattle.model.proofs.Basics.{cond-elim, and-false, or-right}
 use Rattle.sparing.proofs.Places.{table-step, table-end}
 use Rattle.sparing.proofs.Rule.{and-end}
-use Rattle.packets.specs.Order.{isOf, asWanted, chosen, copiesOf, orderOf}
+use Rattle.packets.specs.Order.{numbersOf, isOf, asWanted, chosen, copiesOf, orderOf}
+
+-- ---- the numbers of sectors
+
+-- as many,
+pub numbers-length : (ps : List PhysicalAddress) → length (numbersOf ps) ≡ length ps
+unfolding numbersOf
+numbers-length [] = refl
+numbers-length (p ∷ ps) = ap suc (numbers-length ps)
+
+-- each in its place,
+pub numbers-at : (ps : List PhysicalAddress) (i : ℕ) → getD ps i (record { 0 = 0 }) .0 ≡ getD (numbersOf ps) i 0
+unfolding numbersOf
+numbers-at [] i = refl
+numbers-at (p ∷ ps) zero = refl
+numbers-at (p ∷ ps) (suc i) = numbers-at ps i
+
+-- those of four are the four
+pub four-numbers : (t : List ℕ) → length t ≡ 4 → (p q r s : PhysicalAddress) → p .0 ≡ getD t 0 0 → q .0 ≡ getD t 1 0 → r .0 ≡ getD t 2 0 → s .0 ≡ getD t 3 0 → numbersOf (p ∷ q ∷ r ∷ s ∷ []) ≡ t
+unfolding numbersOf
+four-numbers [] n p q r s ep eq er es = absurd (omega arith)
+four-numbers (a ∷ []) n p q r s ep eq er es = absurd (omega arith)
+four-numbers (a ∷ b ∷ []) n p q r s ep eq er es = absurd (omega arith)
+four-numbers (a ∷ b ∷ c ∷ []) n p q r s ep eq er es = absurd (omega arith)
+four-numbers (a ∷ b ∷ c ∷ d ∷ []) n p q r s ep eq er es = cc
+four-numbers (a ∷ b ∷ c ∷ d ∷ e ∷ l) n p q r s ep eq er es = absurd (omega arith)
+
+-- and set there
+pub numbers-set : (ps : List PhysicalAddress) (i : ℕ) (p : PhysicalAddress) → numbersOf (set ps i p) ≡ set (numbersOf ps) i (p .0)
+unfolding numbersOf
+numbers-set [] i p = refl
+numbers-set (q ∷ ps) zero p = refl
+numbers-set (q ∷ ps) (suc i) p = ap (λ (l : List ℕ). q .0 ∷ l) (numbers-set ps i p)
 
 -- ---- one copy
 

@@ -4,9 +4,15 @@ use Prim.Native.Nat.{ℕ}
 use mathlib.Core.Bool.{Bool, cond, not, _&&_}
 use mathlib.Core.List.{List, [], _∷_, _++_}
 use lib.Dec.{eqb}
+use Rattle.address.specs.declared.PhysicalAddress.{PhysicalAddress}
 use Rattle.model.specs.Disc.{Disc}
 use Rattle.model.specs.Sparing.{Geometry, counts, countingOf, sequenceAt, withSequence}
 use Rattle.model.specs.Rewrite.{stale}
+
+-- the numbers of sectors
+unfoldable pub numbersOf : List PhysicalAddress → List ℕ
+numbersOf [] = []
+numbersOf (p ∷ ps) = p .0 ∷ numbersOf ps
 
 -- the copy at t counts and is of sequence n
 unfoldable pub isOf : Disc → Geometry → ℕ → ℕ → Bool
