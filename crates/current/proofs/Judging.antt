@@ -19,14 +19,24 @@ use Rattle.current.specs.Looked.{JudgedAs}
 
 -- ---- the layout
 
+-- one of the disc's geometry has the volume's S
+pub span-start : (e : Setting) (d : Disc) (x : Layout) → geometryIn x ≡ geometry e d → x .volume .span .start ≡ e .start
+unfolding geometry
+span-start e d x q = ap (λ (y : Geometry). y .start) q
+
+-- and its L
+pub span-length : (e : Setting) (d : Disc) (x : Layout) → geometryIn x ≡ geometry e d → x .volume .span .length ≡ e .span
+unfolding geometry
+span-length e d x q = ap (λ (y : Geometry). y .span) q
+
 -- a layout of a rewritable volume
 pub record Laid (e : Setting) (d : Disc) (x : Layout) : Type 0 where
   pub few : x .count ≤ 4
   pub size : x .size ≤ 2048
   pub sectors : x .sectors ≡ length (d .marks)
   pub on : TablesOn x
-  pub start : x .start ≡ e .start
-  pub span : x .span ≡ e .span
+  pub start : x .volume .span .start ≡ e .start
+  pub span : x .volume .span .length ≡ e .span
 
 -- from its geometry and the number of its tables
 pub laid : (e : Setting) (d : Disc) (x : Layout) → Ground e (geometry e d) → length (geometry e d .tables) ≤ 4 → geometryIn x ≡ geometry e d → x .count ≡ length (geometry e d .tables) → Laid e d x
@@ -38,10 +48,10 @@ laid e d x g most q c =
       sectors = ap (λ (y : Geometry). y .sectors) q;
       on =
           tables-on x
-          (omega (arith, c, ap (λ (y : Geometry). length (y .tables)) q, length-take (x .count) (x .tables)))
+          (omega (arith, c, ap (λ (y : Geometry). length (y .tables)) q, length-take (x .count) (x .volume .tables)))
           (ap (λ (y : Geometry). allOutside y (y .tables)) q ∙ g .outside);
-      start = ap (λ (y : Geometry). y .start) q;
-      span = ap (λ (y : Geometry). y .span) q;
+      start = span-start e d x q;
+      span = span-length e d x q;
     }
 
 -- ---- a call that is judged

@@ -8,7 +8,6 @@ use native.Mathlib.Omega.{arith}
 use borrow.Author.Tests.{eqb-true, eq-eqb, ne-eqb, not-true}
 use lib.Dec.{eqb}
 use lib.ListN.{length, getD, take, drop, length-take}
-use lib.Seq.{take-length}
 use Rattle.refusal.specs.declared.Refusal.{Refusal}
 use Rattle.refusal.specs.declared.Refusal.the-variants.{OtherKind, NoTable, CopiesDiffer, StaleRecord}
 use Rattle.refusal.specs.declared.Verdict.{Verdict}
@@ -26,8 +25,8 @@ use Rattle.maps.proofs.Tests.{fails, holds}
 use Rattle.maps.proofs.Laws.{read-fine}
 use Rattle.model.specs.declared.Record.{Record}
 use Rattle.model.specs.Disc.{Disc, disc, sector}
-use Rattle.model.specs.Sparing.{Geometry, entries, entriesFit, counting, current, currentTable, agree}
-use Rattle.model.specs.Examine.{Setting, volume, writeOnce, geometry, allOutside, examined}
+use Rattle.model.specs.Sparing.{entries, entriesFit, counting, current, currentTable, agree}
+use Rattle.model.specs.Examine.{Setting, volume, writeOnce, geometry, examined}
 use Rattle.model.specs.Rewrite.{isNone, tableOn, entriesOn, sequenceOn, countOn, copyTests, heldCurrent, rewritableVerdict}
 use Rattle.model.specs.Plan.{Plan, refuse, unless}
 use Rattle.model.proofs.Basics.{and-true}
@@ -35,7 +34,7 @@ use Rattle.model.proofs.Sectors.{shapely-made, shapely-most, inside-fits}
 use Rattle.model.proofs.Verdicts.{then-go, examined-tells, unless-stop, unless-go}
 use Rattle.model.proofs.Ground.{Ground, ground}
 use Rattle.model.proofs.SparingLaws.{length-flat, fits-size, current-fits, flat-current}
-use Rattle.sparing.proofs.Laws.{tables-on}
+use Rattle.sparing.proofs.Laws.{all-on}
 use Rattle.current.specs.Looked.{lookVerdict}
 
 -- ---- a call's own tests after the common ones
@@ -112,13 +111,6 @@ pub most-on : (e : Setting) (d : Disc) → readMaps (e .maps) .verdict ≡ Go �
 unfolding geometry tablesOf volume
 most-on e d h = tables-most (readMaps (e .maps) .volume .kind) (readMaps (e .maps) .volume .tables) (read-fine (e .maps) h .kinds)
 
--- each table whose packet is on the disc is a sector of it
-pub all-on : (g : Geometry) → allOutside g (g .tables) ≡ true → (i : ℕ) → i < length (g .tables) → getD (g .tables) i 0 < g .sectors
-all-on g h =
-    tables-on (record { start = g .start; span = g .span; sectors = g .sectors; tables = g .tables; count = length (g .tables); size = g .size })
-    (omega arith)
-    (ap (λ (ts : List ℕ). allOutside (record { start = g .start; span = g .span; sectors = g .sectors; tables = ts; size = g .size }) ts) (take-length (g .tables)) ∙ h)
-
 -- the current table has twice as many numbers as entries
 table-long : (e : Setting) (d : Disc) → length (tableOn e d) ≡ 2 * countOn e d
 unfolding countOn entriesOn tableOn
@@ -190,7 +182,7 @@ common e d t lent held h =
       start-32 = ap (λ (n : ℕ). n % 32) (g .start-is) ∙ g .start-32;
       span-32 = ap (λ (n : ℕ). n % 32) (g .span-is) ∙ g .span-32;
       lies = g;
-      tables = all-on (geometry e d) (g .outside);
+      tables = all-on (geometry e d) (geometry e d .tables) (g .outside);
       most-tables = w .most-tables;
       size = g .size;
       fits = w .fits;

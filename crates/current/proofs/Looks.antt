@@ -78,9 +78,13 @@ module _ (e : Setting) (d : Disc) (lent : Bool) where
       look-most = shapely-most d (seen-tells e d lent q h .shape)
 
       -- x is the layout of the volume
-      module _ {p n size : ℕ} (is : r .volume .kind ≡ Rewritable p n size) (x : Layout) (lay : geometryIn x ≡ groundOf (e .start) (e .span) (length (d .marks)) (take n (r .volume .tables)) size) (count : x .count ≡ n) where
-        geometry-is : geometryIn x ≡ geometry e d
-        geometry-is = lay ∙ sym (seen-geometry e d lent q h is)
+      module _ {p n size : ℕ} (is : r .volume .kind ≡ Rewritable p n size) (x : Layout) (lay : geometryIn x ≡ groundOf (r .volume .span .start) (r .volume .span .length) (length (d .marks)) (take n (r .volume .tables)) size) (count : x .count ≡ n) where
+        -- it has the geometry of the disc
+        pub layout-is : geometryIn x ≡ geometry e d
+        layout-is =
+            lay
+            ∙ ap (λ (v : Volume). groundOf (v .span .start) (v .span .length) (length (d .marks)) (take n (r .volume .tables)) size) (seen-volume e d lent q h)
+            ∙ sym (seen-geometry e d lent q h is)
 
         lies : Ground e (geometry e d)
         lies = ground e d lent (seen-rewritable e d lent q h is) (seen-tells e d lent q h)
@@ -92,25 +96,28 @@ module _ (e : Setting) (d : Disc) (lent : Bool) where
         few : n ≤ 4
         few = seen-few e d lent q h is
 
-        -- it names as many tables as the volume has
-        copies : length (take (x .count) (x .tables)) ≡ n
-        copies =
+        names : length (take (x .count) (x .volume .tables)) ≡ n
+        names =
             let long = ap (λ (g : Geometry). length (g .tables)) lay in
             omega (arith, long, length-take n (r .volume .tables), places, few)
 
+        -- it names as many tables as the volume has
+        pub copies-are : x .count ≡ length (geometry e d .tables)
+        copies-are = count ∙ sym names ∙ ap (λ (g : Geometry). length (g .tables)) layout-is
+
         on : TablesOn x
         on =
-            tables-on x (omega (arith, copies, count, length-take (x .count) (x .tables)))
-            (ap (λ (g : Geometry). allOutside g (g .tables)) geometry-is ∙ lies .outside)
+            tables-on x (omega (arith, names, count, length-take (x .count) (x .volume .tables)))
+            (ap (λ (g : Geometry). allOutside g (g .tables)) layout-is ∙ lies .outside)
 
         -- what is asked of it
         pub look-layout : (x .count ≤ 4) × (x .size ≤ 2048) × (length (d .bytes) ≡ 2048 * length (d .marks)) × (x .sectors ≡ length (d .marks)) × TablesOn x
         unfolding geometry
         look-layout = (
           omega (arith, few, count),
-          omega (arith, ap (λ (g : Geometry). g .size) geometry-is, lies .size),
+          omega (arith, ap (λ (g : Geometry). g .size) layout-is, lies .size),
           shapely-made d (seen-tells e d lent q h .shape) .sized,
-          ap (λ (g : Geometry). g .sectors) geometry-is,
+          ap (λ (g : Geometry). g .sectors) layout-is,
           on,
         )
 
@@ -118,11 +125,11 @@ module _ (e : Setting) (d : Disc) (lent : Bool) where
         pub look-found : {f : Current} → FoundCurrent d (geometryIn x) f → Sees e d lent (record { verdict = f .verdict; layout = x; at = f .at; sequence = f .sequence; entries = f .entries })
         unfolding copyTests tableOn entriesOn sequenceOn countOn geometry
         look-found {f} found =
-            let g = subst (λ (y : Geometry). FoundCurrent d y f) geometry-is found in
+            let g = subst (λ (y : Geometry). FoundCurrent d y f) layout-is found in
             record {
               verdict = g .verdict ∙ sym (after ∙ next-test OtherKind (copyTests e d) (ap not (seen-rewritable e d lent q h is)));
-              layout = λ _. geometry-is;
-              copies = λ _. count ∙ sym copies ∙ ap (λ (y : Geometry). length (y .tables)) geometry-is;
+              layout = λ _. layout-is;
+              copies = λ _. copies-are;
               place = g .place;
               counted = g .counted;
               table = g .table;
@@ -131,10 +138,10 @@ module _ (e : Setting) (d : Disc) (lent : Bool) where
             }
 
 -- the entries that the sector found has
-pub look-count : (e : Setting) (d : Disc) (lent : Bool) {x : Looked} → Sees e d lent x → x .verdict ≡ Go → x .entries ≡ countIn (sector d (x .at))
+pub look-count : (e : Setting) (d : Disc) (lent : Bool) {x : Looked} → Sees e d lent x → x .verdict ≡ Go → x .entries ≡ countIn (sector d (x .at .0))
 unfolding countOn entriesOn tableAt
 look-count e d lent {x} s h =
-    s .count h ∙ sym (ap (λ (l : List ℕ). length (entries l)) (s .table h)) ∙ table-count (sector d (x .at))
+    s .count h ∙ sym (ap (λ (l : List ℕ). length (entries l)) (s .table h)) ∙ table-count (sector d (x .at .0))
 
 -- ---- judging; x is what was found
 

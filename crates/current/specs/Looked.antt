@@ -27,9 +27,9 @@ pub record Sees (e : Setting) (d : Disc) (lent : Bool) (r : Looked) : Type 0 whe
   pub verdict : r .verdict ≡ lookVerdict e d lent
   pub layout : r .verdict ≡ Go → geometryIn (r .layout) ≡ geometry e d
   pub copies : r .verdict ≡ Go → r .layout .count ≡ length (geometry e d .tables)
-  pub place : r .verdict ≡ Go → r .at < length (d .marks)
-  pub counted : r .verdict ≡ Go → counts d (geometry e d) (r .at) ≡ true
-  pub table : r .verdict ≡ Go → tableAt d (r .at) ≡ tableOn e d
+  pub place : r .verdict ≡ Go → r .at .0 < length (d .marks)
+  pub counted : r .verdict ≡ Go → counts d (geometry e d) (r .at .0) ≡ true
+  pub table : r .verdict ≡ Go → tableAt d (r .at .0) ≡ tableOn e d
   pub sequence : r .verdict ≡ Go → r .sequence ≡ sequenceOn e d
   pub count : r .verdict ≡ Go → r .entries ≡ countOn e d
 
@@ -39,8 +39,8 @@ pub record Judges (e : Setting) (d : Disc) (t : List ℕ) (lent : Bool) (held : 
   pub verdict : r .verdict ≡ rewritableVerdict e d t lent held []
   pub layout : r .verdict ≡ Go → geometryIn (r .layout) ≡ geometry e d
   pub copies : r .verdict ≡ Go → r .layout .count ≡ length (geometry e d .tables)
-  pub place : r .verdict ≡ Go → r .at < length (d .marks)
-  pub counted : r .verdict ≡ Go → counts d (geometry e d) (r .at) ≡ true
+  pub place : r .verdict ≡ Go → r .at .0 < length (d .marks)
+  pub counted : r .verdict ≡ Go → counts d (geometry e d) (r .at .0) ≡ true
 
 -- and by any lines: the verdict v, and where it says Go the layout with the number of its tables
 pub record JudgedAs (v : Verdict) (e : Setting) (d : Disc) (r : Judged) : Type 0 where

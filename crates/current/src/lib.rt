@@ -1,7 +1,10 @@
 // What every call on a rewritable disc examines: lines 1 to 8, 10 and 11 of document 01, "Why a call is turned
 // down"; and what the calls then go by: the layout of the volume, and the current sparing table.
 // All functions here are inside the layers: where one has a `requires`, the callers have tested it.
+use address::LogicalAddress;
+use address::PhysicalAddress;
 use maps::Kind;
+use maps::Volume;
 use model::Record;
 use refusal::Refusal;
 use refusal::Verdict;
@@ -31,7 +34,7 @@ const PACKET: u32 = 32;
 pub struct Looked {
     pub verdict: Verdict,
     pub layout: Layout,
-    pub at: u32,
+    pub at: PhysicalAddress,
     pub sequence: u32,
     pub entries: u32,
 }
@@ -41,39 +44,35 @@ pub struct Looked {
 pub struct Judged {
     pub verdict: Verdict,
     pub layout: Layout,
-    pub at: u32,
+    pub at: PhysicalAddress,
 }
 
 // What a rewritable volume lies in.
-pub fn layout_of(s: u32, l: u32, sectors: usize, tables: [u32; 4], n: u8, size: u32) -> Layout
+pub fn layout_of(volume: Volume, sectors: usize, n: u8, size: u32) -> Layout
     requires { ⌜ sectors ≤ 1048576 ⌝ }
-    ensures { λ r. ⌜ (geometryIn r ≡ groundOf s l sectors (take n tables) size) × (r .count ≡ n) ⌝ }
+    ensures { λ r. ⌜ (geometryIn r ≡ groundOf (volume .span .start) (volume .span .length) sectors (take n (volume .tables)) size) × (r .count ≡ n) ⌝ }
 {
     Layout {
-        start: s,
-        span: l,
+        volume,
         sectors: sectors as u32,
-        tables,
         count: n,
         size,
     }
 }
 
 // A disc that is turned down, with nothing found.
-fn turned_down(why: Refusal) -> Looked
+fn turned_down(why: Refusal, volume: Volume) -> Looked
     ensures { λ r. ⌜ r .verdict ≡ Verdict.Stop why ⌝ }
 {
     Looked {
         verdict: Verdict::Stop(why),
         layout: Layout {
-            start: 0,
-            span: 0,
+            volume,
             sectors: 0,
-            tables: [0; 4],
             count: 0,
             size: 0,
         },
-        at: 0,
+        at: copies::nowhere(),
         sequence: 0,
         entries: 0,
     }
@@ -85,26 +84,26 @@ pub fn look(disc: &[u8], marks: &[u8], maps: &[u8], s: u32, l: u32, lent: bool) 
 {
     let seen = examine::examine(disc, marks, maps, s, l, lent);
     let verdict = seen.verdict;
-    if let Verdict::Stop(why) = verdict {
-        return turned_down(why);
-    }
     let volume = seen.volume;
+    if let Verdict::Stop(why) = verdict {
+        return turned_down(why, volume);
+    }
     let kind = volume.kind;
-    let tables = volume.tables;
     match kind {
-        Kind::WriteOnce { partition: _ } => turned_down(Refusal::OtherKind),
+        Kind::WriteOnce { partition: _ } => turned_down(Refusal::OtherKind, volume),
         Kind::Rewritable {
             partition: _,
             tables: n,
             size,
         } => {
-            let layout = layout_of(s, l, marks.len(), tables, n, size);
+            let layout = layout_of(volume, marks.len(), n, size);
             let found = copies::find_current(disc, marks, layout);
             let current = found.verdict;
+            let at = found.at;
             Looked {
                 verdict: current,
                 layout,
-                at: found.at,
+                at,
                 sequence: found.sequence,
                 entries: found.entries,
             }
@@ -118,14 +117,14 @@ fn is_current(
     disc: &[u8],
     table: &[u32],
     held: Record,
-    at: u32,
+    at: PhysicalAddress,
     sequence: u32,
     entries: u32,
 ) -> bool
-    requires { ⌜ (2048 * at + 2048 ≤ length (now disc)) × (at < 1048576) ⌝ }
-    requires { ⌜ ((marks : List ℕ) → entries ≡ countIn (sector (discOf (now disc) marks) at)) ⌝ }
+    requires { ⌜ (2048 * at .0 + 2048 ≤ length (now disc)) × (at .0 < 1048576) ⌝ }
+    requires { ⌜ ((marks : List ℕ) → entries ≡ countIn (sector (discOf (now disc) marks) (at .0))) ⌝ }
     requires { ⌜ (56 + 8 * entries ≤ 2048) × (2 * entries ≤ length (now table)) ⌝ }
-    ensures { λ r. ⌜ ((e : Setting) (marks : List ℕ) → tableAt (discOf (now (disc .entry)) marks) at ≡ tableOn e (discOf (now (disc .entry)) marks) → sequence ≡ sequenceOn e (discOf (now (disc .entry)) marks) → entries ≡ countOn e (discOf (now (disc .entry)) marks) → r ≡ heldCurrent e (discOf (now (disc .entry)) marks) (now (table .entry)) held) ⌝ }
+    ensures { λ r. ⌜ ((e : Setting) (marks : List ℕ) → tableAt (discOf (now (disc .entry)) marks) (at .0) ≡ tableOn e (discOf (now (disc .entry)) marks) → sequence ≡ sequenceOn e (discOf (now (disc .entry)) marks) → entries ≡ countOn e (discOf (now (disc .entry)) marks) → r ≡ heldCurrent e (discOf (now (disc .entry)) marks) (now (table .entry)) held) ⌝ }
 {
     match held {
         Record::WriteOnce {
@@ -143,7 +142,7 @@ fn is_current(
             if q != sequence {
                 return false;
             }
-            let from = SECTOR * at as usize;
+            let from = SECTOR * at.0 as usize;
             let to = from + SECTOR;
             sparing_table::is_same(&disc[from..to], table, entries)
         }
@@ -167,31 +166,26 @@ pub fn judge(
     let looked = look(disc, marks, maps, s, l, lent);
     let layout = looked.layout;
     let verdict = looked.verdict;
+    let copy = looked.at;
+    let none = copies::nowhere();
     if let Verdict::Stop(why) = verdict {
         return Judged {
             verdict: Verdict::Stop(why),
             layout,
-            at: 0,
+            at: none,
         };
     }
-    if !is_current(
-        disc,
-        table,
-        held,
-        looked.at,
-        looked.sequence,
-        looked.entries,
-    ) {
+    if !is_current(disc, table, held, copy, looked.sequence, looked.entries) {
         return Judged {
             verdict: Verdict::Stop(Refusal::StaleRecord),
             layout,
-            at: 0,
+            at: none,
         };
     }
     Judged {
         verdict: Verdict::Go,
         layout,
-        at: looked.at,
+        at: copy,
     }
 }
 
@@ -233,10 +227,11 @@ pub fn sequence_held(held: Record) -> u32
 
 // The sector at which the packet of block b is read. Inside the layers: lines 2 and 11 have been tested, and
 // b is below L.
-pub fn packet_place(table: &[u32], held: Record, s: u32, b: u32) -> u32
-    requires { ⌜ (2 * countHeld held ≤ length (now table)) × (s + b < 2 ^ 32) ⌝ }
-    ensures { λ r. ⌜ r ≡ locate s (entriesLent (now (table .entry)) held) (packetOf b) ⌝ }
+pub fn packet_place(table: &[u32], held: Record, s: u32, b: LogicalAddress) -> PhysicalAddress
+    requires { ⌜ (2 * countHeld held ≤ length (now table)) × (s + b .0 < 2 ^ 32) ⌝ }
+    ensures { λ r. ⌜ r .0 ≡ locate s (entriesLent (now (table .entry)) held) (packetOf (b .0)) ⌝ }
 {
     let entries = entries_held(held);
-    sparing_table::find_packet(table, entries, s, b - b % PACKET)
+    let first = LogicalAddress(b.0 - b.0 % PACKET);
+    sparing_table::find_packet(table, entries, s, first)
 }

@@ -19,7 +19,8 @@ pub use Rattle.sparing.proofs.Entries.{entries-drop, entries-step, entr
 
 -- ---- a layout
 
-all-on : (g : Geometry) (ts : List ℕ) → allOutside g ts ≡ true → (i : ℕ) → i < length ts → getD ts i 0 < g .sectors
+-- packets on the disc begin at sectors of it
+pub all-on : (g : Geometry) (ts : List ℕ) → allOutside g ts ≡ true → (i : ℕ) → i < length ts → getD ts i 0 < g .sectors
 unfolding allOutside
 all-on g [] h i l = absurd (omega arith)
 all-on g (t ∷ ts) h zero l = omega (arith, outside-means g t (and-true (outside g t) (allOutside g ts) h .0) .on)

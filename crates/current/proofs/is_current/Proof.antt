@@ -24,6 +24,9 @@ returns-2 : tie.Need-returns-2
 returns-2 c e marks table sequence count =
     held-sequence _ _ _ (c .before .before .before .held .given .1) count sequence (c .before .if1 .left) (c .if2 .taken)
 
+cast-from : tie.Need-cast-from
+cast-from c = search needs
+
 mul-from : tie.Need-mul-from
 mul-from c = search needs
 
@@ -42,10 +45,10 @@ part-is-same-end c = search needs
 is-same-requires : tie.Need-is-same-requires
 unfolding sector
 is-same-requires c κs =
-    let z = c .before .before .before .before .before .before .before .before in
-    let is = part-sector (z .args .disc .now) [] (z .args .at) in
-    let within : 2048 * z .args .at + 2048 ≤ length (z .args .disc .now) = z .pre .0 .0 in (
-      ap length is ∙ length-part (z .args .disc .now) (2048 * z .args .at) 2048 within,
+    let z = c .before .before .before .before .before .before .before .before .before in
+    let is = part-sector (z .args .disc .now) [] (z .args .at .0) in
+    let within : 2048 * z .args .at .0 + 2048 ≤ length (z .args .disc .now) = z .pre .0 .0 in (
+      ap length is ∙ length-part (z .args .disc .now) (2048 * z .args .at .0) 2048 within,
       (z .pre .1 .0 [] ∙ sym (ap countIn is), z .pre .1 .1 .0, z .pre .1 .1 .1),
     )
 
@@ -55,10 +58,10 @@ returns-3 c e marks table sequence count = held-other _ _ _ (c .enum-told .given
 returns-4 : tie.Need-returns-4
 unfolding tableAt
 returns-4 c e marks table sequence count =
-    let z = c .before .before .before .before .before .before .before .before .before in
-    held-table _ _ _ (c .before .before .before .before .before .held .given .1) count sequence (c .before .before .before .if1 .left) (c .before .before .if2 .left)
+    let z = c .before .before .before .before .before .before .before .before .before .before in
+    held-table _ _ _ (c .before .before .before .before .before .before .held .given .1) count sequence (c .before .before .before .before .if1 .left) (c .before .before .before .if2 .left)
     (c .is-same .ensures)
-    (ap tableIn (part-sector (z .args .disc .now) marks (z .args .at)) ∙ table)
+    (ap tableIn (part-sector (z .args .disc .now) marks (z .args .at .0)) ∙ table)
 
 pub is-current-spec : {M : Type 1} → statement M
 is-current-spec =
@@ -68,6 +71,7 @@ is-current-spec =
     enum-known-held
     returns
     returns-2
+    cast-from
     mul-from
     add-to
     sub-is-same

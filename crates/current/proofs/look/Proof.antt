@@ -24,8 +24,8 @@ turned-down-requires c κs = search needs
 
 returns : tie.Need-returns
 returns c =
-    let z = c .before .before .before .before .before .before .before .before in
-    look-examined (settingOf z) (discOf z) _ (c .before .before .before .before .examine .ensures) (c .before .before .verdict .given .1) (c .turned-down .ensures)
+    let z = c .before .before .before .before .before .before .before .before .before in
+    look-examined (settingOf z) (discOf z) _ (c .before .before .before .before .before .examine .ensures) (c .before .before .verdict .given .1) (c .turned-down .ensures)
 
 enum-told : tie.Need-enum-told
 enum-told c = search needs
@@ -41,24 +41,24 @@ enum-known-kind c = search needs
 
 layout-of-requires : tie.Need-layout-of-requires
 layout-of-requires c κs =
-    let z = c .before .before .before .before .before .before .before .before .before .before .before in
-    look-most (settingOf z) (discOf z) _ (c .before .before .before .before .before .before .before .examine .ensures) (c .before .before .before .before .before .enum-told .given .1)
+    let z = c .before .before .before .before .before .before .before .before .before .before in
+    look-most (settingOf z) (discOf z) _ (c .before .before .before .before .before .before .examine .ensures) (c .before .before .before .enum-told .given .1)
 
 find-current-requires : tie.Need-find-current-requires
 find-current-requires c κs =
-    let z = c .before .before .before .before .before .before .before .before .before .before .before .before in
-    let n = look-layout (settingOf z) (discOf z) _ (c .before .before .before .before .before .before .before .before .examine .ensures) (c .before .before .before .before .before .before .enum-told .given .1) (c .before .before .kind .given .1) (c .layout-of .result) (c .layout-of .ensures .0) (c .layout-of .ensures .1) in
+    let z = c .before .before .before .before .before .before .before .before .before .before .before in
+    let n = look-layout (settingOf z) (discOf z) _ (c .before .before .before .before .before .before .before .examine .ensures) (c .before .before .before .before .enum-told .given .1) (c .before .before .kind .given .1) (c .layout-of .result) (c .layout-of .ensures .0) (c .layout-of .ensures .1) in
     ((n .0, n .1), (n .2, (n .3, n .4)))
 
 returns-2 : tie.Need-returns-2
 returns-2 c =
-    let z = c .before .before .before .before .before .before .before .before .before .before .before in
-    look-other (settingOf z) (discOf z) _ (c .before .before .before .before .before .before .before .examine .ensures) (c .before .before .before .before .before .enum-told .given .1) (c .before .enum-told2 .given .1) (c .turned-down2 .ensures)
+    let z = c .before .before .before .before .before .before .before .before .before .before in
+    look-other (settingOf z) (discOf z) _ (c .before .before .before .before .before .before .examine .ensures) (c .before .before .before .enum-told .given .1) (c .before .enum-told2 .given .1) (c .turned-down2 .ensures)
 
 returns-3 : tie.Need-returns-3
 returns-3 c =
     let z = c .before .before .before .before .before .before .before .before .before .before .before .before .before in
-    look-found (settingOf z) (discOf z) _ (c .before .before .before .before .before .before .before .before .before .examine .ensures) (c .before .before .before .before .before .before .before .enum-told .given .1) (c .before .before .before .kind .given .1) (c .before .layout-of .result) (c .before .layout-of .ensures .0) (c .before .layout-of .ensures .1) (c .find-current .ensures)
+    look-found (settingOf z) (discOf z) _ (c .before .before .before .before .before .before .before .before .before .examine .ensures) (c .before .before .before .before .before .before .enum-told .given .1) (c .before .before .before .before .kind .given .1) (c .before .before .layout-of .result) (c .before .before .layout-of .ensures .0) (c .before .before .layout-of .ensures .1) (c .before .find-current .ensures)
 
 pub look-spec : {M : Type 1} → statement M
 look-spec =
