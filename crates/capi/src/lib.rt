@@ -385,7 +385,10 @@ fn write_rewritable(partition: u16, size: u32, tables: &[u32], out: &mut [u8]) -
     let c = number_at(tables, 2);
     let d = number_at(tables, 3);
     let volume = Volume {
-        span: Span { start: 0, length: 0 },
+        span: Span {
+            start: 0,
+            length: 0,
+        },
         kind: Kind::Rewritable {
             partition,
             tables: count,
@@ -402,7 +405,10 @@ fn write_once_maps(partition: u16, out: &mut [u8]) -> u32
     ensures { λ _. ⌜ ((size : ℕ) (tables : List ℕ) → now (out .exit) ≡ writtenOr (lentVerdict 0 partition size tables (now (out .entry))) (volumeFor 0 partition size tables) (now (out .entry))) ⌝ }
 {
     let volume = Volume {
-        span: Span { start: 0, length: 0 },
+        span: Span {
+            start: 0,
+            length: 0,
+        },
         kind: Kind::WriteOnce { partition },
         tables: [0; 4],
     };

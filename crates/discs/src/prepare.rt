@@ -1,5 +1,4 @@
 // Lines that prepare a call: what is handed, what stands on the disc, in the table and in the lent bytes.
-use address::Span;
 use crate::lent::Block;
 use crate::lent::Disc;
 use crate::lent::List;
@@ -9,6 +8,7 @@ use crate::lent::Table;
 use crate::line;
 use crate::state;
 use crate::state::State;
+use address::Span;
 use maps::Kind;
 use maps::Volume;
 
@@ -269,7 +269,10 @@ fn set(list: &mut [u8], at: usize, byte: u8) {
 
 fn write_once(list: &mut [u8]) {
     let volume = Volume {
-        span: Span { start: 0, length: 0 },
+        span: Span {
+            start: 0,
+            length: 0,
+        },
         kind: Kind::WriteOnce { partition: 7 },
         tables: [0; 4],
     };
@@ -284,7 +287,10 @@ fn rewritable(list: &mut [u8], words: &[u8]) {
         line::number(words, 6),
     ];
     let volume = Volume {
-        span: Span { start: 0, length: 0 },
+        span: Span {
+            start: 0,
+            length: 0,
+        },
         kind: Kind::Rewritable {
             partition: 7,
             tables: line::byte(words, 1),

@@ -179,7 +179,10 @@ fn stopped(why: Refusal) -> Examined
     Examined {
         verdict: Verdict::Stop(why),
         volume: Volume {
-            span: Span { start: 0, length: 0 },
+            span: Span {
+                start: 0,
+                length: 0,
+            },
             kind: Kind::WriteOnce { partition: 0 },
             tables: [0; 4],
         },
@@ -207,7 +210,10 @@ pub fn examine(disc: &[u8], marks: &[u8], maps: &[u8], s: u32, l: u32, lent: boo
         return stopped(why);
     }
     let mut volume = read.volume;
-    volume.span = Span { start: s, length: l };
+    volume.span = Span {
+        start: s,
+        length: l,
+    };
     let kind = volume.kind;
     let tables = volume.tables;
     if !is_placed(marks.len(), s, l, kind, tables) {

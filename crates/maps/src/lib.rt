@@ -118,7 +118,10 @@ fn refused(why: Refusal) -> MapsRead
     MapsRead {
         verdict: Verdict::Stop(why),
         volume: Volume {
-            span: Span { start: 0, length: 0 },
+            span: Span {
+                start: 0,
+                length: 0,
+            },
             kind: Kind::WriteOnce { partition: 0 },
             tables: [0; 4],
         },
@@ -132,7 +135,10 @@ fn accepted(kind: Kind, tables: [u32; 4]) -> MapsRead
     MapsRead {
         verdict: Verdict::Go,
         volume: Volume {
-            span: Span { start: 0, length: 0 },
+            span: Span {
+                start: 0,
+                length: 0,
+            },
             kind,
             tables,
         },

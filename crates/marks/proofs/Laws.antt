@@ -1,6 +1,6 @@
 -- Laws of marks, for the loops over them. Assumes nothing.
 use Prim.Native.Nat.{ℕ, zero, suc, _+_, _-_, _≤_, _<_, max}
-use mathlib.Core.Path.{_≡_, refl, sym, ap, _∙_}
+use mathlib.Core.Path.{_≡_, refl, sym, ap, ap₂, _∙_}
 use mathlib.Core.Logic.{_≢_}
 use mathlib.Core.Bool.{Bool, true, false, _&&_, not}
 use mathlib.Core.List.{List, [], _∷_}
@@ -78,19 +78,20 @@ highest-known (x ∷ m) = larger-test x (highest m) ∙ ap (λ (t : Bool). leb x
 
 -- ---- NWA
 
--- looking down, a blank sector is passed,
-pub blank-below : (d : Disc) (s k : ℕ) → 0 < k → getD (d .marks) (s + (k - 1)) 0 ≡ 0 → nwa d s (k - 1) ≡ nwa d s k
+-- looking down (`at` is the sector that a translation gave), a blank sector is passed,
+pub blank-below : (d : Disc) (s k : ℕ) {at : ℕ} → 0 < k → at ≡ s + (k - 1) → getD (d .marks) at 0 ≡ 0 → nwa d s (k - 1) ≡ nwa d s k
 unfolding nwa mark
-blank-below d s k h e =
+blank-below d s k h there e =
     let q : k ≡ suc (k - 1) = omega arith in
-    sym (ap (nwa d s) q ∙ simp (eq-eqb _ _ e))
+    sym (ap (nwa d s) q ∙ simp (eq-eqb _ _ (ap (λ (p : ℕ). getD (d .marks) p 0) (sym there) ∙ e)))
 
 -- one that is not blank ends the search,
-pub used-below : (d : Disc) (s k : ℕ) → 0 < k → getD (d .marks) (s + (k - 1)) 0 ≢ 0 → k ≡ nwa d s k
+pub used-below : (d : Disc) (s k : ℕ) {at : ℕ} → 0 < k → at ≡ s + (k - 1) → getD (d .marks) at 0 ≢ 0 → k ≡ nwa d s k
 unfolding nwa mark
-used-below d s k h e =
+used-below d s k h there e =
     let q : k ≡ suc (k - 1) = omega arith in
-    q ∙ sym (ap (nwa d s) q ∙ simp (ne-eqb _ _ e))
+    let used : getD (d .marks) (s + (k - 1)) 0 ≢ 0 = λ z. e (ap (λ (p : ℕ). getD (d .marks) p 0) there ∙ z) in
+    q ∙ sym (ap (nwa d s) q ∙ simp (ne-eqb _ _ used))
 
 -- and where all are blank it is 0
 pub none-below : (d : Disc) (s k : ℕ) → k ≤ 0 → 0 ≡ nwa d s k
@@ -100,6 +101,10 @@ none-below d s k h = let q : k ≡ 0 = omega arith in rw q
 -- the marks from a up to b, as they are lent
 abbrev pub between : List ℕ → ℕ → ℕ → List ℕ
 between m a b = take (b - a) (drop a m)
+
+-- the highest of those between the sectors that a translation gave
+pub between-there : (m : List ℕ) {top low high a b : ℕ} → low ≡ a → high ≡ b → top ≡ highest (between m low high) → top ≡ highest (between m a b)
+between-there m p q e = e ∙ ap₂ (λ (x y : ℕ). highest (between m x y)) p q
 
 -- of the partition's marks from block n on, mark i is that of block n + i;
 between-at : (m : List ℕ) (s n l i : ℕ) → i < l - n → getD (between m (s + n) (s + l)) i 0 ≡ getD m (s + (n + i)) 0
@@ -157,10 +162,10 @@ unfolding mark
 below-blank d s l n ne e q = nwa-last d s l (omega arith) (ap (λ (x : ℕ). getD (d .marks) (s + (x - 1)) 0) (sym q) ∙ e)
 
 -- and so another is, if all is blank from there on, just if the sector below it is not
-pub from-below : (d : Disc) (s l n top : ℕ) → top ≡ highest (between (d .marks) (s + n) (s + l)) → top ≡ 0 → n ≤ l → n ≢ 0 → not (eqb (getD (d .marks) (s + n - 1) 0) 0) ≡ eqb n (nwa d s l)
+pub from-below : (d : Disc) (s l n top : ℕ) → top ≡ highest (between (d .marks) (s + n) (s + l)) → top ≡ 0 → n ≤ l → n ≢ 0 → {at : ℕ} → at ≡ s + n → not (eqb (getD (d .marks) (at - 1) 0) 0) ≡ eqb n (nwa d s l)
 unfolding mark
-from-below d s l n top q z h ne =
-    let f : s + n - 1 ≡ s + (n - 1) = omega arith in
+from-below d s l n top q z h ne {at} there =
+    let f : at - 1 ≡ s + (n - 1) = omega arith in
     ap (λ (x : ℕ). not (eqb (getD (d .marks) x 0) 0)) f
     ∙ by-eq (getD (d .marks) (s + (n - 1)) 0) 0
     (λ e. ap not (eq-eqb _ _ e) ∙ sym (ne-eqb _ _ (below-blank d s l n ne e)))

@@ -3,6 +3,8 @@
 // The layers above count on the equations: each function gives what the definition of its name gives.
 // All functions here are inside the layers. Line 1 and line 2 ask for nothing; the others are called where
 // those two have been tested, and say in a `requires` what they take from them.
+use address::LogicalAddress;
+use address::PhysicalAddress;
 ghost use mathlib.Core.Path.{_≡_};
 ghost use mathlib.Core.List.{List};
 ghost use Prim.Native.Nat.{ℕ, _+_, _*_, _≤_, _<_, max};
@@ -133,8 +135,8 @@ fn skip_blank(marks: &[u8], s: u32, l: u32, step: u32) -> u32
     let mut k = l;
     while step <= k {
         let below = k - step;
-        let low = (s + below) as usize;
-        let high = (s + k) as usize;
+        let low = address::sector_of(s, LogicalAddress(below)).0 as usize;
+        let high = address::sector_of(s, LogicalAddress(k)).0 as usize;
         if highest_mark(&marks[low..high]) != BLANK {
             return k;
         }
@@ -145,59 +147,62 @@ fn skip_blank(marks: &[u8], s: u32, l: u32, step: u32) -> u32
 
 // NWA: the block one past the partition's last sector that is not blank. It looks down from the end.
 // Inside the layers: lines 1 and 2 have been tested.
-pub fn next_writable(marks: &[u8], s: u32, l: u32) -> u32
+pub fn next_writable(marks: &[u8], s: u32, l: u32) -> LogicalAddress
     requires { ⌜ s + l ≤ length (now marks) ⌝ }
     requires { ⌜ length (now marks) ≤ 1048576 ⌝ }
-    ensures { λ r. ⌜ ((bytes : List ℕ) → r ≡ nwa (discOf bytes (now (marks .entry))) s l) ⌝ }
+    ensures { λ r. ⌜ ((bytes : List ℕ) → r .0 ≡ nwa (discOf bytes (now (marks .entry))) s l) ⌝ }
 {
     let far = skip_blank(marks, s, l, LONGEST_STEP);
     let near = skip_blank(marks, s, far, LONG_STEP);
     let mut k = skip_blank(marks, s, near, SHORT_STEP);
     while 0 < k {
         let below = k - 1;
-        if marks[(s + below) as usize] != BLANK {
-            return k;
+        let at = address::sector_of(s, LogicalAddress(below)).0 as usize;
+        if marks[at] != BLANK {
+            return LogicalAddress(k);
         }
         k = below;
     }
-    0
+    LogicalAddress(0)
 }
 
 // Whether NWA is `next`: all is blank from there on, and the sector below is not. No mark below that is
 // looked at. Inside the layers: lines 1 and 2 have been tested.
-pub fn is_next(marks: &[u8], s: u32, l: u32, next: u32) -> bool
+pub fn is_next(marks: &[u8], s: u32, l: u32, next: LogicalAddress) -> bool
     requires { ⌜ s + l ≤ length (now marks) ⌝ }
     requires { ⌜ length (now marks) ≤ 1048576 ⌝ }
-    ensures { λ r. ⌜ ((bytes : List ℕ) → r ≡ eqb next (nwa (discOf bytes (now (marks .entry))) s l)) ⌝ }
+    ensures { λ r. ⌜ ((bytes : List ℕ) → r ≡ eqb (next .0) (nwa (discOf bytes (now (marks .entry))) s l)) ⌝ }
 {
-    if l < next {
+    if l < next.0 {
         return false;
     }
-    let from = (s + next) as usize;
-    let to = (s + l) as usize;
+    let from = address::sector_of(s, next).0 as usize;
+    let to = address::sector_of(s, LogicalAddress(l)).0 as usize;
     if highest_mark(&marks[from..to]) != BLANK {
         return false;
     }
-    if next == 0 {
+    if next.0 == 0 {
         return true;
     }
     marks[from - 1] != BLANK
 }
 
 // Whether a sector is recorded. Inside the layers: it is one of the disc's.
-pub fn is_recorded(marks: &[u8], at: usize) -> bool
-    requires { ⌜ at < length (now marks) ⌝ }
-    ensures { λ r. ⌜ ((bytes : List ℕ) → r ≡ recorded (discOf bytes (now (marks .entry))) at) ⌝ }
+pub fn is_recorded(marks: &[u8], at: PhysicalAddress) -> bool
+    requires { ⌜ at .0 < length (now marks) ⌝ }
+    ensures { λ r. ⌜ ((bytes : List ℕ) → r ≡ recorded (discOf bytes (now (marks .entry))) (at .0)) ⌝ }
 {
+    let at = at.0 as usize;
     marks[at] == RECORDED
 }
 
 // Whether each of `count` sectors from `from` on is recorded. It looks at each, with no early way out.
 // Inside the layers: they are the disc's.
-pub fn all_recorded(marks: &[u8], from: usize, count: usize) -> bool
-    requires { ⌜ from + count ≤ length (now marks) ⌝ }
-    ensures { λ r. ⌜ ((bytes : List ℕ) → r ≡ recordedRun (discOf bytes (now (marks .entry))) from count) ⌝ }
+pub fn all_recorded(marks: &[u8], from: PhysicalAddress, count: usize) -> bool
+    requires { ⌜ from .0 + count ≤ length (now marks) ⌝ }
+    ensures { λ r. ⌜ ((bytes : List ℕ) → r ≡ recordedRun (discOf bytes (now (marks .entry))) (from .0) count) ⌝ }
 {
+    let from = from.0 as usize;
     let mut all = true;
     let mut i: usize = 0;
     while i < count {

@@ -6,7 +6,10 @@ use refusal::Verdict;
 
 pub fn write_once(partition: u16) -> Volume {
     Volume {
-        span: Span { start: 0, length: 0 },
+        span: Span {
+            start: 0,
+            length: 0,
+        },
         kind: Kind::WriteOnce { partition },
         tables: [0; 4],
     }
@@ -14,7 +17,10 @@ pub fn write_once(partition: u16) -> Volume {
 
 pub fn rewritable(partition: u16, tables: u8, size: u32, sectors: [u32; 4]) -> Volume {
     Volume {
-        span: Span { start: 0, length: 0 },
+        span: Span {
+            start: 0,
+            length: 0,
+        },
         kind: Kind::Rewritable {
             partition,
             tables,

@@ -13,11 +13,14 @@ use Rattle.marks.proofs.all_recorded.Statement.{statement}
 use Rattle.marks.proofs.all_recorded.Tie as tie
 
 abbrev Inv-loop : tie.InvT-loop
-Inv-loop marks from count all₀ i₀ all i =
+Inv-loop marks count from all₀ i₀ all i =
     (i ≤ count) × ((bytes : List ℕ) → all && recordedRun (disc bytes marks) (from + i) (count - i) ≡ recordedRun (disc bytes marks) from count)
 
 abbrev μ-loop : tie.MeasureT-loop
-μ-loop marks from count all₀ i₀ all i = count - i
+μ-loop marks count from all₀ i₀ all i = count - i
+
+cast-from : tie.Need-cast-from Inv-loop μ-loop
+cast-from c = search needs
 
 loop-holds : tie.Need-loop-holds Inv-loop μ-loop
 loop-holds c = (omega arith, λ bytes. recorded-first _ _ _)
@@ -52,6 +55,7 @@ all-recorded-spec =
     (tie.spec
     Inv-loop
     μ-loop
+    cast-from
     loop-holds
     add-if1
     shared-slice-read-if1

@@ -1,20 +1,20 @@
 -- `marks::is_next` meets its contract. Assumes nothing.
 use borrow.Author.Needs.{needs}
-use Rattle.marks.proofs.Laws.{not-past, not-blank, from-start, from-below}
+use Rattle.marks.proofs.Laws.{not-past, not-blank, from-start, from-below, between-there}
 use Rattle.marks.proofs.is_next.Statement.{statement}
 use Rattle.marks.proofs.is_next.Tie as tie
 
 returns : tie.Need-returns
 returns c bytes = not-past _ _ _ _ (c .if1 .taken)
 
-add-from : tie.Need-add-from
-add-from c = search needs
+sector-of-requires : tie.Need-sector-of-requires
+sector-of-requires c κs = search needs
 
 cast-from : tie.Need-cast-from
 cast-from c = search needs
 
-add-to : tie.Need-add-to
-add-to c = search needs
+sector-of-requires-2 : tie.Need-sector-of-requires-2
+sector-of-requires-2 c κs = search needs
 
 cast-to : tie.Need-cast-to
 cast-to c = search needs
@@ -32,11 +32,14 @@ highest-mark-requires : tie.Need-highest-mark-requires
 highest-mark-requires c κs = search needs
 
 returns-2 : tie.Need-returns-2
-returns-2 c bytes = not-blank _ _ _ _ _ (c .before .highest-mark .ensures) (c .if2 .taken)
+returns-2 c bytes =
+    let t = c .before in
+    not-blank _ _ _ _ _ (between-there _ (t .before .before .before .before .before .sector-of .ensures) (t .before .before .before .sector-of2 .ensures) (t .highest-mark .ensures)) (c .if2 .taken)
 
 returns-3 : tie.Need-returns-3
 returns-3 c bytes =
-    from-start _ _ _ _ _ (c .before .before .highest-mark .ensures) (c .before .if2 .left) (c .before .before .before .before .if1 .left) (c .if3 .taken)
+    let t = c .before .before .before in
+    from-start _ _ _ _ _ (between-there _ (t .before .before .before .before .before .sector-of .ensures) (t .before .before .before .sector-of2 .ensures) (t .highest-mark .ensures)) (c .before .before .if2 .left) (t .before .before .before .before .before .before .if1 .left) (c .if3 .taken)
 
 sub-result : tie.Need-sub-result
 sub-result c = search needs
@@ -46,17 +49,18 @@ shared-slice-read-result c = search needs
 
 returns-4 : tie.Need-returns-4
 returns-4 c bytes =
-    let at-mark = c .before .before .before in
-    from-below _ _ _ _ _ (at-mark .highest-mark .ensures) (c .before .before .if2 .left) (at-mark .before .before .if1 .left) (c .before .if3 .left)
+    let t = c .before .before .before .before in
+    let from = t .before .before .before .before .before .sector-of .ensures in
+    from-below _ _ _ _ _ (between-there _ from (t .before .before .before .sector-of2 .ensures) (t .highest-mark .ensures)) (c .before .before .before .if2 .left) (t .before .before .before .before .before .before .if1 .left) (c .before .if3 .left) from
 
 pub is-next-spec : {M : Type 1} → statement M
 is-next-spec =
     tie.close
     (tie.spec
     returns
-    add-from
+    sector-of-requires
     cast-from
-    add-to
+    sector-of-requires-2
     cast-to
     sub-highest-mark
     part-highest-mark-start

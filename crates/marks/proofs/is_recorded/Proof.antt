@@ -5,6 +5,9 @@ use Rattle.model.specs.Disc.{mark, recorded}
 use Rattle.marks.proofs.is_recorded.Statement.{statement}
 use Rattle.marks.proofs.is_recorded.Tie as tie
 
+cast-at : tie.Need-cast-at
+cast-at c = search needs
+
 shared-slice-read-result : tie.Need-shared-slice-read-result
 shared-slice-read-result c = search needs
 
@@ -13,4 +16,4 @@ unfolding recorded mark
 returns c bytes = refl
 
 pub is-recorded-spec : {M : Type 1} → statement M
-is-recorded-spec = tie.close (tie.spec shared-slice-read-result returns)
+is-recorded-spec = tie.close (tie.spec cast-at shared-slice-read-result returns)

@@ -34,17 +34,17 @@ loop-holds c =
 sub-below : tie.Need-sub-below Inv-loop μ-loop
 sub-below c = search needs
 
-add-if1 : tie.Need-add-if1 Inv-loop μ-loop
-add-if1 c = search needs
+sector-of-requires : tie.Need-sector-of-requires Inv-loop μ-loop
+sector-of-requires c κs = search needs
 
-cast-if1 : tie.Need-cast-if1 Inv-loop μ-loop
-cast-if1 c = search needs
+cast-at : tie.Need-cast-at Inv-loop μ-loop
+cast-at c = search needs
 
 shared-slice-read-if1 : tie.Need-shared-slice-read-if1 Inv-loop μ-loop
 shared-slice-read-if1 c = search needs
 
 returns : tie.Need-returns Inv-loop μ-loop
-returns c bytes = used-below _ _ _ (c .before .before .loop-test .taken) (c .if1 .taken) ∙ c .before .before .before .loop .inv .1 bytes
+returns c bytes = used-below _ _ _ (c .before .before .before .before .loop-test .taken) (c .before .before .before .sector-of .ensures) (c .if1 .taken) ∙ c .before .before .before .before .before .loop .inv .1 bytes
 
 loop-less : tie.Need-loop-less Inv-loop μ-loop
 loop-less c = search needs
@@ -52,7 +52,7 @@ loop-less c = search needs
 loop-again : tie.Need-loop-again Inv-loop μ-loop
 loop-again c = (
   omega arith,
-  λ bytes. blank-below _ _ _ (c .before .before .loop-test .taken) (c .if1 .left) ∙ c .before .before .before .loop .inv .1 bytes,
+  λ bytes. blank-below _ _ _ (c .before .before .before .before .loop-test .taken) (c .before .before .before .sector-of .ensures) (c .if1 .left) ∙ c .before .before .before .before .before .loop .inv .1 bytes,
 )
 
 returns-2 : tie.Need-returns-2 Inv-loop μ-loop
@@ -69,8 +69,8 @@ next-writable-spec =
     skip-blank-requires-3
     loop-holds
     sub-below
-    add-if1
-    cast-if1
+    sector-of-requires
+    cast-at
     shared-slice-read-if1
     returns
     loop-less

@@ -5,7 +5,7 @@ use mathlib.Core.Path.{_≡_, refl, _∙_}
 use mathlib.Core.List.{List}
 use native.Mathlib.Omega.{arith}
 use Rattle.model.specs.Disc.{disc, nwa}
-use Rattle.marks.proofs.Laws.{blanks-below}
+use Rattle.marks.proofs.Laws.{blanks-below, between-there}
 use Rattle.marks.proofs.skip_blank.Statement.{statement}
 use Rattle.marks.proofs.skip_blank.Tie as tie
 
@@ -18,14 +18,14 @@ abbrev μ-loop : tie.MeasureT-loop
 loop-holds : tie.Need-loop-holds Inv-loop μ-loop
 loop-holds c = (omega arith, λ bytes. refl)
 
-add-low : tie.Need-add-low Inv-loop μ-loop
-add-low c = search needs
+sector-of-requires : tie.Need-sector-of-requires Inv-loop μ-loop
+sector-of-requires c κs = search needs
 
 cast-low : tie.Need-cast-low Inv-loop μ-loop
 cast-low c = search needs
 
-add-high : tie.Need-add-high Inv-loop μ-loop
-add-high c = search needs
+sector-of-requires-2 : tie.Need-sector-of-requires-2 Inv-loop μ-loop
+sector-of-requires-2 c κs = search needs
 
 cast-high : tie.Need-cast-high Inv-loop μ-loop
 cast-high c = search needs
@@ -43,16 +43,17 @@ highest-mark-requires : tie.Need-highest-mark-requires Inv-loop μ-loop
 highest-mark-requires c κs = search needs
 
 returns : tie.Need-returns Inv-loop μ-loop
-returns c = c .before .before .before .before .loop .inv
+returns c = c .before .before .before .before .before .before .before .before .loop .inv
 
 loop-less : tie.Need-loop-less Inv-loop μ-loop
 loop-less c = search needs
 
 loop-again : tie.Need-loop-again Inv-loop μ-loop
-loop-again c = (
-  omega arith,
-  λ bytes. blanks-below _ _ _ _ _ (omega arith) (c .before .highest-mark .ensures) (c .if1 .left) ∙ c .before .before .before .before .loop .inv .1 bytes,
-)
+loop-again c =
+    let v = c .before .before .before .before in (
+      omega arith,
+      λ bytes. blanks-below _ _ _ _ _ (omega arith) (between-there _ (v .before .before .sector-of .ensures) (v .sector-of2 .ensures) (c .before .highest-mark .ensures)) (c .if1 .left) ∙ c .before .before .before .before .before .before .before .before .loop .inv .1 bytes,
+    )
 
 returns-2 : tie.Need-returns-2 Inv-loop μ-loop
 returns-2 c = c .before .loop .inv
@@ -64,9 +65,9 @@ skip-blank-spec =
     Inv-loop
     μ-loop
     loop-holds
-    add-low
+    sector-of-requires
     cast-low
-    add-high
+    sector-of-requires-2
     cast-high
     sub-highest-mark
     part-highest-mark-start
