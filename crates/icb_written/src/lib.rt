@@ -134,8 +134,8 @@ fn write_allocation(
     }
     fields_written::clear(rest);
     fields_written::write32(rest, EXTENT_LENGTH_AT, vat_written::file_bytes(n));
-    let block = LogicalAddress(k.0 - vat_written::data_sectors(n));
-    fields_written::write32(rest, EXTENT_BLOCK_AT, block.0);
+    let block = k.0 - vat_written::data_sectors(n);
+    fields_written::write32(rest, EXTENT_BLOCK_AT, block);
 }
 
 // Writes the tag of a File Entry at logical block k, with this CRC of so many bytes; the checksum last.
