@@ -230,7 +230,13 @@ pub fn block_at(icb: &[u8], i: usize) -> LogicalAddress
 }
 
 // Whether an extent is short enough, ends at `k` at most, and is recorded.
-pub fn extent_fits(marks: &[u8], s: u32, k: LogicalAddress, size: u32, block: LogicalAddress) -> bool
+pub fn extent_fits(
+    marks: &[u8],
+    s: u32,
+    k: LogicalAddress,
+    size: u32,
+    block: LogicalAddress,
+) -> bool
     requires { ⌜ (s + k .0 ≤ length (now marks)) × (length (now marks) ≤ 1048576) ⌝ }
     ensures { λ r. ⌜ ((bytes : List ℕ) → r ≡ extentFits (discOf bytes (now (marks .entry))) s (k .0) size (block .0)) ⌝ }
 {

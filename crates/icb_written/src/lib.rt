@@ -116,13 +116,7 @@ fn write_entry(front: &mut [u8], n: u32)
 
 // Writes the allocation of the first n entries, for an ICB at logical block k: the file, or one extent
 // directly below k.
-fn write_allocation(
-    rest: &mut [u8],
-    k: LogicalAddress,
-    t: &[u32],
-    n: u32,
-    previous: LogicalAddress,
-)
+fn write_allocation(rest: &mut [u8], k: LogicalAddress, t: &[u32], n: u32, previous: LogicalAddress)
     requires { ⌜ length (now rest) ≡ 1872 ⌝ }
     requires { ⌜ (n ≤ 4096) × (n ≤ length (now t)) ⌝ }
     requires { ⌜ dataSectors n ≤ k .0 ⌝ }
@@ -154,13 +148,7 @@ fn write_tag(front: &mut [u8], k: LogicalAddress, crc: u16, covered: u16)
 }
 
 // Writes the ICB at logical block k of the VAT of the first n entries.
-pub fn write_icb(
-    sector: &mut [u8],
-    k: LogicalAddress,
-    t: &[u32],
-    n: u32,
-    previous: LogicalAddress,
-)
+pub fn write_icb(sector: &mut [u8], k: LogicalAddress, t: &[u32], n: u32, previous: LogicalAddress)
     requires { ⌜ length (now sector) ≡ 2048 ⌝ }
     requires { ⌜ (n ≤ 4096) × (n ≤ length (now t)) ⌝ }
     requires { ⌜ dataSectors n ≤ k .0 ⌝ }
