@@ -33,7 +33,7 @@ use Rattle.model.specs.Once.{nextOn, heldFits, onceVerdict}
 use Rattle.model.proofs.Basics.{by-eq, and-false, and-false-left, or-left}
 use Rattle.model.proofs.Verdicts.{Examined as Told, examined-tells}
 use Rattle.examine.specs.declared.Examined.{Examined}
-use Rattle.examine.specs.Ground.{groundOf, placedOf, spanned, handedOn, examinedOf}
+use Rattle.examine.specs.Ground.{groundOf, placedOf, spanned, handedOn, examinedOf, JudgedOnce}
 
 -- ---- the first n elements of a list, from place i on
 
@@ -85,15 +85,15 @@ pub outside-all : (g : Geometry) (n : ℕ) (l : List ℕ) → allOutside g (take
 outside-all g n l = ap (allOutside g) (left-all n l)
 
 module _ (g : Geometry) (n i : ℕ) (l : List ℕ) where
-  -- one that is not outside
-  pub outside-stop : i < n → i < length l → outside g (getD l i 0) ≡ false → false ≡ allOutside g (take (n - i) (drop i l))
+  -- one that is not outside (m is the sector that a translation gave)
+  pub outside-stop : {m : ℕ} → i < n → i < length l → m ≡ getD l i 0 → outside g m ≡ false → false ≡ allOutside g (take (n - i) (drop i l))
   unfolding allOutside
-  outside-stop h k e = sym (ap (allOutside g) (left-next n i l h k) ∙ rw e)
+  outside-stop h k q e = let o = ap (outside g) (sym q) ∙ e in sym (ap (allOutside g) (left-next n i l h k) ∙ rw o)
 
   -- one that is
-  pub outside-next : i < n → i < length l → outside g (getD l i 0) ≡ true → allOutside g (take (n - (i + 1)) (drop (i + 1) l)) ≡ allOutside g (take (n - i) (drop i l))
+  pub outside-next : {m : ℕ} → i < n → i < length l → m ≡ getD l i 0 → outside g m ≡ true → allOutside g (take (n - (i + 1)) (drop (i + 1) l)) ≡ allOutside g (take (n - i) (drop i l))
   unfolding allOutside
-  outside-next h k e = sym (ap (allOutside g) (left-next n i l h k) ∙ rw e)
+  outside-next h k q e = let o = ap (outside g) (sym q) ∙ e in sym (ap (allOutside g) (left-next n i l h k) ∙ rw o)
 
   -- none is left
   pub outside-none : n ≤ i → true ≡ allOutside g (take (n - i) (drop i l))
@@ -346,6 +346,10 @@ module _ (e : Setting) (d : Disc) (lent : Bool) {r : Examined} (q : r ≡ examin
 
 -- ---- lines 1 to 7 and 11 of the calls on a write-once disc
 
+-- a call that is turned down does not go on
+stop-goes : (why : Refusal) → Stop why ≡ Go → ⊥
+stop-goes why e = let z : _≡_ {A = ℕ} 0 1 = cc in absurd (omega arith)
+
 -- a verdict and two tests, before others
 own-after : (v : Verdict) (a b : Bool) (x y : Refusal) (own : List Test) → andThen v (first (test a x ∷ test b y ∷ own)) ≡ andThen (andThen v (first (test a x ∷ test b y ∷ []))) (first own)
 unfolding need
@@ -400,3 +404,23 @@ module _ (e : Setting) (d : Disc) (t : List ℕ) (lent : Bool) (held : Record) w
           let w = seen-once e d lent q h is in
           let k = sym f ∙ x in
           rw (v, w, k)
+
+      -- and then the span of the volume is the one given
+      pub once-judged : {x : Examined} → x .verdict ≡ Go → x .volume ≡ r .volume → Go ≡ onceVerdict e d t lent held [] → JudgedOnce e d t lent held x
+      once-judged go same says =
+          let v = same ∙ seen-volume e d lent q h in
+          record {
+            verdict = go ∙ says;
+            start = λ _. ap (λ (w : Volume). w .span .start) v;
+            length = λ _. ap (λ (w : Volume). w .span .length) v;
+          }
+
+  -- a call that is turned down has no span
+  pub once-stopped : {x : Examined} {why : Refusal} → x ≡ handedOn (Stop why) noVolume → Stop why ≡ onceVerdict e d t lent held [] → JudgedOnce e d t lent held x
+  once-stopped q says =
+      let stop = ap (λ (y : Examined). y .verdict) q ∙ handed-verdict (Stop _) noVolume in
+      record {
+        verdict = stop ∙ says;
+        start = λ go. absurd (stop-goes _ (sym stop ∙ go));
+        length = λ go. absurd (stop-goes _ (sym stop ∙ go));
+      }

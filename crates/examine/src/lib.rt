@@ -2,6 +2,9 @@
 // for all calls of both kinds; and lines 7 and 11 of the calls on a write-once disc.
 // The calls above match the verdict, and go on with the volume and their own tests.
 // All functions here are inside the layers: where one has a `requires`, the callers have tested it.
+use address::LogicalAddress;
+use address::MediaBlockAddress;
+use address::PhysicalAddress;
 use address::Span;
 use maps::Kind;
 use maps::Volume;
@@ -21,8 +24,8 @@ ghost use Rattle.model.specs.Disc.{disc as discOf};
 ghost use Rattle.model.specs.Sparing.{outside};
 ghost use Rattle.model.specs.Vat.{allBelow};
 ghost use Rattle.model.specs.Examine.{setting, allOutside, aligned, lentTable};
-ghost use Rattle.model.specs.Once.{entriesHeld, nextHeld, lastHeld, heldFits, onceVerdict};
-ghost use Rattle.examine.specs.Ground.{groundOf, placedOf, handedOn, examinedOf};
+ghost use Rattle.model.specs.Once.{entriesHeld, nextHeld, lastHeld, heldFits};
+ghost use Rattle.examine.specs.Ground.{groundOf, placedOf, handedOn, examinedOf, JudgedOnce};
 
 // The sectors of a packet.
 const PACKET: u64 = 32;
@@ -76,46 +79,46 @@ pub fn entries_held(held: Record) -> u32
 }
 
 // NWA, 0 of a record of the other kind.
-pub fn next_held(held: Record) -> u32
-    ensures { λ r. ⌜ r ≡ nextHeld held ⌝ }
+pub fn next_held(held: Record) -> LogicalAddress
+    ensures { λ r. ⌜ r .0 ≡ nextHeld held ⌝ }
 {
     match held {
         Record::WriteOnce {
             entries: _,
             next,
             last: _,
-        } => next,
+        } => LogicalAddress(next),
         Record::Rewritable {
             entries: _,
             sequence: _,
-        } => 0,
+        } => LogicalAddress(0),
     }
 }
 
 // The last ICB, 0 of a record of the other kind.
-pub fn last_held(held: Record) -> u32
-    ensures { λ r. ⌜ r ≡ lastHeld held ⌝ }
+pub fn last_held(held: Record) -> LogicalAddress
+    ensures { λ r. ⌜ r .0 ≡ lastHeld held ⌝ }
 {
     match held {
         Record::WriteOnce {
             entries: _,
             next: _,
             last,
-        } => last,
+        } => LogicalAddress(last),
         Record::Rewritable {
             entries: _,
             sequence: _,
-        } => 0,
+        } => LogicalAddress(0),
     }
 }
 
 // ---- lines 1 to 6
 
 // Whether the packet at m is a whole packet of the disc, outside the partition.
-fn is_outside(sectors: usize, s: u32, l: u32, m: u32) -> bool
-    ensures { λ r. ⌜ r ≡ outside (groundOf s l sectors [] 0) m ⌝ }
+fn is_outside(sectors: usize, s: u32, l: u32, m: PhysicalAddress) -> bool
+    ensures { λ r. ⌜ r ≡ outside (groundOf s l sectors [] 0) (m .0) ⌝ }
 {
-    let at = m as u64;
+    let at = m.0 as u64;
     if at % PACKET != 0 {
         return false;
     }
@@ -135,7 +138,8 @@ fn are_outside(sectors: usize, s: u32, l: u32, tables: [u32; 4], n: u8) -> bool
 {
     let mut i: usize = 0;
     while i < n as usize {
-        if !is_outside(sectors, s, l, tables[i]) {
+        let table = address::media_to_physical(MediaBlockAddress(tables[i]));
+        if !is_outside(sectors, s, l, table) {
             return false;
         }
         i += 1;
@@ -209,19 +213,19 @@ pub fn examine(disc: &[u8], marks: &[u8], maps: &[u8], s: u32, l: u32, lent: boo
     if let Verdict::Stop(why) = verdict {
         return stopped(why);
     }
-    let mut volume = read.volume;
-    volume.span = Span {
-        start: s,
-        length: l,
-    };
-    let kind = volume.kind;
-    let tables = volume.tables;
+    let found = read.volume;
+    let kind = found.kind;
+    let tables = found.tables;
     if !is_placed(marks.len(), s, l, kind, tables) {
         return stopped(Refusal::Misaligned);
     }
+    let span = Span {
+        start: s,
+        length: l,
+    };
     Examined {
         verdict: Verdict::Go,
-        volume,
+        volume: Volume { span, kind, tables },
     }
 }
 
@@ -234,10 +238,11 @@ fn one_past(entry: u32) -> u32
 
 // Whether each of the first n entries is unused or below NWA: one past it is at most NWA. It counts those that
 // are not, with no early way out.
-fn are_below(table: &[u32], n: u32, next: u32) -> bool
+fn are_below(table: &[u32], n: u32, next: LogicalAddress) -> bool
     requires { ⌜ n ≤ length (now table) ⌝ }
-    ensures { λ r. ⌜ r ≡ allBelow next (take n (now (table .entry))) ⌝ }
+    ensures { λ r. ⌜ r ≡ allBelow (next .0) (take n (now (table .entry))) ⌝ }
 {
+    let next = next.0;
     let mut over: u32 = 0;
     let mut i: usize = 0;
     while i < n as usize {
@@ -269,10 +274,10 @@ fn is_held(marks: &[u8], s: u32, l: u32, table: &[u32], held: Record) -> bool
             if next <= last {
                 return false;
             }
-            if !marks::is_next(marks, s, l, next) {
+            if !marks::is_next(marks, s, l, LogicalAddress(next)) {
                 return false;
             }
-            are_below(table, entries, next)
+            are_below(table, entries, LogicalAddress(next))
         }
         Record::Rewritable {
             entries: _,
@@ -281,8 +286,8 @@ fn is_held(marks: &[u8], s: u32, l: u32, table: &[u32], held: Record) -> bool
     }
 }
 
-// Lines 1 to 7 and 11 of the calls on a write-once disc but opening and making; `lent` says, of the table too,
-// whether the other lent slices have their lengths.
+// Lines 1 to 7 and 11 of the calls on a write-once disc but opening and making, and where they hold the volume with
+// its span; `lent` says, of the table too, whether the other lent slices have their lengths.
 pub fn judge_once(
     disc: &[u8],
     marks: &[u8],
@@ -292,14 +297,14 @@ pub fn judge_once(
     table: &[u32],
     lent: bool,
     held: Record,
-) -> Verdict
+) -> Examined
     requires { ⌜ (lent ≡ true → 4096 ≤ length (now table)) ⌝ }
-    ensures { λ r. ⌜ r ≡ onceVerdict (setting (now (maps .entry)) s l) (discOf (now (disc .entry)) (now (marks .entry))) (now (table .entry)) lent held [] ⌝ }
+    ensures { λ r. ⌜ JudgedOnce (setting (now (maps .entry)) s l) (discOf (now (disc .entry)) (now (marks .entry))) (now (table .entry)) lent held r ⌝ }
 {
     let seen = examine(disc, marks, maps, s, l, lent);
     let verdict = seen.verdict;
     if let Verdict::Stop(why) = verdict {
-        return Verdict::Stop(why);
+        return stopped(why);
     }
     let volume = seen.volume;
     let kind = volume.kind;
@@ -308,10 +313,13 @@ pub fn judge_once(
         tables: _,
         size: _,
     } = kind {
-        return Verdict::Stop(Refusal::OtherKind);
+        return stopped(Refusal::OtherKind);
     }
     if !is_held(marks, s, l, table, held) {
-        return Verdict::Stop(Refusal::StaleRecord);
+        return stopped(Refusal::StaleRecord);
     }
-    Verdict::Go
+    Examined {
+        verdict: Verdict::Go,
+        volume,
+    }
 }

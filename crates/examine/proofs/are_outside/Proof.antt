@@ -23,19 +23,22 @@ abbrev μ-loop : tie.MeasureT-loop
 loop-holds : tie.Need-loop-holds Inv-loop μ-loop
 loop-holds c = outside-all _ (c .args .n) (c .args .t4)
 
-mul-is-outside : tie.Need-mul-is-outside Inv-loop μ-loop
-mul-is-outside c = search needs
+mul-t9 : tie.Need-mul-t9 Inv-loop μ-loop
+mul-t9 c = search needs
 
-array-read-is-outside : tie.Need-array-read-is-outside Inv-loop μ-loop
-array-read-is-outside c = omega arith
+array-read-t13 : tie.Need-array-read-t13 Inv-loop μ-loop
+array-read-t13 c = search needs
+
+media-to-physical-requires : tie.Need-media-to-physical-requires Inv-loop μ-loop
+media-to-physical-requires c κs = search needs
 
 is-outside-requires : tie.Need-is-outside-requires Inv-loop μ-loop
 is-outside-requires c κs = search needs
 
 returns : tie.Need-returns Inv-loop μ-loop
 returns c =
-    let b = c .before .before in
-    outside-stop _ _ _ _ (b .loop-test .taken) (omega arith) (sym (c .before .is-outside .ensures) ∙ not-true _ (c .if1 .taken)) ∙ b .before .loop .inv
+    let b = c .before .before .before in
+    outside-stop _ _ _ _ (b .loop-test .taken) (omega arith) (c .before .before .media-to-physical .ensures) (sym (c .before .is-outside .ensures) ∙ not-true _ (c .if1 .taken)) ∙ b .before .loop .inv
 
 add-i : tie.Need-add-i Inv-loop μ-loop
 add-i c = search needs
@@ -45,8 +48,8 @@ loop-less c = search needs
 
 loop-again : tie.Need-loop-again Inv-loop μ-loop
 loop-again c =
-    let b = c .before .before in
-    outside-next _ _ _ _ (b .loop-test .taken) (omega arith) (sym (c .before .is-outside .ensures) ∙ not-false _ (c .if1 .left)) ∙ b .before .loop .inv
+    let b = c .before .before .before in
+    outside-next _ _ _ _ (b .loop-test .taken) (omega arith) (c .before .before .media-to-physical .ensures) (sym (c .before .is-outside .ensures) ∙ not-false _ (c .if1 .left)) ∙ b .before .loop .inv
 
 returns-2 : tie.Need-returns-2 Inv-loop μ-loop
 returns-2 c = outside-none _ _ _ _ (c .loop-test .left) ∙ c .before .loop .inv
@@ -58,8 +61,9 @@ are-outside-spec =
     Inv-loop
     μ-loop
     loop-holds
-    mul-is-outside
-    array-read-is-outside
+    mul-t9
+    array-read-t13
+    media-to-physical-requires
     is-outside-requires
     returns
     add-i

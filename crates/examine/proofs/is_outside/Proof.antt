@@ -4,6 +4,9 @@ use Rattle.examine.proofs.Laws.{outside-off, outside-past, outside-befo
 use Rattle.examine.proofs.is_outside.Statement.{statement}
 use Rattle.examine.proofs.is_outside.Tie as tie
 
+cast-at : tie.Need-cast-at
+cast-at c = search needs
+
 returns : tie.Need-returns
 returns c = outside-off _ _ (c .if1 .taken)
 
@@ -27,4 +30,4 @@ returns-4 c = outside-after _ _ (c .before .before .if1 .left) (c .before .if2 .
 
 pub is-outside-spec : {M : Type 1} → statement M
 is-outside-spec =
-    tie.close (tie.spec returns add-if2 returns-2 add-if3 returns-3 add-result returns-4)
+    tie.close (tie.spec cast-at returns add-if2 returns-2 add-if3 returns-3 add-result returns-4)
