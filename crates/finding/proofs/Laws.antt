@@ -9,14 +9,16 @@ use lib.ListN.{getD}
 use Rattle.fields.specs.Number.{field}
 use Rattle.fields.proofs.Laws.{field-part}
 use Rattle.maps.proofs.Tests.{fails, holds}
+use Rattle.address.specs.declared.LogicalAddress.{LogicalAddress}
 use Rattle.model.specs.Disc.{Disc, disc, sector, recorded}
 use Rattle.model.specs.Vat.{Found, icbAt, nowhere, tagFits, entryFits, allocationFits, tableFits, passes, vatIcb, scan}
-use Rattle.model.proofs.Basics.{and-false}
+use Rattle.model.proofs.Basics.{and-false, by-bool}
+use Rattle.model.proofs.Scan.{found-newest}
 use Rattle.vat.specs.File.{fileIn}
 use Rattle.vat.proofs.File.{file-in}
 use Rattle.vat.proofs.Laws.{recorded-passes}
 use Rattle.finding.specs.declared.Scanned.{Scanned}
-use Rattle.finding.specs.Scan.{scanOf}
+use Rattle.finding.specs.Scan.{scanOf, looked}
 
 -- ---- the scan
 
@@ -37,7 +39,7 @@ module _ (d : Disc) (s k : ℕ) (h : 0 < k) where
   scan-pass q = sym (down d s k h ∙ rw q)
 
   -- one that is ends the scan
-  pub scan-hit : vatIcb d s (k - 1) ≡ true → Scanned.At (k - 1) ≡ scanOf (scan d s k)
+  pub scan-hit : vatIcb d s (k - 1) ≡ true → Scanned.At (record { 0 = k - 1 }) ≡ scanOf (scan d s k)
   unfolding scanOf
   scan-hit q = let e : scan d s k ≡ icbAt (k - 1) = down d s k h ∙ rw q in sym (ap scanOf e)
 
@@ -84,6 +86,24 @@ icb-other bytes marks s k p f at ef q =
     let e : field (sector (disc bytes marks) (s + k)) 0 2 ≡ f = field-part bytes (2048 * (s + k)) 2048 0 2 (omega arith) ∙ ap (λ (n : ℕ). field bytes n 2) place ∙ sym ef in
     and-false (recorded (disc bytes marks) (s + k)) (sym (fails _ (sym (fails _ (ap (λ (n : ℕ). eqb n 261) e ∙ q)))))
 
+-- ---- what it passes over
+
+-- the sectors strictly between the ICB found and where the scan began
+pub looked-between : (d : Disc) (s n k : ℕ) → scan d s n ≡ icbAt k → looked d s n ≡ n - 1 - k
+unfolding scan looked
+looked-between d s zero k e = let z : _≡_ {A = ℕ} 0 1 = cc in absurd (omega arith)
+looked-between d s (suc j) k e =
+    by-bool (vatIcb d s j)
+    (λ h.
+    let q : icbAt j ≡ icbAt k = rw h at e in
+    let r : j ≡ k = cc in
+    rw h (omega arith))
+    (λ h.
+    let q : scan d s j ≡ icbAt k = rw h at e in
+    let w = found-newest d s j k q .below in
+    let r = looked-between d s j k q in
+    rw h (omega arith))
+
 -- ---- what the scan answers
 
 -- an answer that there is none
@@ -93,7 +113,7 @@ scan-none (icbAt j) e = let z : _≡_ {A = ℕ} 0 1 = cc in absurd (omega arith)
 scan-none nowhere e = refl
 
 -- an answer with a block
-pub scan-at : (f : Found) {k : ℕ} → scanOf f ≡ Scanned.At k → f ≡ icbAt k
+pub scan-at : (f : Found) {k : LogicalAddress} → scanOf f ≡ Scanned.At k → f ≡ icbAt (k .0)
 unfolding scanOf
-scan-at (icbAt j) {k} e = let q : j ≡ k = cc in ap icbAt q
+scan-at (icbAt j) {k} e = let q : record { 0 = j } ≡ k = cc in ap (λ (a : LogicalAddress). icbAt (a .0)) q
 scan-at nowhere e = let z : _≡_ {A = ℕ} 0 1 = cc in absurd (omega arith)

@@ -1,6 +1,7 @@
 // The ICB of a VAT (document 01, "The VAT and its ICB"): its tag, its File Entry and its extents.
 // The layers above count on the equations: each function gives what the definition of its name gives.
 // All functions here are inside the layers: where one has a `requires`, the callers have tested it.
+use address::LogicalAddress;
 ghost use mathlib.Core.Path.{_≡_};
 ghost use mathlib.Core.Bool.{true, _||_};
 ghost use mathlib.Core.List.{List};
@@ -9,7 +10,7 @@ ghost use lib.ListN.{length};
 ghost use lib.Dec.{eqb};
 ghost use Rattle.model.specs.Disc.{disc as discOf};
 ghost use Rattle.model.specs.Vat.{tagFits, form, fileLength, attributes, allocation, entryFits, extents, allocationFits};
-ghost use Rattle.icb.specs.Extents.{extentFits, extentsFit};
+ghost use Rattle.icb.specs.Extents.{extentFits, extentsFit, pairsFit, embeddedBytes, hasExtent, sizeAt, blockAt};
 
 // Bytes of a sector.
 const SECTOR: usize = 2048;
@@ -74,9 +75,9 @@ const EXTENT_LIMIT: u32 = 1073741824;
 // ---- the tag
 
 // Whether the tag of a block is that of a File Entry at logical block `k`; the cheapest tests come first.
-pub fn tag_fits(k: u32, icb: &[u8]) -> bool
+pub fn tag_fits(k: LogicalAddress, icb: &[u8]) -> bool
     requires { ⌜ length (now icb) ≡ 2048 ⌝ }
-    ensures { λ r. ⌜ r ≡ tagFits k (now (icb .entry)) ⌝ }
+    ensures { λ r. ⌜ r ≡ tagFits (k .0) (now (icb .entry)) ⌝ }
 {
     if fields::read16(icb, IDENTIFIER_AT) != FILE_ENTRY {
         return false;
@@ -94,7 +95,7 @@ pub fn tag_fits(k: u32, icb: &[u8]) -> bool
     if MOST_CRC_LENGTH < n {
         return false;
     }
-    if fields::read32(icb, LOCATION_AT) != k {
+    if fields::read32(icb, LOCATION_AT) != k.0 {
         return false;
     }
     if icb[CHECKSUM_AT] != tag::checksum(icb) {
@@ -170,27 +171,91 @@ pub fn entry_fits(icb: &[u8]) -> bool
 
 // ---- the extents
 
+// Whether the allocation is the file itself, or whole pairs.
+pub fn pairs_fit(icb: &[u8]) -> bool
+    requires { ⌜ length (now icb) ≡ 2048 ⌝ }
+    ensures { λ r. ⌜ r ≡ pairsFit (now (icb .entry)) ⌝ }
+{
+    if form_of(icb) == EMBEDDED {
+        return true;
+    }
+    allocation_of(icb) % PAIR == 0
+}
+
+// The bytes of the file that stand in the ICB itself.
+pub fn embedded_bytes(icb: &[u8]) -> u64
+    requires { ⌜ length (now icb) ≡ 2048 ⌝ }
+    ensures { λ r. ⌜ (r ≡ embeddedBytes (now (icb .entry))) × (r < 4294967296) ⌝ }
+{
+    if form_of(icb) == EMBEDDED {
+        return allocation_of(icb) as u64;
+    }
+    0
+}
+
+// Whether there is an extent `i`.
+pub fn has_extent(icb: &[u8], i: usize) -> bool
+    requires { ⌜ (length (now icb) ≡ 2048) × (entryFits (now icb) ≡ true) ⌝ }
+    ensures { λ r. ⌜ r ≡ hasExtent (now (icb .entry)) i ⌝ }
+{
+    if form_of(icb) == EMBEDDED {
+        return false;
+    }
+    if allocation_of(icb) / PAIR <= i {
+        return false;
+    }
+    fields::read32(icb, ALLOCATION_AT + attributes_of(icb) + PAIR * i) != 0
+}
+
+// The length of extent `i`.
+pub fn size_at(icb: &[u8], i: usize) -> u32
+    requires { ⌜ (length (now icb) ≡ 2048) × (entryFits (now icb) ≡ true) ⌝ }
+    requires { ⌜ hasExtent (now icb) i ≡ true ⌝ }
+    ensures { λ r. ⌜ r ≡ sizeAt (now (icb .entry)) i ⌝ }
+{
+    fields::read32(icb, ALLOCATION_AT + attributes_of(icb) + PAIR * i)
+}
+
+// The first block of extent `i`.
+pub fn block_at(icb: &[u8], i: usize) -> LogicalAddress
+    requires { ⌜ (length (now icb) ≡ 2048) × (entryFits (now icb) ≡ true) ⌝ }
+    requires { ⌜ hasExtent (now icb) i ≡ true ⌝ }
+    ensures { λ r. ⌜ r .0 ≡ blockAt (now (icb .entry)) i ⌝ }
+{
+    let n = fields::read32(
+        icb,
+        ALLOCATION_AT + attributes_of(icb) + PAIR * i + BLOCK_AT,
+    );
+    LogicalAddress(n)
+}
+
 // Whether an extent is short enough, ends at `k` at most, and is recorded.
-fn extent_fits(marks: &[u8], s: u32, k: u32, size: u32, block: u32) -> bool
-    requires { ⌜ s + k ≤ length (now marks) ⌝ }
-    ensures { λ r. ⌜ ((bytes : List ℕ) → r ≡ extentFits (discOf bytes (now (marks .entry))) s k size block) ⌝ }
+pub fn extent_fits(
+    marks: &[u8],
+    s: u32,
+    k: LogicalAddress,
+    size: u32,
+    block: LogicalAddress,
+) -> bool
+    requires { ⌜ (s + k .0 ≤ length (now marks)) × (length (now marks) ≤ 1048576) ⌝ }
+    ensures { λ r. ⌜ ((bytes : List ℕ) → r ≡ extentFits (discOf bytes (now (marks .entry))) s (k .0) size (block .0)) ⌝ }
 {
     if EXTENT_LIMIT <= size {
         return false;
     }
     let blocks = ((size + (SECTOR_BYTES - 1)) / SECTOR_BYTES) as usize;
-    let from = block as usize;
-    if (k as usize) < from + blocks {
+    let from = block.0 as usize;
+    if (k.0 as usize) < from + blocks {
         return false;
     }
-    marks::all_recorded(marks, s as usize + from, blocks)
+    marks::all_recorded(marks, address::sector_of(s, block), blocks)
 }
 
 // Whether the extents of an ICB fit, and add up to F. An extent whose length is no multiple of a sector is the last.
-fn extents_fit(marks: &[u8], s: u32, k: u32, icb: &[u8]) -> bool
-    requires { ⌜ s + k ≤ length (now marks) ⌝ }
+fn extents_fit(marks: &[u8], s: u32, k: LogicalAddress, icb: &[u8]) -> bool
+    requires { ⌜ (s + k .0 ≤ length (now marks)) × (length (now marks) ≤ 1048576) ⌝ }
     requires { ⌜ (length (now icb) ≡ 2048) × (entryFits (now icb) ≡ true) ⌝ }
-    ensures { λ r. ⌜ ((bytes : List ℕ) → r ≡ extentsFit (discOf bytes (now (marks .entry))) s k (fileLength (now (icb .entry))) true 0 (extents (now (icb .entry)))) ⌝ }
+    ensures { λ r. ⌜ ((bytes : List ℕ) → r ≡ extentsFit (discOf bytes (now (marks .entry))) s (k .0) (fileLength (now (icb .entry))) true 0 (extents (now (icb .entry)))) ⌝ }
 {
     let first = ALLOCATION_AT + attributes_of(icb);
     let count = allocation_of(icb) / PAIR;
@@ -206,7 +271,8 @@ fn extents_fit(marks: &[u8], s: u32, k: u32, icb: &[u8]) -> bool
         if !whole {
             return false;
         }
-        if !extent_fits(marks, s, k, size, fields::read32(icb, at + BLOCK_AT)) {
+        let block = LogicalAddress(fields::read32(icb, at + BLOCK_AT));
+        if !extent_fits(marks, s, k, size, block) {
             return false;
         }
         whole = size % SECTOR_BYTES == 0;
@@ -217,10 +283,10 @@ fn extents_fit(marks: &[u8], s: u32, k: u32, icb: &[u8]) -> bool
 }
 
 // Whether the allocation of an ICB is right: embedded it is all of the file, else it is extents that fit.
-pub fn allocation_fits(marks: &[u8], s: u32, k: u32, icb: &[u8]) -> bool
-    requires { ⌜ s + k ≤ length (now marks) ⌝ }
+pub fn allocation_fits(marks: &[u8], s: u32, k: LogicalAddress, icb: &[u8]) -> bool
+    requires { ⌜ (s + k .0 ≤ length (now marks)) × (length (now marks) ≤ 1048576) ⌝ }
     requires { ⌜ (length (now icb) ≡ 2048) × (entryFits (now icb) ≡ true) ⌝ }
-    ensures { λ r. ⌜ ((bytes : List ℕ) → r ≡ allocationFits (discOf bytes (now (marks .entry))) s k (now (icb .entry))) ⌝ }
+    ensures { λ r. ⌜ ((bytes : List ℕ) → r ≡ allocationFits (discOf bytes (now (marks .entry))) s (k .0) (now (icb .entry))) ⌝ }
 {
     let bytes = allocation_of(icb);
     if form_of(icb) == EMBEDDED {

@@ -2,6 +2,7 @@
 // The layers above count on the bytes being those of the model's writtenIcb.
 // All functions here are inside the layers: each requires what its callers have shown, at most 4,096 entries
 // among it.
+use address::LogicalAddress;
 ghost use mathlib.Core.Path.{_≡_};
 ghost use mathlib.Core.List.{_++_};
 ghost use Prim.Native.Nat.{_≤_};
@@ -115,11 +116,11 @@ fn write_entry(front: &mut [u8], n: u32)
 
 // Writes the allocation of the first n entries, for an ICB at logical block k: the file, or one extent
 // directly below k.
-fn write_allocation(rest: &mut [u8], k: u32, t: &[u32], n: u32, previous: u32)
+fn write_allocation(rest: &mut [u8], k: LogicalAddress, t: &[u32], n: u32, previous: LogicalAddress)
     requires { ⌜ length (now rest) ≡ 1872 ⌝ }
     requires { ⌜ (n ≤ 4096) × (n ≤ length (now t)) ⌝ }
-    requires { ⌜ dataSectors n ≤ k ⌝ }
-    ensures { λ _. ⌜ now (rest .exit) ≡ filled 1872 (writtenAllocation k (take n (now (t .entry))) previous) ⌝ }
+    requires { ⌜ dataSectors n ≤ k .0 ⌝ }
+    ensures { λ _. ⌜ now (rest .exit) ≡ filled 1872 (writtenAllocation (k .0) (take n (now (t .entry))) (previous .0)) ⌝ }
 {
     if vat_written::is_embedded(n) {
         vat_written::write_file(rest, t, n, previous, 0);
@@ -127,31 +128,31 @@ fn write_allocation(rest: &mut [u8], k: u32, t: &[u32], n: u32, previous: u32)
     }
     fields_written::clear(rest);
     fields_written::write32(rest, EXTENT_LENGTH_AT, vat_written::file_bytes(n));
-    let block = k - vat_written::data_sectors(n);
+    let block = k.0 - vat_written::data_sectors(n);
     fields_written::write32(rest, EXTENT_BLOCK_AT, block);
 }
 
 // Writes the tag of a File Entry at logical block k, with this CRC of so many bytes; the checksum last.
-fn write_tag(front: &mut [u8], k: u32, crc: u16, covered: u16)
+fn write_tag(front: &mut [u8], k: LogicalAddress, crc: u16, covered: u16)
     requires { ⌜ length (now front) ≡ 16 ⌝ }
-    ensures { λ _. ⌜ now (front .exit) ≡ summedTag k crc covered ⌝ }
+    ensures { λ _. ⌜ now (front .exit) ≡ summedTag (k .0) crc covered ⌝ }
 {
     fields_written::clear(front);
     fields_written::write16(front, IDENTIFIER_AT, FILE_ENTRY);
     fields_written::write16(front, VERSION_AT, VERSION);
     fields_written::write16(front, CRC_AT, crc);
     fields_written::write16(front, CRC_LENGTH_AT, covered);
-    fields_written::write32(front, LOCATION_AT, k);
+    fields_written::write32(front, LOCATION_AT, k.0);
     let sum = tag::checksum(front);
     front[CHECKSUM_AT] = sum;
 }
 
 // Writes the ICB at logical block k of the VAT of the first n entries.
-pub fn write_icb(sector: &mut [u8], k: u32, t: &[u32], n: u32, previous: u32)
+pub fn write_icb(sector: &mut [u8], k: LogicalAddress, t: &[u32], n: u32, previous: LogicalAddress)
     requires { ⌜ length (now sector) ≡ 2048 ⌝ }
     requires { ⌜ (n ≤ 4096) × (n ≤ length (now t)) ⌝ }
-    requires { ⌜ dataSectors n ≤ k ⌝ }
-    ensures { λ _. ⌜ now (sector .exit) ≡ writtenIcb k (take n (now (t .entry))) previous ⌝ }
+    requires { ⌜ dataSectors n ≤ k .0 ⌝ }
+    ensures { λ _. ⌜ now (sector .exit) ≡ writtenIcb (k .0) (take n (now (t .entry))) (previous .0) ⌝ }
 {
     write_entry(&mut sector[..ALLOCATION_AT], n);
     write_allocation(&mut sector[ALLOCATION_AT..], k, t, n, previous);

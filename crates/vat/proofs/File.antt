@@ -12,6 +12,7 @@ use borrow.Author.Tests.{eq-eqb, ne-eqb, eqb-true, eqb-false, le-leb, leb-true, 
 use Rattle.fields.specs.Bytes.{part}
 use Rattle.fields.specs.Number.{words}
 use Rattle.fields.proofs.Laws.{length-part, getD-part, part-append, part-append-add, part-part, part-take, AllBytes, field-below}
+use Rattle.address.specs.Translation.{mostSectors}
 use Rattle.model.specs.Disc.{Disc, disc, recordedRun, joined}
 use Rattle.model.specs.Vat.{Extent, form, fileLength, attributes, allocation, entryFits, extents, blocksIn, sizesFit, sizes, blocksFit, contents, allocationFits, fileOf}
 use Rattle.model.proofs.Basics.{and-true, both, by-bool, by-lt}
@@ -200,6 +201,16 @@ blocks-on-disc bytes marks s k (x ∷ l) t h =
     let i : 2048 * (s + x .block + blocksIn (x .size)) ≤ length bytes = omega (arith, t .made, t .inside) in
     both (le-leb _ _ i) (blocks-on-disc bytes marks s k l t (q .1))
 
+-- and on any disc that is longer
+on-disc-more : (n m s : ℕ) (l : List Extent) → n ≤ m → onDisc n s l ≡ true → onDisc m s l ≡ true
+unfolding onDisc
+on-disc-more n m s [] le h = refl
+on-disc-more n m s (x ∷ l) le h =
+    let p = and-true (leb (2048 * (s + x .block + blocksIn (x .size))) n) _ h in
+    let e : 2048 * (s + x .block + blocksIn (x .size)) ≤ n = leb-true _ _ (p .0) in
+    let i : 2048 * (s + x .block + blocksIn (x .size)) ≤ m = omega arith in
+    both (le-leb _ _ i) (on-disc-more n m s l le (p .1))
+
 -- a file whose allocation fits is all there
 pub fits-filed : (bytes marks : List ℕ) (s k : ℕ) (b : List ℕ) → Lent bytes marks s k → length b ≡ 2048 → entryFits b ≡ true → allocationFits (disc bytes marks) s k b ≡ true → Filed bytes s b
 unfolding allocationFits allThere
@@ -214,6 +225,7 @@ fits-filed bytes marks s k b t n e h = record {
       let q = and-true (sizesFit (extents b)) _ (p .1) in
       let r = and-true (eqb (sizes (extents b)) (fileLength b)) _ (q .1) in
       rw f (both (q .0) (both (r .0) (blocks-on-disc bytes marks s k (extents b) t (r .1)))));
+  most = omega (arith, t .made, t .most);
 }
 
 module _ (bytes : List ℕ) (s : ℕ) (b : List ℕ) (t : Filed bytes s b) where
@@ -229,6 +241,10 @@ module _ (bytes : List ℕ) (s : ℕ) (b : List ℕ) (t : Filed bytes s b) where
       let p = and-true (sizesFit (extents b)) _ (rw (ne-eqb _ _ e) at (t .file)) in
       let q = and-true (eqb (sizes (extents b)) (fileLength b)) _ (p .1) in
       (p .0, eqb-true _ _ (q .0), q .1)
+
+  -- its extents lie below the most bytes of a disc
+  pub extended-below : (form b ≡ 3 → ⊥) → onDisc (2048 * mostSectors) s (extents b) ≡ true
+  extended-below e = on-disc-more (length bytes) (2048 * mostSectors) s (extents b) (t .most) (extended-all e .2)
 
   -- it has F bytes
   pub length-file : length (fileIn bytes s b) ≡ fileLength b

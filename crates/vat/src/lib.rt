@@ -2,6 +2,9 @@
 // The layers above count on passes, entry_count and fill: each gives what the definition of its name gives.
 // The file of an ICB is never copied: its bytes are read by position, through its extents, where they stand.
 // All functions here are inside the layers: where one has a `requires`, the callers have tested it.
+use address::LogicalAddress;
+use address::NONE;
+use address::PhysicalAddress;
 ghost use mathlib.Core.Path.{_≡_};
 ghost use mathlib.Core.Bool.{true};
 ghost use mathlib.Core.List.{List};
@@ -13,7 +16,8 @@ ghost use Rattle.fields.specs.Regid.{hasRegid};
 ghost use Rattle.model.specs.Disc.{disc as discOf, sector};
 ghost use Rattle.model.specs.Vat.{vatName, countOf, entriesOf, allBelow, form, fileLength, attributes, entryFits, extents, tableFits, passes as passesAt, vatIcb, vatFile};
 ghost use Rattle.model.specs.Once.{filledFrom};
-ghost use Rattle.vat.specs.File.{Lent, Filed, Together, fileIn, placeOf, leftOf};
+ghost use Rattle.address.specs.Translation.{mostSectors};
+ghost use Rattle.vat.specs.File.{Lent, Filed, Together, fileIn, placeOf, leftOf, onDisc};
 
 // Bytes of a sector.
 const SECTOR: usize = 2048;
@@ -28,14 +32,12 @@ const PAIR: usize = 8;
 
 const BLOCK_AT: usize = 4;
 
-// A VAT file: entries, a regid and the previous ICB; an entry that is unused, and no previous ICB.
+// A VAT file: entries, a regid and the previous ICB.
 const ENTRY: u64 = 4;
 
 const WORD: usize = ENTRY as usize;
 
 const TAIL: u64 = 36;
-
-const NONE: u32 = 0xffffffff;
 
 // The regid's flags and identifier, which is filled with zeros.
 const NAME_BYTES: usize = 24;
@@ -53,6 +55,7 @@ struct Run {
 // The bytes of a file that is held by short_ads from `o` to the end of its extent; none past the end of the file.
 fn run_at(s: u32, icb: &[u8], o: u64) -> Run
     requires { ⌜ (length (now icb) ≡ 2048) × (entryFits (now icb) ≡ true) ⌝ }
+    requires { ⌜ onDisc (2048 * mostSectors) s (extents (now icb)) ≡ true ⌝ }
     ensures { λ r. ⌜ (r .at ≡ placeOf s (extents (now (icb .entry))) o) × (r .bytes ≡ leftOf (extents (now (icb .entry))) o) ⌝ }
 {
     let first = ALLOCATION_AT + icb::attributes_of(icb);
@@ -66,9 +69,10 @@ fn run_at(s: u32, icb: &[u8], o: u64) -> Run
             return Run { at: 0, bytes: 0 };
         }
         if left < size {
-            let block = s as usize + fields::read32(icb, at + BLOCK_AT) as usize;
+            let block = LogicalAddress(fields::read32(icb, at + BLOCK_AT));
+            let sector = address::sector_of(s, block).0 as usize;
             return Run {
-                at: SECTOR * block + left as usize,
+                at: SECTOR * sector + left as usize,
                 bytes: size - left,
             };
         }
@@ -142,9 +146,10 @@ fn has_name(disc: &[u8], s: u32, icb: &[u8], from: u64) -> bool
 }
 
 // Whether the words of some bytes are all below `k`, or none. It counts those that are not, with no early way out.
-fn words_fit(bytes: &[u8], k: u32) -> bool
-    ensures { λ r. ⌜ r ≡ allBelow k (words (now (bytes .entry)) 0 (length (now (bytes .entry)) / 4)) ⌝ }
+fn words_fit(bytes: &[u8], k: LogicalAddress) -> bool
+    ensures { λ r. ⌜ r ≡ allBelow (k .0) (words (now (bytes .entry)) 0 (length (now (bytes .entry)) / 4)) ⌝ }
 {
+    let k = k.0;
     let n = bytes.len() / WORD;
     let mut over: usize = 0;
     let mut i: usize = 0;
@@ -161,10 +166,10 @@ fn words_fit(bytes: &[u8], k: u32) -> bool
 }
 
 // Whether the words of the file from word `from` to before word `n` are all below `k`, or none.
-fn words_below(disc: &[u8], s: u32, k: u32, icb: &[u8], from: u64, n: u64) -> bool
+fn words_below(disc: &[u8], s: u32, k: LogicalAddress, icb: &[u8], from: u64, n: u64) -> bool
     requires { ⌜ Filed (now disc) s (now icb) ⌝ }
     requires { ⌜ (from ≤ n) × (4 * n ≤ fileLength (now icb)) ⌝ }
-    ensures { λ r. ⌜ r ≡ allBelow k (words (fileIn (now (disc .entry)) s (now (icb .entry))) (4 * from) (n - from)) ⌝ }
+    ensures { λ r. ⌜ r ≡ allBelow (k .0) (words (fileIn (now (disc .entry)) s (now (icb .entry))) (4 * from) (n - from)) ⌝ }
 {
     if icb::form_of(icb) == EMBEDDED {
         return words_fit(embedded_words(icb, from, n), k);
@@ -181,9 +186,9 @@ fn words_below(disc: &[u8], s: u32, k: u32, icb: &[u8], from: u64, n: u64) -> bo
 }
 
 // Whether the file of an ICB at logical block `k` is a VAT.
-pub fn table_fits(disc: &[u8], s: u32, k: u32, icb: &[u8]) -> bool
+pub fn table_fits(disc: &[u8], s: u32, k: LogicalAddress, icb: &[u8]) -> bool
     requires { ⌜ Filed (now disc) s (now icb) ⌝ }
-    ensures { λ r. ⌜ r ≡ tableFits k (fileIn (now (disc .entry)) s (now (icb .entry))) ⌝ }
+    ensures { λ r. ⌜ r ≡ tableFits (k .0) (fileIn (now (disc .entry)) s (now (icb .entry))) ⌝ }
 {
     let bytes = icb::length_of(icb);
     if bytes < TAIL {
@@ -206,10 +211,10 @@ pub fn table_fits(disc: &[u8], s: u32, k: u32, icb: &[u8]) -> bool
 // ---- what the layers above call
 
 // Whether the bytes of a block would pass as a VAT ICB at logical block `k`, on the disc or not.
-pub fn passes(disc: &[u8], marks: &[u8], s: u32, k: u32, icb: &[u8]) -> bool
-    requires { ⌜ Lent (now disc) (now marks) s k ⌝ }
+pub fn passes(disc: &[u8], marks: &[u8], s: u32, k: LogicalAddress, icb: &[u8]) -> bool
+    requires { ⌜ Lent (now disc) (now marks) s (k .0) ⌝ }
     requires { ⌜ length (now icb) ≡ 2048 ⌝ }
-    ensures { λ r. ⌜ r ≡ passesAt (discOf (now (disc .entry)) (now (marks .entry))) s k (now (icb .entry)) ⌝ }
+    ensures { λ r. ⌜ r ≡ passesAt (discOf (now (disc .entry)) (now (marks .entry))) s (k .0) (now (icb .entry)) ⌝ }
 {
     if !icb::tag_fits(k, icb) {
         return false;
@@ -223,12 +228,12 @@ pub fn passes(disc: &[u8], marks: &[u8], s: u32, k: u32, icb: &[u8]) -> bool
     table_fits(disc, s, k, icb)
 }
 
-// The sector at logical block `k`.
-fn sector_at(disc: &[u8], s: u32, k: u32) -> &[u8]
-    requires { ⌜ 2048 * (s + k) + 2048 ≤ length (now disc) ⌝ }
-    ensures { λ r. ⌜ ((marks : List ℕ) → now r ≡ sector (discOf (now (disc .entry)) marks) (s + k)) ⌝ }
+// The bytes of a sector.
+fn sector_at(disc: &[u8], at: PhysicalAddress) -> &[u8]
+    requires { ⌜ 2048 * at .0 + 2048 ≤ length (now disc) ⌝ }
+    ensures { λ r. ⌜ ((marks : List ℕ) → now r ≡ sector (discOf (now (disc .entry)) marks) (at .0)) ⌝ }
 {
-    let from = SECTOR * (s as usize + k as usize);
+    let from = SECTOR * at.0 as usize;
     let to = from + SECTOR;
     &disc[from..to]
 }
@@ -243,13 +248,13 @@ fn count_of(icb: &[u8]) -> u64
 }
 
 // N, the number of entries of the VAT ICB at logical block `k`. It can exceed any table.
-pub fn entry_count(disc: &[u8], marks: &[u8], s: u32, k: u32) -> u64
-    requires { ⌜ Lent (now disc) (now marks) s k ⌝ }
-    requires { ⌜ s + k < length (now marks) ⌝ }
-    requires { ⌜ vatIcb (discOf (now disc) (now marks)) s k ≡ true ⌝ }
-    ensures { λ r. ⌜ r ≡ countOf (vatFile (discOf (now (disc .entry)) (now (marks .entry))) s k) ⌝ }
+pub fn entry_count(disc: &[u8], marks: &[u8], s: u32, k: LogicalAddress) -> u64
+    requires { ⌜ Lent (now disc) (now marks) s (k .0) ⌝ }
+    requires { ⌜ s + k .0 < length (now marks) ⌝ }
+    requires { ⌜ vatIcb (discOf (now disc) (now marks)) s (k .0) ≡ true ⌝ }
+    ensures { λ r. ⌜ r ≡ countOf (vatFile (discOf (now (disc .entry)) (now (marks .entry))) s (k .0)) ⌝ }
 {
-    count_of(sector_at(disc, s, k))
+    count_of(sector_at(disc, address::sector_of(s, k)))
 }
 
 // Puts the words of some bytes into the table from place `from` on.
@@ -284,13 +289,13 @@ fn put_entries(disc: &[u8], s: u32, icb: &[u8], n: usize, table: &mut [u32])
 }
 
 // Fills the lent table with the entries of the VAT ICB at logical block `k`, from its start; places beyond are kept.
-pub fn fill(disc: &[u8], marks: &[u8], s: u32, k: u32, table: &mut [u32])
-    requires { ⌜ Lent (now disc) (now marks) s k ⌝ }
-    requires { ⌜ s + k < length (now marks) ⌝ }
-    requires { ⌜ vatIcb (discOf (now disc) (now marks)) s k ≡ true ⌝ }
-    requires { ⌜ (countOf (vatFile (discOf (now disc) (now marks)) s k) ≤ 4096) × (4096 ≤ length (now table)) ⌝ }
-    ensures { λ _. ⌜ now (table .exit) ≡ filledFrom (entriesOf (vatFile (discOf (now (disc .entry)) (now (marks .entry))) s k)) (now (table .entry)) ⌝ }
+pub fn fill(disc: &[u8], marks: &[u8], s: u32, k: LogicalAddress, table: &mut [u32])
+    requires { ⌜ Lent (now disc) (now marks) s (k .0) ⌝ }
+    requires { ⌜ s + k .0 < length (now marks) ⌝ }
+    requires { ⌜ vatIcb (discOf (now disc) (now marks)) s (k .0) ≡ true ⌝ }
+    requires { ⌜ (countOf (vatFile (discOf (now disc) (now marks)) s (k .0)) ≤ 4096) × (4096 ≤ length (now table)) ⌝ }
+    ensures { λ _. ⌜ now (table .exit) ≡ filledFrom (entriesOf (vatFile (discOf (now (disc .entry)) (now (marks .entry))) s (k .0))) (now (table .entry)) ⌝ }
 {
-    let icb = sector_at(disc, s, k);
+    let icb = sector_at(disc, address::sector_of(s, k));
     put_entries(disc, s, icb, count_of(icb) as usize, table);
 }

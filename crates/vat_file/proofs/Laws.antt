@@ -98,14 +98,14 @@ module _ (f : List ℕ) (v : VirtualAddress) where
   pub not-looked : {why : Refusal} → first (fileTests f) ≡ Stop why → ToLogical.Refused why ≡ lookedUp f v
   unfolding lookedUp
   not-looked e =
-      ap (λ (x : Verdict). unlessLogical x (entryOf (entriesOf f) v)) (stops-all (fileTests f) (entryTests (entriesOf f) v) e)
+      ap (λ (x : Verdict). unlessLogical x (entryOf (entriesOf f) v)) (stops-all (fileTests f) (entryTests (length (entriesOf f)) (entriesOf f) v) e)
 
   -- in a file that passed its tests, the translation by its entries
   pub looked : first (fileTests f) ≡ Go → logicalOf (entriesOf f) v ≡ lookedUp f v
   unfolding lookedUp logicalOf
   looked e =
       ap (λ (x : Verdict). unlessLogical x (entryOf (entriesOf f) v))
-      (goes-all (fileTests f) (entryTests (entriesOf f) v) _ e refl)
+      (goes-all (fileTests f) (entryTests (length (entriesOf f)) (entriesOf f) v) _ e refl)
 
 -- ---- the number of entries
 

@@ -69,11 +69,7 @@ pub fn look_up(file: &[u8], v: VirtualAddress) -> ToLogical
             if (file.len() - TAIL) / ENTRY <= i {
                 return ToLogical::Refused(Refusal::NumberOutside);
             }
-            let entry = fields::read32(file, ENTRY * i);
-            if entry == NONE {
-                return ToLogical::Refused(Refusal::UnusedEntry);
-            }
-            ToLogical::At(LogicalAddress(entry))
+            address::entry_to_logical(fields::read32(file, ENTRY * i))
         }
     }
 }

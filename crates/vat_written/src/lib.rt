@@ -3,6 +3,7 @@
 // The layers above count on the bytes being those of the model's file: its parts, and writtenData.
 // All functions here are inside the layers: each requires what its callers have shown, at most 4,096 entries
 // among it.
+use address::LogicalAddress;
 ghost use mathlib.Core.Path.{_≡_};
 ghost use Prim.Native.Nat.{_+_, _*_, _%_, _≤_, _<_, min};
 ghost use lib.Dec.{ltb};
@@ -73,19 +74,19 @@ fn smaller(a: usize, b: usize) -> usize
 }
 
 // The tail of the file.
-fn tail_of(previous: u32) -> [u8; TAIL_BYTES]
-    ensures { λ r. ⌜ r ≡ tail previous ⌝ }
+fn tail_of(previous: LogicalAddress) -> [u8; TAIL_BYTES]
+    ensures { λ r. ⌜ r ≡ tail (previous .0) ⌝ }
 {
     let mut bytes = [0u8; TAIL_BYTES];
     fields_written::write_regid(&mut bytes, REGID_AT, &REGID);
-    fields_written::write32(&mut bytes, PREVIOUS_AT, previous);
+    fields_written::write32(&mut bytes, PREVIOUS_AT, previous.0);
     bytes
 }
 
 // Writes the tail of the file from its byte `from` on, as much of it as fits, and zeros after it.
-fn write_tail(rest: &mut [u8], from: usize, previous: u32)
+fn write_tail(rest: &mut [u8], from: usize, previous: LogicalAddress)
     requires { ⌜ from + length (now rest) ≤ 65536 ⌝ }
-    ensures { λ _. ⌜ now (rest .exit) ≡ onward (tail previous) from (length (now (rest .entry))) ⌝ }
+    ensures { λ _. ⌜ now (rest .exit) ≡ onward (tail (previous .0)) from (length (now (rest .entry))) ⌝ }
 {
     fields_written::clear(rest);
     let bytes = tail_of(previous);
@@ -113,11 +114,11 @@ fn write_entries(s: &mut [u8], t: &[u32], first: usize, count: usize)
 
 // Writes the file of the first n entries from where entry number `first` stands, or would stand, on: the
 // entries that fall into the lent bytes, and the tail straight after the last one.
-pub fn write_file(s: &mut [u8], t: &[u32], n: u32, previous: u32, first: usize)
+pub fn write_file(s: &mut [u8], t: &[u32], n: u32, previous: LogicalAddress, first: usize)
     requires { ⌜ (length (now s) % 4 ≡ 0) × (length (now s) ≤ 2048) ⌝ }
     requires { ⌜ (n ≤ 4096) × (n ≤ length (now t)) ⌝ }
     requires { ⌜ first ≤ 4608 ⌝ }
-    ensures { λ _. ⌜ now (s .exit) ≡ fileFrom (take n (now (t .entry))) previous first (length (now (s .entry))) ⌝ }
+    ensures { λ _. ⌜ now (s .exit) ≡ fileFrom (take n (now (t .entry))) (previous .0) first (length (now (s .entry))) ⌝ }
 {
     let all = n as usize;
     let begun = smaller(first, all);
@@ -129,11 +130,11 @@ pub fn write_file(s: &mut [u8], t: &[u32], n: u32, previous: u32, first: usize)
 }
 
 // Writes data sector number i of the file of the first n entries.
-pub fn write_data(sector: &mut [u8], t: &[u32], n: u32, previous: u32, i: u32)
+pub fn write_data(sector: &mut [u8], t: &[u32], n: u32, previous: LogicalAddress, i: u32)
     requires { ⌜ length (now sector) ≡ 2048 ⌝ }
     requires { ⌜ (n ≤ 4096) × (n ≤ length (now t)) ⌝ }
     requires { ⌜ i < dataSectors n ⌝ }
-    ensures { λ _. ⌜ now (sector .exit) ≡ part (writtenData (take n (now (t .entry))) previous) (2048 * i) 2048 ⌝ }
+    ensures { λ _. ⌜ now (sector .exit) ≡ part (writtenData (take n (now (t .entry))) (previous .0)) (2048 * i) 2048 ⌝ }
 {
     let first = (ENTRIES_IN_SECTOR * i) as usize;
     write_file(sector, t, n, previous, first);

@@ -1,17 +1,22 @@
 -- Opening, reading and fullness on a write-once disc alone: opening and reading as the calls of both kinds (model, Both.antt), with line 7 for a rewritable list.
 use Prim.Native.Nat.{ℕ}
+use mathlib.Core.Path.{_≡_}
 use mathlib.Core.List.{List, _∷_}
 use Rattle.refusal.specs.declared.Refusal.the-variants.{OtherKind}
 use Rattle.refusal.specs.declared.Verdict.{Verdict}
 use Rattle.refusal.specs.declared.Verdict.the-variants.{Go, Stop}
 use Rattle.refusal.specs.Tests.{test, first, andThen}
+use Rattle.address.specs.declared.VirtualAddress.{VirtualAddress}
+use Rattle.address.specs.declared.ToLogical.{ToLogical}
+use Rattle.address.specs.Translation.{unlessLogical, entryOf}
 use Rattle.model.specs.declared.Record.{Record}
 use Rattle.model.specs.declared.Opened.{Opened}
 use Rattle.model.specs.declared.Given.{Given}
 use Rattle.model.specs.Disc.{Disc, sector}
 use Rattle.model.specs.Vat.{entriesOf}
 use Rattle.model.specs.Examine.{Setting, writeOnce, examined, lentTable}
-use Rattle.model.specs.Once.{nextHeld, newestFile, openOnceTests, foundRecord, passedOver, perMille, fullnessVerdict}
+use Rattle.model.specs.Once.{nextOn, nextHeld, newestFile, openOnceTests, foundRecord, passedOver, entryTests, perMille, fullnessVerdict}
+use Rattle.finding.specs.Scan.{looked}
 use Rattle.write_once.specs.declared.Measured.{Measured}
 use Rattle.model.specs.Both.{openedBy, filledBy, readOnceTests, readLent, givenBy, blockBy, entrySector}
 
@@ -29,6 +34,16 @@ openingOnce e d t = openedBy (openOnceVerdict e d t) (foundRecord e d) (passedOv
 -- the lent table after it
 unfoldable pub openedOnce : Setting → Disc → List ℕ → List ℕ
 openedOnce e d t = filledBy (openOnceVerdict e d t) (entriesOf (newestFile e d)) t
+
+-- what it says was passed over is how many sectors the scan looked at and did not take (01, "Calls and their sector writes": "passed over")
+pub record PassedOver (e : Setting) (d : Disc) (r : Opened) : Type 0 where
+  pub counted : (handed : Record) (passed : ℕ) → r ≡ Opened.Open handed passed → passed ≡ looked d (e .start) (nextOn e d)
+
+-- ---- an entry: lines 12 and 13
+
+-- the block of virtual v, by the entries held
+unfoldable pub blockOf : List ℕ → Record → VirtualAddress → ToLogical
+blockOf t held v = unlessLogical (first (entryTests t held (v .0))) (entryOf t v)
 
 -- ---- reading: lines 1 to 7 and 11 to 14
 

@@ -1,6 +1,10 @@
 // The calls on a write-once disc that write no sector: opening, reading, freeing and fullness (document 01,
 // "Calls and their sector writes"). Each examines what it gets and refuses with the first
 // line of document 01 that applies; a refusal leaves every lent byte as it came. No call has a requires.
+use address::LogicalAddress;
+use address::NONE;
+use address::ToLogical;
+use address::VirtualAddress;
 use finding::Scanned;
 use maps::Kind;
 use model::Given;
@@ -12,11 +16,10 @@ use refusal::Verdict;
 ghost use mathlib.Core.Path.{_≡_};
 ghost use Prim.Native.Nat.{_+_, _*_, _≤_, _<_};
 ghost use lib.ListN.{length};
-ghost use Rattle.refusal.specs.Tests.{first};
 ghost use Rattle.model.specs.Disc.{disc as discOf};
 ghost use Rattle.model.specs.Examine.{setting};
-ghost use Rattle.model.specs.Once.{entriesHeld, entryTests, freePlan, perMille};
-ghost use Rattle.write_once.specs.Calls.{openingOnce, openedOnce, readingOnce, readOnceBytes, fullnessOf};
+ghost use Rattle.model.specs.Once.{entriesHeld, freePlan, perMille};
+ghost use Rattle.write_once.specs.Calls.{openingOnce, openedOnce, PassedOver, blockOf, readingOnce, readOnceBytes, fullnessOf};
 ghost use Rattle.model.specs.Writes.{noCut};
 ghost use Rattle.model.specs.Plan.{Meets};
 
@@ -25,12 +28,6 @@ const SECTOR: usize = 2048;
 
 // The entries that a VAT has at most.
 const MOST_COUNT: u64 = 4096;
-
-// The mark of a recorded sector.
-const RECORDED: u8 = 1;
-
-// An entry that is unused.
-const NONE: u32 = 0xffffffff;
 
 // A full partition in per mille.
 const FULL: u64 = 1000;
@@ -54,6 +51,7 @@ pub fn open_write_once(
 ) -> Opened
     ensures { λ r. ⌜ r ≡ openingOnce (setting (now (maps .entry)) s l) (discOf (now (disc .entry)) (now (marks .entry))) (now (table .entry)) ⌝ }
     ensures { λ _. ⌜ now (table .exit) ≡ openedOnce (setting (now (maps .entry)) s l) (discOf (now (disc .entry)) (now (marks .entry))) (now (table .entry)) ⌝ }
+    ensures { λ r. ⌜ PassedOver (setting (now (maps .entry)) s l) (discOf (now (disc .entry)) (now (marks .entry))) r ⌝ }
 {
     let lent = examine::is_lent(table);
     let seen = examine::examine(disc, marks, maps, s, l, lent);
@@ -70,23 +68,24 @@ pub fn open_write_once(
     } = kind {
         return Opened::Refused(Refusal::OtherKind);
     }
-    let next = marks::next_writable(marks, s, l);
-    let found = finding::scan(disc, marks, s, next);
+    let span = volume.span;
+    let next = marks::next_writable(marks, span.start, span.length);
+    let found = finding::scan(disc, marks, span.start, next);
     match found {
         Scanned::Nowhere => Opened::Refused(Refusal::NoTable),
         Scanned::At(k) => {
-            let entries = vat::entry_count(disc, marks, s, k);
+            let entries = vat::entry_count(disc, marks, span.start, k);
             if MOST_COUNT < entries {
                 return Opened::Refused(Refusal::TooManyEntries);
             }
-            vat::fill(disc, marks, s, k, table);
+            vat::fill(disc, marks, span.start, k, table);
             Opened::Open {
                 handed: Record::WriteOnce {
                     entries: entries as u32,
-                    next,
-                    last: k,
+                    next: next.0,
+                    last: k.0,
                 },
-                passed: next - 1 - k,
+                passed: next.0 - 1 - k.0,
             }
         }
     }
@@ -94,19 +93,16 @@ pub fn open_write_once(
 
 // ---- reading and freeing
 
-// Lines 12 and 13: there is an entry v, and it is used. Inside the layers: line 11 has been tested.
-fn judge_entry(table: &[u32], held: Record, v: u32) -> Verdict
+// Lines 12 and 13: there is an entry v, and it names a block. Inside the layers: line 11 has been tested.
+fn look_up(table: &[u32], held: Record, v: VirtualAddress) -> ToLogical
     requires { ⌜ entriesHeld held ≤ length (now table) ⌝ }
-    ensures { λ r. ⌜ r ≡ first (entryTests (now (table .entry)) held v) ⌝ }
+    ensures { λ r. ⌜ r ≡ blockOf (now (table .entry)) held v ⌝ }
 {
     let entries = examine::entries_held(held);
-    if entries <= v {
-        return Verdict::Stop(Refusal::NumberOutside);
+    if entries <= v.0 {
+        return ToLogical::Refused(Refusal::NumberOutside);
     }
-    if table[v as usize] == NONE {
-        return Verdict::Stop(Refusal::UnusedEntry);
-    }
-    Verdict::Go
+    address::entry_to_logical(table[v.0 as usize])
 }
 
 // Reads virtual block v into the lent bytes.
@@ -125,22 +121,26 @@ pub fn read_virtual(
     ensures { λ _. ⌜ now (out .exit) ≡ readOnceBytes (setting (now (maps .entry)) s l) (discOf (now (disc .entry)) (now (marks .entry))) (now (table .entry)) held v (now (out .entry)) ⌝ }
 {
     let lent = examine::are_lent(table, out, SECTOR);
-    let verdict = examine::judge_once(disc, marks, maps, s, l, table, lent, held);
+    let seen = examine::judge_once(disc, marks, maps, s, l, table, lent, held);
+    let verdict = seen.verdict;
     if let Verdict::Stop(why) = verdict {
         return Given::Refused(why);
     }
-    let own = judge_entry(table, held, v);
-    if let Verdict::Stop(why) = own {
-        return Given::Refused(why);
+    let span = seen.volume.span;
+    let found = look_up(table, held, VirtualAddress(v));
+    match found {
+        ToLogical::Refused(why) => Given::Refused(why),
+        ToLogical::At(b) => {
+            let at = address::sector_of(span.start, b);
+            if !marks::is_recorded(marks, at) {
+                return Given::Refused(Refusal::NotRecorded);
+            }
+            let from = SECTOR * at.0 as usize;
+            let to = from + SECTOR;
+            bytes::copy(&disc[from..to], out);
+            Given::Block
+        }
     }
-    let at = s as usize + table[v as usize] as usize;
-    if !marks::is_recorded(marks, at) {
-        return Given::Refused(Refusal::NotRecorded);
-    }
-    let from = SECTOR * at;
-    let to = from + SECTOR;
-    bytes::copy(&disc[from..to], out);
-    Given::Block
 }
 
 // Frees virtual block v: its entry becomes unused. It writes nothing to the disc.
@@ -157,24 +157,27 @@ pub fn free_virtual(
     ensures { λ r. ⌜ Meets (freePlan (setting (now (maps .entry)) s l) (discOf (now (disc .entry)) (now (marks .entry))) (now (table .entry)) held v) noCut (discOf (now (disc .entry)) (now (marks .entry))) (now (table .entry)) r (discOf (now (disc .entry)) (now (marks .entry))) (now (table .exit)) ⌝ }
 {
     let lent = examine::is_lent(table);
-    if let Verdict::Stop(why) = examine::judge_once(disc, marks, maps, s, l, table, lent, held) {
+    let seen = examine::judge_once(disc, marks, maps, s, l, table, lent, held);
+    let verdict = seen.verdict;
+    if let Verdict::Stop(why) = verdict {
         return Reply::Refused(why);
     }
-    if let Verdict::Stop(why) = judge_entry(table, held, v) {
+    let v = VirtualAddress(v);
+    if let ToLogical::Refused(why) = look_up(table, held, v) {
         return Reply::Refused(why);
     }
-    table[v as usize] = NONE;
+    table[v.0 as usize] = NONE;
     Reply::Done(held)
 }
 
 // ---- fullness
 
 // Of NWA and L. Inside the layers: lines 2 and 11 have been tested.
-fn per_mille(next: u32, l: u32) -> u32
-    requires { ⌜ (next ≤ l) × (1 ≤ l) ⌝ }
-    ensures { λ r. ⌜ r ≡ perMille next l ⌝ }
+fn per_mille(next: LogicalAddress, l: u32) -> u32
+    requires { ⌜ (next .0 ≤ l) × (1 ≤ l) ⌝ }
+    ensures { λ r. ⌜ r ≡ perMille (next .0) l ⌝ }
 {
-    (FULL * next as u64 / l as u64) as u32
+    (FULL * next.0 as u64 / l as u64) as u32
 }
 
 // How full the partition is.
@@ -190,9 +193,12 @@ pub fn fullness(
     ensures { λ r. ⌜ r ≡ fullnessOf (setting (now (maps .entry)) s l) (discOf (now (disc .entry)) (now (marks .entry))) (now (table .entry)) held ⌝ }
 {
     let lent = examine::is_lent(table);
-    if let Verdict::Stop(why) = examine::judge_once(disc, marks, maps, s, l, table, lent, held) {
+    let seen = examine::judge_once(disc, marks, maps, s, l, table, lent, held);
+    let verdict = seen.verdict;
+    if let Verdict::Stop(why) = verdict {
         return Measured::Refused(why);
     }
+    let span = seen.volume.span;
     let next = examine::next_held(held);
-    Measured::PerMille(per_mille(next, l))
+    Measured::PerMille(per_mille(next, span.length))
 }

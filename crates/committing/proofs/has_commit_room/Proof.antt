@@ -26,7 +26,7 @@ add-result-2 : tie.Need-add-result-2
 add-result-2 c = search needs
 
 returns : tie.Need-returns
-returns c = room-same _ _ _ _ _ (c .before .before .next-held .ensures) (c .before .entries-held .ensures) (c .data-sectors .ensures)
+returns c = room-same _ _ _ _ _ (c .before .before .before .next-held .ensures) (c .before .entries-held .ensures) (c .data-sectors .ensures)
 
 pub has-commit-room-spec : {M : Type 1} → statement M
 has-commit-room-spec =

@@ -14,15 +14,15 @@ entries-held-requires c κs = search needs
 data-sectors-requires : tie.Need-data-sectors-requires
 data-sectors-requires c κs = search needs
 
-add-result : tie.Need-add-result
-add-result c =
-    let z = c .before .before .before in
-    omega (arith, c .before .before .next-held .ensures, z .pre .1, count-few _ _ _ (c .before .entries-held .ensures) (c .data-sectors .ensures) (z .pre .0))
+add-block : tie.Need-add-block
+add-block c =
+    let z = c .before .before .before .before in
+    omega (arith, c .before .before .before .next-held .ensures, z .pre .1, count-few _ _ _ (c .before .before .entries-held .ensures) (c .before .data-sectors .ensures) (z .pre .0))
 
 returns : tie.Need-returns
-returns c = icb-same _ _ _ _ (c .before .before .next-held .ensures) (c .before .entries-held .ensures) (c .data-sectors .ensures)
+returns c = icb-same _ _ _ _ (c .before .before .before .next-held .ensures) (c .before .before .entries-held .ensures) (c .before .data-sectors .ensures)
 
 pub icb-block-spec : {M : Type 1} → statement M
 icb-block-spec =
     tie.close
-    (tie.spec next-held-requires entries-held-requires data-sectors-requires add-result returns)
+    (tie.spec next-held-requires entries-held-requires data-sectors-requires add-block returns)

@@ -1,12 +1,14 @@
 -- `finding::can_be_icb` meets its contract: a sector of another identifier is no VAT ICB. Assumes nothing.
-use mathlib.Core.Path.{refl}
 use borrow.Author.Needs.{needs}
 use Rattle.finding.proofs.Laws.{icb-other}
 use Rattle.finding.proofs.can_be_icb.Statement.{statement}
 use Rattle.finding.proofs.can_be_icb.Tie as tie
 
-add-at : tie.Need-add-at
-add-at c = search needs
+sector-of-requires : tie.Need-sector-of-requires
+sector-of-requires c κs = search needs
+
+cast-at : tie.Need-cast-at
+cast-at c = search needs
 
 mul-read16 : tie.Need-mul-read16
 mul-read16 c = search needs
@@ -15,8 +17,8 @@ read16-requires : tie.Need-read16-requires
 read16-requires c κs = search needs
 
 returns : tie.Need-returns
-returns c h marks = icb-other _ marks _ _ _ _ refl (c .read16 .ensures) h
+returns c h marks = icb-other _ marks _ _ _ _ (c .before .before .sector-of .ensures) (c .read16 .ensures) h
 
 pub can-be-icb-spec : {M : Type 1} → statement M
 can-be-icb-spec =
-    tie.close (tie.spec add-at mul-read16 read16-requires returns)
+    tie.close (tie.spec sector-of-requires cast-at mul-read16 read16-requires returns)

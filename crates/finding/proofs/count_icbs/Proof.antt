@@ -31,11 +31,11 @@ none-next b s k i f g marks j h =
 loop-holds : tie.Need-loop-holds Inv-loop μ-loop
 loop-holds c = (omega arith, omega arith, λ e marks j h. absurd (omega arith))
 
-add-can-be-icb : tie.Need-add-can-be-icb Inv-loop μ-loop
-add-can-be-icb c = search needs
+add-t9 : tie.Need-add-t9 Inv-loop μ-loop
+add-t9 c = search needs
 
 can-be-icb-requires : tie.Need-can-be-icb-requires Inv-loop μ-loop
-can-be-icb-requires c κs = omega arith
+can-be-icb-requires c κs = search needs
 
 add-count : tie.Need-add-count Inv-loop μ-loop
 add-count c = omega arith
@@ -65,7 +65,7 @@ count-icbs-spec =
     Inv-loop
     μ-loop
     loop-holds
-    add-can-be-icb
+    add-t9
     can-be-icb-requires
     add-count
     add-i

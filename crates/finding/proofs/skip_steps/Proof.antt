@@ -11,10 +11,10 @@ use Rattle.finding.proofs.skip_steps.Statement.{statement}
 use Rattle.finding.proofs.skip_steps.Tie as tie
 
 abbrev Inv-loop : tie.InvT-loop
-Inv-loop b s n k₀ k = (k ≤ n) × ((marks : List ℕ) → scan (disc b marks) s k ≡ scan (disc b marks) s n)
+Inv-loop b s n k = (k ≤ n) × ((marks : List ℕ) → scan (disc b marks) s k ≡ scan (disc b marks) s n)
 
 abbrev μ-loop : tie.MeasureT-loop
-μ-loop b s n k₀ k = k
+μ-loop b s n k = k
 
 loop-holds : tie.Need-loop-holds Inv-loop μ-loop
 loop-holds c = (omega arith, λ marks. refl)

@@ -4,6 +4,7 @@ use borrow.Author.Tests.{lt-ltb, le-ltb, le-leb, lt-leb}
 use Rattle.maps.proofs.Tests.{fails, holds}
 use Rattle.model.specs.Vat.{blocksIn}
 use Rattle.icb.specs.Extents.{extentFits}
+use Rattle.icb.proofs.Extents.{run-there}
 use Rattle.icb.proofs.extent_fits.Statement.{statement}
 use Rattle.icb.proofs.extent_fits.Tie as tie
 
@@ -20,16 +21,22 @@ add-blocks c = search needs
 cast-blocks : tie.Need-cast-blocks
 cast-blocks c = search needs
 
+cast-from : tie.Need-cast-from
+cast-from c = search needs
+
+cast-if2 : tie.Need-cast-if2
+cast-if2 c = search needs
+
 add-if2 : tie.Need-add-if2
 add-if2 c = search needs
 
 returns-2 : tie.Need-returns-2
 unfolding extentFits blocksIn
 returns-2 c bytes =
-    holds (lt-ltb _ _ (c .before .if1 .left)) (fails _ (lt-leb _ _ (c .if2 .taken)))
+    holds (lt-ltb _ _ (c .before .before .before .if1 .left)) (fails _ (lt-leb _ _ (c .if2 .taken)))
 
-add-all-recorded : tie.Need-add-all-recorded
-add-all-recorded c = search needs
+sector-of-requires : tie.Need-sector-of-requires
+sector-of-requires c κs = search needs
 
 all-recorded-requires : tie.Need-all-recorded-requires
 all-recorded-requires c κs = search needs
@@ -37,7 +44,7 @@ all-recorded-requires c κs = search needs
 returns-3 : tie.Need-returns-3
 unfolding extentFits blocksIn
 returns-3 c bytes =
-    holds (lt-ltb _ _ (c .before .before .if1 .left)) (holds (le-leb _ _ (c .before .if2 .left)) (c .all-recorded .ensures bytes))
+    holds (lt-ltb _ _ (c .before .before .before .before .before .if1 .left)) (holds (le-leb _ _ (c .before .before .if2 .left)) (run-there _ _ (c .before .sector-of .ensures) (c .all-recorded .ensures bytes)))
 
 pub extent-fits-spec : {M : Type 1} → statement M
 extent-fits-spec =
@@ -47,8 +54,10 @@ extent-fits-spec =
     sub-blocks
     add-blocks
     cast-blocks
+    cast-from
+    cast-if2
     add-if2
     returns-2
-    add-all-recorded
+    sector-of-requires
     all-recorded-requires
     returns-3)

@@ -23,7 +23,7 @@ Inv-loop marks s k icb first count whole₀ sum₀ i₀ whole sum i =
     × (first + 8 * count ≤ 2048)
     × (i ≤ count)
     × (sum ≤ 4294967296 * i)
-    × ((bytes : List ℕ) → extentsFit (disc bytes marks) s k (fileLength icb) whole sum (extentsFrom icb i) ≡ extentsFit (disc bytes marks) s k (fileLength icb) true 0 (extents icb))
+    × ((bytes : List ℕ) → extentsFit (disc bytes marks) s (k .0) (fileLength icb) whole sum (extentsFrom icb i) ≡ extentsFit (disc bytes marks) s (k .0) (fileLength icb) true 0 (extents icb))
 
 abbrev μ-loop : tie.MeasureT-loop
 μ-loop marks s k icb first count whole₀ sum₀ i₀ whole sum i = count - i
@@ -49,7 +49,7 @@ loop-holds c =
       omega arith,
       omega arith,
       omega arith,
-      λ bytes. ap (λ (l : List Extent). extentsFit (disc bytes (a .marks .now)) (a .s) (a .k) (fileLength (a .icb .now)) true 0 l) (from-start (a .icb .now)),
+      λ bytes. ap (λ (l : List Extent). extentsFit (disc bytes (a .marks .now)) (a .s) (a .k .0) (fileLength (a .icb .now)) true 0 l) (from-start (a .icb .now)),
     )
 
 mul-at : tie.Need-mul-at Inv-loop μ-loop

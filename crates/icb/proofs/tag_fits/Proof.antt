@@ -82,7 +82,7 @@ read32-requires c κs = search needs
 returns-6 : tie.Need-returns-6
 unfolding tagFits
 returns-6 c =
-    past-5 (c .before .before) (fails _ (ne-eqb _ _ (λ e. c .if6 .taken (c .before .read32 .ensures ∙ e))))
+    past-5 (c .before .before .before) (fails _ (ne-eqb _ _ (λ e. c .if6 .taken (c .before .before .read32 .ensures ∙ e))))
 
 shared-slice-read-if7 : tie.Need-shared-slice-read-if7
 shared-slice-read-if7 c = search needs
@@ -94,8 +94,8 @@ returns-7 : tie.Need-returns-7
 unfolding tagFits
 returns-7 c =
     let b = c .before .before .before in
-    past-5 (b .before .before)
-    (holds (eq-eqb _ _ (sym (b .before .read32 .ensures) ∙ b .if6 .left))
+    past-5 (b .before .before .before)
+    (holds (eq-eqb _ _ (sym (b .before .before .read32 .ensures) ∙ b .if6 .left))
     (fails _ (ne-eqb _ _ (λ e. c .if7 .taken (e ∙ sym (c .before .checksum .ensures))))))
 
 cast-end : tie.Need-cast-end
@@ -124,11 +124,11 @@ unfolding tagFits part
 returns-8 c =
     let a = c .before .before .before in
     let b = a .before .before .before in
-    let icb = b .before .before .before .before .before .before .before .before .before .before .before .before .args .icb .now in
-    let n = b .before .before .before .before .read163 in
+    let icb = b .before .before .before .before .before .before .before .before .before .before .before .before .before .args .icb .now in
+    let n = b .before .before .before .before .before .read163 in
     let e : 16 + n .result - 16 ≡ field icb 10 2 = omega (arith, n .ensures) in
-    past-5 (b .before .before)
-    (holds (eq-eqb _ _ (sym (b .before .read32 .ensures) ∙ b .if6 .left))
+    past-5 (b .before .before .before)
+    (holds (eq-eqb _ _ (sym (b .before .before .read32 .ensures) ∙ b .if6 .left))
     (holds (eq-eqb _ _ (a .if7 .left ∙ a .before .checksum .ensures))
     (ap₂ eqb (c .before .read164 .ensures) (c .crc .ensures ∙ ap (λ (m : ℕ). crcFrom 0 (take m (drop 16 icb))) e))))
 

@@ -20,7 +20,7 @@ returns c =
     let g = c .before .before .before .before in
     let s = g .before .before .before .before in
     let a = s .args in
-    embedded-written (a .k) (a .t .now) _ (a .n) (a .previous) _ (s .pre .1 .0 .1)
+    embedded-written (a .k .0) (a .t .now) _ (a .n) (a .previous .0) _ (s .pre .1 .0 .1)
     (ltb-true _ _ (sym (g .before .is-embedded .ensures) ∙ g .if1 .taken)) (s .pre .0) (c .before .before .write-file .ensures)
 
 clear-requires : tie.Need-clear-requires
@@ -46,14 +46,14 @@ same-length-2 c = search needs
 
 returns-2 : tie.Need-returns-2
 returns-2 c =
-    let e₁ = c .before .before .before .before .before .before .before in
+    let e₁ = c .before .before .before .before .before .before .before .before in
     let e₀ = e₁ .before .before .before .before .before in
     let g = e₀ .before .before in
     let s = g .before .before .before .before in
     let a = s .args in
-    extent-written (a .k) (a .t .now) (a .rest .now) _ _ _ (a .n) (a .previous) _ _ (s .pre .1 .0 .1)
+    extent-written (a .k .0) (a .t .now) (a .rest .now) _ _ _ (a .n) (a .previous .0) _ _ (s .pre .1 .0 .1)
     (ltb-false _ _ (sym (g .before .is-embedded .ensures) ∙ g .if1 .left)) (s .pre .0)
-    (e₁ .before .file-bytes .ensures) (c .before .before .before .before .data-sectors .ensures)
+    (e₁ .before .file-bytes .ensures) (c .before .before .before .before .before .data-sectors .ensures)
     (e₀ .clear .ensures) (e₁ .write32 .ensures) (c .before .before .write322 .ensures)
 
 pub write-allocation-spec : {M : Type 1} → statement M

@@ -75,8 +75,8 @@ returns c =
     let e = l .before .before .before .before in
     let s = e .before .before .before .before in
     let a = s .args in
-    icb-written (a .k) (a .t .now) _ _ (a .n) (a .previous) _ _ (s .pre .1 .0 .1)
-    (body-written (a .k) (a .t .now) (a .sector .now) _ _ (a .n) (a .previous) (e .write-entry .ensures) (l .write-allocation .ensures))
+    icb-written (a .k .0) (a .t .now) _ _ (a .n) (a .previous .0) _ _ (s .pre .1 .0 .1)
+    (body-written (a .k .0) (a .t .now) (a .sector .now) _ _ (a .n) (a .previous .0) (e .write-entry .ensures) (l .write-allocation .ensures))
     (n .allocation-bytes .ensures)
     (r .crc .ensures)
     (w .write-tag .ensures)

@@ -49,7 +49,7 @@ returns c =
     let e₁ = e₂ .before .before .before .before in
     let e₀ = e₁ .before .before .before .before in
     let s = e₀ .before .before .before in
-    tag-written (s .args .k) (s .args .crc) (s .args .covered) _ (s .args .front .now) _ _ _ _ _ _ (s .pre)
+    tag-written (s .args .k .0) (s .args .crc) (s .args .covered) _ (s .args .front .now) _ _ _ _ _ _ (s .pre)
     (e₀ .clear .ensures)
     (e₁ .write16 .ensures)
     (e₂ .write162 .ensures)

@@ -20,7 +20,7 @@ data-sectors-requires c κs =
     let n = c .before .before .entries-held in
     let z = c .before .before .before in
     let few : n .result ≤ 4096 = omega (arith, n .ensures, z .pre .0) in
-    omega (arith, c .count-after .ensures, count-few (n .result) (z .args .v) few (z .pre .1))
+    omega (arith, c .count-after .ensures, count-few (n .result) (z .args .v .0) few (z .pre .1))
 
 cast-result : tie.Need-cast-result
 cast-result c = search needs
@@ -38,7 +38,7 @@ add-result-3 : tie.Need-add-result-3
 add-result-3 c = search needs
 
 returns : tie.Need-returns
-returns c = room _ _ _ (c .before .before .before .entries-held .ensures) (c .before .before .next-held .ensures) (c .before .count-after .ensures) (c .data-sectors .ensures)
+returns c = room _ _ _ (c .before .before .before .before .entries-held .ensures) (c .before .before .before .next-held .ensures) (c .before .before .count-after .ensures) (c .before .data-sectors .ensures)
 
 pub has-room-spec : {M : Type 1} → statement M
 has-room-spec =

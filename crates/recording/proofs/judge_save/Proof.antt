@@ -10,7 +10,7 @@ use Rattle.recording.proofs.judge_save.Tie as tie
 
 -- the setting and the disc of the call
 abbrev settingOf : List ℕ → tie.Start → Setting
-settingOf maps z = setting maps (z .args .s) (z .args .l)
+settingOf maps z = setting maps (z .args .span .start) (z .args .span .length)
 
 abbrev discOf : tie.Start → Disc
 discOf z = disc (z .args .disc .now) (z .args .marks .now)
@@ -20,13 +20,13 @@ entries-held-requires c κs = search needs
 
 returns : tie.Need-returns
 returns c maps =
-    let z = c .before .before .before .before .before in
-    save-beyond (settingOf maps z) (discOf z) _ _ (z .args .block .now) (c .before .entries-held .ensures) (c .if1 .taken)
+    let z = c .before .before .before .before .before .before in
+    save-beyond (settingOf maps z) (discOf z) _ _ (z .args .block .now) (c .before .before .entries-held .ensures) (c .if1 .taken)
 
 returns-2 : tie.Need-returns-2
 returns-2 c maps =
-    let z = c .before .before .before .before .before .before in
-    save-many (settingOf maps z) (discOf z) _ _ (z .args .block .now) (c .before .before .entries-held .ensures) (c .if2 .taken)
+    let z = c .before .before .before .before .before .before .before .before in
+    save-many (settingOf maps z) (discOf z) _ _ (z .args .block .now) (c .before .before .before .before .entries-held .ensures) (c .if2 .taken)
 
 next-held-requires : tie.Need-next-held-requires
 next-held-requires c κs = search needs
@@ -36,9 +36,9 @@ passes-requires c κs = search needs
 
 returns-3 : tie.Need-returns-3
 returns-3 c maps =
-    let z = c .before .before .before .before .before .before .before .before .before in
-    save-passes (settingOf maps z) (discOf z) _ _ (z .args .block .now) (c .before .before .before .before .before .entries-held .ensures)
-    (c .before .before .before .before .if1 .left)
+    let z = c .before .before .before .before .before .before .before .before .before .before .before in
+    save-passes (settingOf maps z) (discOf z) _ _ (z .args .block .now) (c .before .before .before .before .before .before .before .entries-held .ensures)
+    (c .before .before .before .before .before .if1 .left)
     (c .before .before .before .if2 .left)
     (c .before .before .next-held .ensures)
     (c .before .passes .ensures)
@@ -49,9 +49,9 @@ has-room-requires c κs = search needs
 
 returns-4 : tie.Need-returns-4
 returns-4 c maps =
-    let z = c .before .before .before .before .before .before .before .before .before .before .before in
-    save-full (settingOf maps z) (discOf z) _ _ (z .args .block .now) (c .before .before .before .before .before .before .before .entries-held .ensures)
-    (c .before .before .before .before .before .before .if1 .left)
+    let z = c .before .before .before .before .before .before .before .before .before .before .before .before .before in
+    save-full (settingOf maps z) (discOf z) _ _ (z .args .block .now) (c .before .before .before .before .before .before .before .before .before .entries-held .ensures)
+    (c .before .before .before .before .before .before .before .if1 .left)
     (c .before .before .before .before .before .if2 .left)
     (c .before .before .before .before .next-held .ensures)
     (c .before .before .before .passes .ensures)
@@ -61,9 +61,9 @@ returns-4 c maps =
 
 returns-5 : tie.Need-returns-5
 returns-5 c maps =
-    let z = c .before .before .before .before .before .before .before .before .before .before .before in
-    save-fits (settingOf maps z) (discOf z) _ _ (z .args .block .now) (c .before .before .before .before .before .before .before .entries-held .ensures)
-    (c .before .before .before .before .before .before .if1 .left)
+    let z = c .before .before .before .before .before .before .before .before .before .before .before .before .before in
+    save-fits (settingOf maps z) (discOf z) _ _ (z .args .block .now) (c .before .before .before .before .before .before .before .before .before .entries-held .ensures)
+    (c .before .before .before .before .before .before .before .if1 .left)
     (c .before .before .before .before .before .if2 .left)
     (c .before .before .before .before .next-held .ensures)
     (c .before .before .before .passes .ensures)

@@ -4,7 +4,7 @@ use mathlib.Core.Path.{sym, ap, _∙_}
 use native.Mathlib.Omega.{arith}
 use borrow.Author.Needs.{needs}
 use lib.ListN.{getD}
-use Rattle.vat.proofs.File.{embedded-ends, embedded-byte, extended-byte}
+use Rattle.vat.proofs.File.{extended-below, embedded-ends, embedded-byte, extended-byte}
 use Rattle.vat.proofs.file_byte.Statement.{statement}
 use Rattle.vat.proofs.file_byte.Tie as tie
 
@@ -40,7 +40,10 @@ returns c =
     ∙ embedded-byte _ _ _ (s .pre .0) (a .o) (sym (b .form-of .ensures) ∙ c .before .before .if1 .taken) (s .pre .1)
 
 run-at-requires : tie.Need-run-at-requires
-run-at-requires c κs = search needs
+run-at-requires c κs =
+    let b = c .before in
+    let p = b .before .before .before .pre .0 in
+    ((p .block, p .entry), extended-below _ _ _ p (λ e. c .if1 .left (b .form-of .ensures ∙ e)))
 
 shared-slice-read-result-2 : tie.Need-shared-slice-read-result-2
 shared-slice-read-result-2 c =

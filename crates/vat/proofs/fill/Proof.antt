@@ -5,15 +5,18 @@ use Rattle.vat.proofs.Laws.{Icb, icb, icb-filled}
 use Rattle.vat.proofs.fill.Statement.{statement}
 use Rattle.vat.proofs.fill.Tie as tie
 
+sector-of-requires : tie.Need-sector-of-requires
+sector-of-requires c κs = search needs
+
 sector-at-requires : tie.Need-sector-at-requires
 sector-at-requires c κs = search needs
 
 -- the sector is a VAT ICB
-found : (c : tie.After-sector-at) → let a = c .before .before .before .before .args in Icb (a .disc .now) (a .marks .now) (a .s) (a .k) (c .sector-at .result .now)
+found : (c : tie.After-sector-at) → let a = c .before .before .before .before .before .args in Icb (a .disc .now) (a .marks .now) (a .s) (a .k .0) (c .sector-at .result .now)
 found c =
-    let s = c .before .before .before .before in
+    let s = c .before .before .before .before .before in
     let p = s .pre in
-    icb _ _ _ _ _ (p .0) (p .1 .0) (p .1 .1 .0) (c .sector-at .ensures (s .args .marks .now))
+    icb _ _ _ _ _ (p .0) (p .1 .0) (p .1 .1 .0) (c .before .sector-of .ensures) (c .sector-at .ensures (s .args .marks .now))
 
 count-of-requires : tie.Need-count-of-requires
 count-of-requires c κs = (found c .block, found c .long)
@@ -21,7 +24,7 @@ count-of-requires c κs = (found c .block, found c .long)
 put-entries-requires : tie.Need-put-entries-requires
 put-entries-requires c κs =
     let v = found (c .before .before) in
-    let p = c .before .before .before .before .before .before .pre in
+    let p = c .before .before .before .before .before .before .before .pre in
     (v .filed, omega (arith, v .long, v .count, c .before .count-of .ensures, p .1 .1 .1))
 
 same-length : tie.Need-same-length
@@ -35,4 +38,4 @@ returns c =
 pub fill-spec : {M : Type 1} → statement M
 fill-spec =
     tie.close
-    (tie.spec sector-at-requires count-of-requires put-entries-requires same-length returns)
+    (tie.spec sector-of-requires sector-at-requires count-of-requires put-entries-requires same-length returns)

@@ -1,15 +1,17 @@
 -- `vat::run_at` meets its contract. The loop's invariant: the bytes stand where those of the extents from `pair` on stand, from `left` on. Assumes
 -- nothing.
 use Prim.Native.Nat.{ℕ, _+_, _-_, _*_, _/_, _≤_}
-use mathlib.Core.Path.{_≡_, refl, ap}
+use mathlib.Core.Path.{_≡_, refl, ap, _∙_}
+use mathlib.Core.Bool.{true}
 use mathlib.Core.List.{List}
 use native.Mathlib.Omega.{arith}
 use borrow.Author.Needs.{needs}
+use Rattle.address.specs.Translation.{mostSectors}
 use Rattle.model.specs.Vat.{Extent, attributes, allocation, extents}
-use Rattle.vat.specs.File.{placeOf, leftOf}
+use Rattle.vat.specs.File.{placeOf, leftOf, onDisc}
 use Rattle.icb.proofs.Extents.{extentsFrom, from-start, from-end, from-zero, from-next}
 use Rattle.icb.proofs.Entry.{entry-ends}
-use Rattle.vat.proofs.Places.{run-none, run-here, run-later}
+use Rattle.vat.proofs.Places.{run-none, run-here, run-later, next-on-disc}
 use Rattle.vat.proofs.run_at.Statement.{statement}
 use Rattle.vat.proofs.run_at.Tie as tie
 
@@ -21,6 +23,7 @@ Inv-loop s icb o first count left₀ pair₀ left pair =
     × (pair ≤ count)
     × (placeOf s (extentsFrom icb pair) left ≡ placeOf s (extents icb) o)
     × (leftOf (extentsFrom icb pair) left ≡ leftOf (extents icb) o)
+    × (onDisc (2048 * mostSectors) s (extentsFrom icb pair) ≡ true)
 
 abbrev μ-loop : tie.MeasureT-loop
 μ-loop s icb o first count left₀ pair₀ left pair = count - pair
@@ -39,13 +42,14 @@ loop-holds c =
     let a = c .before .before .before .args in
     let e : c .before .attributes-of .result ≡ attributes (a .icb .now) = c .before .attributes-of .ensures .0 in
     let n : c .allocation-of .result ≡ allocation (a .icb .now) = c .allocation-of .ensures .0 in
-    let h = entry-ends (a .icb .now) (c .before .before .before .pre .1) in (
+    let h = entry-ends (a .icb .now) (c .before .before .before .pre .0 .1) in (
       omega arith,
       ap (λ (m : ℕ). m / 8) n,
       omega arith,
       omega arith,
       ap (λ (l : List Extent). placeOf (a .s) l (a .o)) (from-start (a .icb .now)),
       ap (λ (l : List Extent). leftOf l (a .o)) (from-start (a .icb .now)),
+      ap (onDisc (2048 * mostSectors) (a .s)) (from-start (a .icb .now)) ∙ c .before .before .before .pre .1,
     )
 
 mul-at : tie.Need-mul-at Inv-loop μ-loop
@@ -72,28 +76,34 @@ add-read32 c = omega arith
 read32-requires-2 : tie.Need-read32-requires-2 Inv-loop μ-loop
 read32-requires-2 c κs = omega arith
 
-cast-block : tie.Need-cast-block Inv-loop μ-loop
-cast-block c = omega arith
-
-add-block : tie.Need-add-block Inv-loop μ-loop
-add-block c = omega arith
-
-mul-t15 : tie.Need-mul-t15 Inv-loop μ-loop
-mul-t15 c = omega arith
-
-add-t17 : tie.Need-add-t17 Inv-loop μ-loop
-add-t17 c = omega arith
-
-sub-t19 : tie.Need-sub-t19 Inv-loop μ-loop
-sub-t19 c = omega arith
-
-returns-2 : tie.Need-returns-2 Inv-loop μ-loop
-returns-2 c =
+sector-of-requires : tie.Need-sector-of-requires Inv-loop μ-loop
+sector-of-requires c κs =
     let t = c .before in
     let b = t .before .before .before in
     let v = b .before .loop in
     let next = from-next _ _ _ (v .pair) _ (v .inv .0) (v .inv .1) (b .loop-test .taken) (t .before .before .read32 .ensures) (c .read322 .result) (t .before .if1 .left) (c .read322 .ensures) in
-    run-here _ (v .left) _ _ _ (v .inv .4) (v .inv .5) _ _ next (t .if2 .taken)
+    omega (arith, next-on-disc _ _ _ _ _ (v .inv .6) next .0)
+
+cast-sector : tie.Need-cast-sector Inv-loop μ-loop
+cast-sector c = omega arith
+
+mul-t17 : tie.Need-mul-t17 Inv-loop μ-loop
+mul-t17 c = omega arith
+
+add-t20 : tie.Need-add-t20 Inv-loop μ-loop
+add-t20 c = omega arith
+
+sub-t21 : tie.Need-sub-t21 Inv-loop μ-loop
+sub-t21 c = omega arith
+
+returns-2 : tie.Need-returns-2 Inv-loop μ-loop
+returns-2 c =
+    let t = c .before .before .before in
+    let b = t .before .before .before in
+    let v = b .before .loop in
+    let next = from-next _ _ _ (v .pair) _ (v .inv .0) (v .inv .1) (b .loop-test .taken) (t .before .before .read32 .ensures) (c .before .before .read322 .result) (t .before .if1 .left) (c .before .before .read322 .ensures) in
+    let r = run-here _ (v .left) _ _ _ (v .inv .4) (v .inv .5) _ _ next (t .if2 .taken) in
+    (ap (λ (p : ℕ). 2048 * p + v .left) (c .before .sector-of .ensures) ∙ r .0, r .1)
 
 add-pair : tie.Need-add-pair Inv-loop μ-loop
 add-pair c = omega arith
@@ -107,7 +117,7 @@ loop-again c =
     let v = b .before .loop in
     let next = from-next _ _ _ (v .pair) _ (v .inv .0) (v .inv .1) (b .loop-test .taken) (c .before .before .read32 .ensures) _ (c .before .if1 .left) refl in
     let r = run-later _ (v .left) _ _ _ (v .inv .4) (v .inv .5) _ _ next (c .if2 .left) in
-    (v .inv .0, v .inv .1, v .inv .2, omega arith, r .0, r .1)
+    (v .inv .0, v .inv .1, v .inv .2, omega arith, r .0, r .1, next-on-disc _ _ _ _ _ (v .inv .6) next .1)
 
 returns-3 : tie.Need-returns-3 Inv-loop μ-loop
 returns-3 c =
@@ -131,11 +141,11 @@ run-at-spec =
     returns
     add-read32
     read32-requires-2
-    cast-block
-    add-block
-    mul-t15
-    add-t17
-    sub-t19
+    sector-of-requires
+    cast-sector
+    mul-t17
+    add-t20
+    sub-t21
     returns-2
     add-pair
     loop-less

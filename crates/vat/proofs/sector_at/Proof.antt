@@ -5,8 +5,8 @@ use Rattle.vat.proofs.Laws.{lent-sector}
 use Rattle.vat.proofs.sector_at.Statement.{statement}
 use Rattle.vat.proofs.sector_at.Tie as tie
 
-add-from : tie.Need-add-from
-add-from c = search needs
+cast-from : tie.Need-cast-from
+cast-from c = search needs
 
 mul-from : tie.Need-mul-from
 mul-from c = search needs
@@ -30,7 +30,7 @@ pub sector-at-spec : {M : Type 1} → statement M
 sector-at-spec =
     tie.close
     (tie.spec
-    add-from
+    cast-from
     mul-from
     add-to
     sub-result

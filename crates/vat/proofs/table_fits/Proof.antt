@@ -51,7 +51,7 @@ words-below-requires c κs =
     (e .before .before .before .pre, (omega arith, omega (arith, e .length-of .ensures)))
 
 -- past the regid: the previous ICB and the entries are left
-past-3 : (c : tie.Else3) {x : Bool} → let n = c .before .before .before .before .length-of .result in let a = c .before .before .before .before .before .before .before .args in let f = fileIn (a .disc .now) (a .s) (a .icb .now) in x ≡ belowOrNone (a .k) (field f (n - 4) 4) && allBelow (a .k) (words f 0 ((n - 36) / 4)) → x ≡ tableFits (a .k) f
+past-3 : (c : tie.Else3) {x : Bool} → let n = c .before .before .before .before .length-of .result in let a = c .before .before .before .before .before .before .before .args in let f = fileIn (a .disc .now) (a .s) (a .icb .now) in x ≡ belowOrNone (a .k .0) (field f (n - 4) 4) && allBelow (a .k .0) (words f 0 ((n - 36) / 4)) → x ≡ tableFits (a .k .0) f
 past-3 c q =
     let e = c .before .before in
     holds (le-leb _ _ (e .before .if1 .left))
@@ -59,7 +59,7 @@ past-3 c q =
     ∙ sym (table-tests _ _ _ (long (e .before .before)))
 
 -- the previous ICB, where it is tested
-previous : (c : tie.After-words-below) → let n = c .before .before .before .before .before .length-of .result in let a = c .before .before .before .before .before .before .before .before .args in c .words-below .result ≡ belowOrNone (a .k) (field (fileIn (a .disc .now) (a .s) (a .icb .now)) (n - 4) 4)
+previous : (c : tie.After-words-below) → let n = c .before .before .before .before .before .length-of .result in let a = c .before .before .before .before .before .before .before .before .args in c .words-below .result ≡ belowOrNone (a .k .0) (field (fileIn (a .disc .now) (a .s) (a .icb .now)) (n - 4) 4)
 previous c =
     let e = c .before .before .before in
     previous-word _ _ _ _ (e .before .if1 .left) (e .if2 .left) (c .words-below .ensures)

@@ -6,7 +6,7 @@ use native.Mathlib.Omega.{arith}
 use lib.ListN.{length, take, drop}
 use Rattle.model.specs.Vat.{extents}
 use Rattle.vat.specs.File.{Together, fileIn}
-use Rattle.vat.proofs.File.{Some, length-fits, all-wanted, all-left, run-words}
+use Rattle.vat.proofs.File.{Some, extended-below, length-fits, all-wanted, all-left, run-words}
 use borrow.Author.Needs.{needs}
 use Rattle.vat.proofs.words_at.Statement.{statement}
 use Rattle.vat.proofs.words_at.Tie as tie
@@ -18,7 +18,7 @@ mul-run-at c =
     omega (arith, s .pre .1 .1)
 
 run-at-requires : tie.Need-run-at-requires
-run-at-requires c κs = search needs
+run-at-requires c κs = let s = c .before .before in ((s .pre .0 .block, s .pre .0 .entry), extended-below _ _ _ (s .pre .0) (s .pre .1 .0))
 
 sub-bytes : tie.Need-sub-bytes
 sub-bytes c = search needs

@@ -13,7 +13,7 @@ use Rattle.vat.proofs.words_below.Statement.{statement}
 use Rattle.vat.proofs.words_below.Tie as tie
 
 abbrev Inv-loop : tie.InvT-loop
-Inv-loop disc s k icb from n v₀ v = (v ≤ n) × (allBelow k (words (fileIn disc s icb) (4 * v) (n - v)) ≡ allBelow k (words (fileIn disc s icb) (4 * from) (n - from)))
+Inv-loop disc s k icb from n v₀ v = (v ≤ n) × (allBelow (k .0) (words (fileIn disc s icb) (4 * v) (n - v)) ≡ allBelow (k .0) (words (fileIn disc s icb) (4 * from) (n - from)))
 
 abbrev μ-loop : tie.MeasureT-loop
 μ-loop disc s k icb from n v₀ v = n - v
@@ -36,7 +36,7 @@ returns c =
     let s = b .before .before .before in
     let a = s .args in
     c .words-fit .ensures
-    ∙ ap (allBelow (a .k))
+    ∙ ap (allBelow (a .k .0))
     (embedded-words _ _ _ (s .pre .0) (a .from) (a .n) _ (sym (b .form-of .ensures) ∙ c .before .before .if1 .taken) (s .pre .1 .0) (s .pre .1 .1) (c .before .embedded-words .ensures))
 
 loop-holds : tie.Need-loop-holds Inv-loop μ-loop

@@ -25,7 +25,7 @@ returns : tie.Need-returns
 returns c =
     let s = c .before .before .before .before .before .before in
     let a = s .args in
-    data-written (a .t .now) _ (a .n) (a .previous) (a .i) _ (s .pre .1 .0 .1) (s .pre .1 .1) (s .pre .0) (c .before .before .write-file .ensures)
+    data-written (a .t .now) _ (a .n) (a .previous .0) (a .i) _ (s .pre .1 .0 .1) (s .pre .1 .1) (s .pre .0) (c .before .before .write-file .ensures)
 
 pub write-data-spec : {M : Type 1} → statement M
 write-data-spec = tie.close (tie.spec mul-first cast-first write-file-requires same-length returns)

@@ -49,7 +49,7 @@ returns c =
     let b = e .before .before in
     let s = b .before .before .before .before in
     let a = s .args in
-    file-left (a .t .now) (a .n) (a .previous) (a .first) _ _ (length (a .s .now)) (omega arith) (omega arith) (b .before .smaller .ensures) (b .smaller2 .ensures)
+    file-left (a .t .now) (a .n) (a .previous .0) (a .first) _ _ (length (a .s .now)) (omega arith) (omega arith) (b .before .smaller .ensures) (b .smaller2 .ensures)
     (a .s .now) _ _ refl (e .write-entries .ensures) (c .before .before .write-tail .ensures)
 
 pub write-file-spec : {M : Type 1} → statement M

@@ -15,10 +15,10 @@ use Rattle.vat_written.proofs.write_tail.Statement.{statement}
 use Rattle.vat_written.proofs.write_tail.Tie as tie
 
 abbrev Inv-loop : tie.InvT-loop
-Inv-loop rest₀ from previous bytes begun count i₀ rest i = Copying rest₀ 0 (part bytes begun count) rest i
+Inv-loop rest₀ from bytes begun count i₀ rest i = Copying rest₀ 0 (part bytes begun count) rest i
 
 abbrev μ-loop : tie.MeasureT-loop
-μ-loop rest₀ from previous bytes begun count i₀ rest i = count - i
+μ-loop rest₀ from bytes begun count i₀ rest i = count - i
 
 clear-requires : tie.Need-clear-requires Inv-loop μ-loop
 clear-requires c κs = search needs
@@ -61,7 +61,7 @@ loop-again c =
     let z = b .before .before .before .before .before .clear in
     let a = b .before .before .before .before .before .before .before .before .args in
     let long : length (z .last .0) ≡ length (a .rest .now) = ap length (z .ensures) ∙ length-replicate {A = ℕ} _ 0 in
-    let l = length-part (t .result) (b .before .smaller .result) (b .smaller2 .result) (omega (arith, ap length (t .ensures), length-tail (a .previous))) in
+    let l = length-part (t .result) (b .before .smaller .result) (b .smaller2 .result) (omega (arith, ap length (t .ensures), length-tail (a .previous .0))) in
     rw zero-add at
     (copying-next (z .last .0) 0 _ (v .rest) (v .i) _ (omega arith) (omega arith)
     (sym (getD-part (t .result) (b .before .smaller .result) (b .smaller2 .result) (v .i) (omega arith)))
@@ -79,11 +79,11 @@ returns c =
     let t = b .before .before .tail-of in
     let z = b .before .before .before .before .before .clear in
     let a = b .before .before .before .before .before .before .before .before .args in
-    let l = length-part (t .result) (b .before .smaller .result) (b .smaller2 .result) (omega (arith, ap length (t .ensures), length-tail (a .previous))) in
+    let l = length-part (t .result) (b .before .smaller .result) (b .smaller2 .result) (omega (arith, ap length (t .ensures), length-tail (a .previous .0))) in
     copying-last (z .last .0) 0 _ (v .rest) (v .i) (omega arith) (v .inv)
     ∙ ap₂ (λ (x y : List ℕ). splice x 0 (part y (b .before .smaller .result) (b .smaller2 .result))) (z .ensures) (t .ensures)
-    ∙ put-onward (tail (a .previous)) (a .from) (length (a .rest .now)) _ _ (omega (arith, b .before .smaller .ensures, length-tail (a .previous)))
-    (omega (arith, b .smaller2 .ensures, length-tail (a .previous)))
+    ∙ put-onward (tail (a .previous .0)) (a .from) (length (a .rest .now)) _ _ (omega (arith, b .before .smaller .ensures, length-tail (a .previous .0)))
+    (omega (arith, b .smaller2 .ensures, length-tail (a .previous .0)))
 
 pub write-tail-spec : {M : Type 1} → statement M
 write-tail-spec =

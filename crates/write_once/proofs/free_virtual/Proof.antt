@@ -9,7 +9,7 @@ use Rattle.model.specs.Once.{freePlan}
 use Rattle.model.proofs.Sectors.{writes-none}
 use Rattle.model.proofs.Plans.{refused, carried}
 use Rattle.examine.proofs.Calls.{Common, going, stopped, stopped-own, goes-on, table-long}
-use Rattle.write_once.proofs.Laws.{entry-tells, uncut}
+use Rattle.write_once.proofs.Laws.{entry-refused, entry-found, entry-tells, uncut}
 use Rattle.write_once.proofs.free_virtual.Statement.{statement}
 use Rattle.write_once.proofs.free_virtual.Tie as tie
 
@@ -24,7 +24,7 @@ discOf z = disc (z .args .disc .now) (z .args .marks .now)
 told : (c : tie.After-enum-told) → Common (settingOf (c .before .before .before .before .before .before .before .before .before .before)) (discOf (c .before .before .before .before .before .before .before .before .before .before)) (lentTable (c .before .before .before .before .before .before .before .before .before .before .args .table .now)) (c .before .before .before .before .before .before .before .before .before .before .args .held)
 told c =
     let z = c .before .before .before .before .before .before .before .before .before .before in
-    going (settingOf z) (discOf z) (z .args .table .now) (lentTable (z .args .table .now)) (z .args .held) (c .before .before .before .before .is-lent .ensures) (c .before .before .judge-once .ensures) (c .enum-told .given .1)
+    going (settingOf z) (discOf z) (z .args .table .now) (lentTable (z .args .table .now)) (z .args .held) (c .before .before .before .before .is-lent .ensures) (c .before .before .judge-once .ensures .verdict) (c .enum-told .given .1)
 
 is-lent-requires : tie.Need-is-lent-requires
 is-lent-requires c κs = search needs
@@ -32,8 +32,8 @@ is-lent-requires c κs = search needs
 judge-once-requires : tie.Need-judge-once-requires
 judge-once-requires c κs = λ h. table-long (c .before .before .before .before .before .before .before .args .table .now) (sym (c .before .is-lent .ensures) ∙ h)
 
-enum-known-why : tie.Need-enum-known-why
-enum-known-why c = search needs
+enum-known-verdict : tie.Need-enum-known-verdict
+enum-known-verdict c = search needs
 
 same-length : tie.Need-same-length
 same-length c = search needs
@@ -42,18 +42,18 @@ returns : tie.Need-returns
 unfolding freePlan
 returns c =
     let z = c .before .before .before .before .before .before .before .before .before .before .before in
-    refused _ _ _ _ (stopped (settingOf z) (discOf z) (z .args .table .now) (lentTable (z .args .table .now)) (z .args .held) _ _ (c .before .before .before .before .before .is-lent .ensures) (c .before .before .before .judge-once .ensures) (c .before .why .given .1))
+    refused _ _ _ _ (stopped (settingOf z) (discOf z) (z .args .table .now) (lentTable (z .args .table .now)) (z .args .held) _ _ (c .before .before .before .before .before .is-lent .ensures) (c .before .before .before .judge-once .ensures .verdict) (c .before .verdict .given .1))
 
 enum-told : tie.Need-enum-told
 enum-told c = search needs
 
-judge-entry-requires : tie.Need-judge-entry-requires
-judge-entry-requires c κs =
+look-up-requires : tie.Need-look-up-requires
+look-up-requires c κs =
     let h = told (c .before) in
     omega (arith, h .entries, table-long (c .before .before .before .before .before .before .before .before .before .before .before .args .table .now) (h .lengths))
 
-enum-known-why-2 : tie.Need-enum-known-why-2
-enum-known-why-2 c = search needs
+enum-known-why : tie.Need-enum-known-why
+enum-known-why c = search needs
 
 same-length-2 : tie.Need-same-length-2
 same-length-2 c = search needs
@@ -62,19 +62,22 @@ returns-2 : tie.Need-returns-2
 unfolding freePlan
 returns-2 c =
     let z = c .before .before .before .before .before .before .before .before .before .before .before .before .before .before .before in
-    refused _ _ _ _ (stopped-own (settingOf z) (discOf z) (z .args .table .now) (lentTable (z .args .table .now)) (z .args .held) _ _ (c .before .before .before .before .before .before .before .before .before .is-lent .ensures) (c .before .before .before .before .before .before .before .judge-once .ensures) (c .before .before .before .before .before .enum-told .given .1) (c .before .before .before .judge-entry .ensures) (c .before .why2 .given .1))
+    refused _ _ _ _ (stopped-own (settingOf z) (discOf z) (z .args .table .now) (lentTable (z .args .table .now)) (z .args .held) _ _ (c .before .before .before .before .before .before .before .before .before .is-lent .ensures) (c .before .before .before .before .before .before .before .judge-once .ensures .verdict) (c .before .before .before .before .before .enum-told .given .1) refl (entry-refused _ _ _ (c .before .before .before .look-up .ensures) (c .before .why .given .1)))
 
 enum-told-2 : tie.Need-enum-told-2
 enum-told-2 c = search needs
+
+cast-table : tie.Need-cast-table
+cast-table c = search needs
 
 mul-table : tie.Need-mul-table
 mul-table c = search needs
 
 slice-write-table : tie.Need-slice-write-table
 slice-write-table c =
-    let z = c .before .before .before .before .before .before .before .before .before .before .before .before .before .before in
-    let h = told (c .before .before .before .before) in
-    omega (arith, h .entries, table-long (z .args .table .now) (h .lengths), entry-tells (z .args .table .now) (z .args .held) (z .args .v) (c .before .before .judge-entry .ensures) (c .enum-told2 .given .1))
+    let z = c .before .before .before .before .before .before .before .before .before .before .before .before .before .before .before in
+    let h = told (c .before .before .before .before .before) in
+    omega (arith, h .entries, table-long (z .args .table .now) (h .lengths), entry-tells (z .args .table .now) (z .args .held) (z .args .v) (entry-found _ _ _ (c .before .before .before .look-up .ensures) (c .before .enum-told2 .given .1) .0))
 
 same-length-3 : tie.Need-same-length-3
 same-length-3 c = search needs
@@ -82,8 +85,8 @@ same-length-3 c = search needs
 returns-3 : tie.Need-returns-3
 unfolding freePlan none
 returns-3 c =
-    let z = c .before .before .before .before .before .before .before .before .before .before .before .before .before .before in
-    carried _ _ _ _ (goes-on (settingOf z) (discOf z) (z .args .table .now) (lentTable (z .args .table .now)) (z .args .held) _ _ (c .before .before .before .before .before .before .before .before .is-lent .ensures) (c .before .before .before .before .before .before .judge-once .ensures) (c .before .before .before .before .enum-told .given .1) (c .before .before .judge-entry .ensures) (c .enum-told2 .given .1))
+    let z = c .before .before .before .before .before .before .before .before .before .before .before .before .before .before .before in
+    carried _ _ _ _ (goes-on (settingOf z) (discOf z) (z .args .table .now) (lentTable (z .args .table .now)) (z .args .held) _ _ (c .before .before .before .before .before .before .before .before .before .is-lent .ensures) (c .before .before .before .before .before .before .before .judge-once .ensures .verdict) (c .before .before .before .before .before .enum-told .given .1) refl (entry-found _ _ _ (c .before .before .before .look-up .ensures) (c .before .enum-told2 .given .1) .0))
     uncut
     (sym (writes-none _ _ _))
     refl
@@ -95,15 +98,16 @@ free-virtual-spec =
     (tie.spec
     is-lent-requires
     judge-once-requires
-    enum-known-why
+    enum-known-verdict
     same-length
     returns
     enum-told
-    judge-entry-requires
-    enum-known-why-2
+    look-up-requires
+    enum-known-why
     same-length-2
     returns-2
     enum-told-2
+    cast-table
     mul-table
     slice-write-table
     same-length-3

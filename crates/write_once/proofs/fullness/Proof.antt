@@ -22,13 +22,13 @@ is-lent-requires c κs = search needs
 judge-once-requires : tie.Need-judge-once-requires
 judge-once-requires c κs = λ h. table-long (c .before .before .before .before .before .args .table .now) (sym (c .is-lent .ensures) ∙ h)
 
-enum-known-why : tie.Need-enum-known-why
-enum-known-why c = search needs
+enum-known-verdict : tie.Need-enum-known-verdict
+enum-known-verdict c = search needs
 
 returns : tie.Need-returns
 returns c =
     let z = c .before .before .before .before .before .before .before .before .before in
-    full-stopped (settingOf z) (discOf z) (z .args .table .now) (z .args .held) (c .before .before .before .before .is-lent .ensures) (c .before .before .before .judge-once .ensures) (c .before .why .given .1)
+    full-stopped (settingOf z) (discOf z) (z .args .table .now) (z .args .held) (c .before .before .before .before .is-lent .ensures) (c .before .before .before .judge-once .ensures .verdict) (c .before .verdict .given .1)
 
 enum-told : tie.Need-enum-told
 enum-told c = search needs
@@ -38,15 +38,17 @@ next-held-requires c κs = search needs
 
 per-mille-requires : tie.Need-per-mille-requires
 per-mille-requires c κs =
-    let z = c .before .before .before .before .before .before .before .before .before in
-    let h = going (settingOf z) (discOf z) (z .args .table .now) (lentTable (z .args .table .now)) (z .args .held) (c .before .before .before .before .is-lent .ensures) (c .before .before .before .judge-once .ensures) (c .before .enum-told .given .1) in
-    (omega (arith, h .next, c .next-held .ensures), h .some)
+    let z = c .before .before .before .before .before .before .before .before .before .before in
+    let h = going (settingOf z) (discOf z) (z .args .table .now) (lentTable (z .args .table .now)) (z .args .held) (c .before .before .before .before .before .is-lent .ensures) (c .before .before .before .before .judge-once .ensures .verdict) (c .before .before .enum-told .given .1) in
+    let l = c .before .before .before .before .judge-once .ensures .length (c .before .before .enum-told .given .1) in
+    (omega (arith, h .next, c .next-held .ensures, l), omega (arith, h .some, l))
 
 returns-2 : tie.Need-returns-2
 returns-2 c =
-    let z = c .before .before .before .before .before .before .before .before .before .before in
-    full-told (settingOf z) (discOf z) (z .args .table .now) (z .args .held) (c .before .before .before .before .before .is-lent .ensures) (c .before .before .before .before .judge-once .ensures) (c .before .before .enum-told .given .1)
+    let z = c .before .before .before .before .before .before .before .before .before .before .before in
+    full-told (settingOf z) (discOf z) (z .args .table .now) (z .args .held) (c .before .before .before .before .before .before .is-lent .ensures) (c .before .before .before .before .before .judge-once .ensures .verdict) (c .before .before .before .enum-told .given .1)
     (c .before .next-held .ensures)
+    (c .before .before .before .before .before .judge-once .ensures .length (c .before .before .before .enum-told .given .1))
     (c .per-mille .ensures)
 
 pub fullness-spec : {M : Type 1} → statement M
@@ -55,7 +57,7 @@ fullness-spec =
     (tie.spec
     is-lent-requires
     judge-once-requires
-    enum-known-why
+    enum-known-verdict
     returns
     enum-told
     next-held-requires

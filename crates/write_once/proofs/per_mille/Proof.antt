@@ -14,11 +14,14 @@ div-result : tie.Need-div-result
 div-result c = search needs
 
 cast-result : tie.Need-cast-result
-cast-result c = let h = mille-most (c .args .next) (c .args .l) (c .pre .0) in omega arith
+cast-result c = search needs
+
+cast-result-2 : tie.Need-cast-result-2
+cast-result-2 c = let h = mille-most (c .before .args .next .0) (c .before .args .l) (c .before .pre .0) in omega arith
 
 returns : tie.Need-returns
 unfolding perMille
 returns c = refl
 
 pub per-mille-spec : {M : Type 1} → statement M
-per-mille-spec = tie.close (tie.spec mul-result div-result cast-result returns)
+per-mille-spec = tie.close (tie.spec cast-result mul-result div-result cast-result-2 returns)
