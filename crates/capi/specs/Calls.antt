@@ -7,17 +7,17 @@ use mathlib.Core.Bool.{Bool, cond, _&&_}
 use mathlib.Core.List.{List, [], _∷_}
 use lib.ListN.{length}
 use lib.Dec.{eqb}
-use Rattle.refusal.specs.Number.{numberOf}
 use Rattle.model.specs.declared.Cut.{Cut}
 use Rattle.model.specs.declared.Opened.{Opened}
 use Rattle.model.specs.declared.Given.{Given}
 use Rattle.model.specs.Disc.{Disc}
 use Rattle.model.specs.Examine.{Setting}
 use Rattle.model.specs.Plan.{Plan, refuse, replyOf, discAfter, tableAfter}
+use Rattle.model.specs.Told.{replyNumber}
 use Rattle.model.specs.Both.{opening, openedTable, reading, readBytes}
 use Rattle.write_once.specs.declared.Measured.{Measured}
 use Rattle.write_once.specs.Calls.{fullnessOf}
-use Rattle.numbers.specs.Numbers.{recordOf, recordAfter, replyNumber, lengthRefusal}
+use Rattle.numbers.specs.Numbers.{recordOf, recordAfter, lengthRefusal}
 
 -- whether a lent record has its length
 abbrev pub isRecord : List ℕ → Bool
@@ -57,11 +57,6 @@ unfoldable pub lentReadBytes : Setting → Disc → List ℕ → List ℕ → �
 lentReadBytes e d t k v out = cond (isRecord k) (readBytes e d t (recordOf k) v out) out
 
 -- ---- fullness: one number
-
--- the number of its answer
-abbrev pub measuredNumber : Measured → ℕ
-measuredNumber (Measured.PerMille n) = 0
-measuredNumber (Measured.Refused why) = numberOf why
 
 -- the lent result after it
 abbrev pub measuredAfter : Measured → List ℕ → List ℕ

@@ -4,18 +4,12 @@ use Prim.Native.Nat.{ℕ}
 use mathlib.Core.Path.{_≡_}
 use mathlib.Core.Bool.{cond}
 use mathlib.Core.List.{List}
-use Rattle.refusal.specs.Number.{numberOf}
 use Rattle.model.specs.Disc.{Disc}
 use Rattle.model.specs.Examine.{Setting}
 use Rattle.store.specs.declared.Ran.{Ran}
-use Rattle.store.specs.Outcome.{Outcome, outcome, ran}
+use Rattle.store.specs.Outcome.{Outcome, outcome, ran, ranNumber}
 use Rattle.numbers.specs.Numbers.{numbersOf, lengthRefusal}
 use Rattle.capi.specs.Calls.{isRecord}
-
--- the number of its answer
-abbrev pub ranNumber : Ran → ℕ
-ranNumber (Ran.Ended held passed) = 0
-ranNumber (Ran.Refused why) = numberOf why
 
 -- the lent record after it: the record in force, with passed over of the last opening that was accepted
 abbrev pub ranRecord : Ran → List ℕ → List ℕ

@@ -26,10 +26,15 @@ ghost use Rattle.model.specs.Once.{savePlan, freePlan, commitPlan};
 ghost use Rattle.model.specs.Rewrite.{saveBlockPlan, savePacketPlan, sparePlan};
 ghost use Rattle.model.specs.Both.{makeVerdict, made};
 ghost use Rattle.model.specs.Writes.{noCut};
-ghost use Rattle.numbers.specs.Numbers.{cutOf, recordOf, recordOpened, verdictNumber, openedNumber, givenNumber};
+ghost use Rattle.refusal.specs.Number.{verdictNumber};
+ghost use Rattle.model.specs.Told.{openedNumber, givenNumber};
+ghost use Rattle.write_once.specs.Calls.{measuredNumber};
+ghost use Rattle.maps.specs.Numbers.{volumeNumbers};
+ghost use Rattle.address.specs.Told.{logicalNumber};
+ghost use Rattle.numbers.specs.Numbers.{cutOf, recordOf, recordOpened};
 ghost use Rattle.store.specs.Promise.{DemandMet};
-ghost use Rattle.capi.specs.Calls.{lentPlan, Seen, lentOpening, lentOpenedTable, lentReading, lentReadBytes, lentFullness, measuredNumber, measuredAfter};
-ghost use Rattle.capi.specs.Lists.{volumeNumbers, mapsVerdict, volumeAfter, volumeFor, lentVerdict, lentLookUp, logicalNumber, logicalAfter};
+ghost use Rattle.capi.specs.Calls.{lentPlan, Seen, lentOpening, lentOpenedTable, lentReading, lentReadBytes, lentFullness, measuredAfter};
+ghost use Rattle.capi.specs.Lists.{mapsVerdict, volumeAfter, volumeFor, lentVerdict, lentLookUp, logicalAfter};
 ghost use Rattle.capi.specs.Run.{lentRan, SeenRun};
 
 // The lengths of the lent results: of fullness and look-up, and of a map list.

@@ -9,11 +9,11 @@ use Rattle.model.specs.Sparing.{isFree, usedOf, freeOf, spotOf, packetOf
 use Rattle.model.specs.Once.{entriesHeld, nextHeld, countAfter, roomToSave, saveTests, entryTests, perMille}
 use Rattle.model.specs.Rewrite.{blockTest}
 use Rattle.model.specs.Both.{entrySector}
-use Rattle.model.specs.Examples.{lineOf, gives, zeros, Examples}
+use Rattle.model.specs.Examples.{gives, zeros, Examples}
 
 -- every example of 01
 pub examples : Examples
-unfolding need part value field none blocksIn tagFits passes fileBytes dataSectors isFree usedOf freeOf spotOf packetOf startAt locate inserted firstFree rest resorted entriesHeld nextHeld countAfter roomToSave saveTests entryTests perMille blockTest entrySector lineOf gives zeros
+unfolding need part value field none blocksIn tagFits passes fileBytes dataSectors isFree usedOf freeOf spotOf packetOf startAt locate inserted firstFree rest resorted entriesHeld nextHeld countAfter roomToSave saveTests entryTests perMille blockTest entrySector gives zeros
 examples =
     record {
       a = λ maps l. refl;

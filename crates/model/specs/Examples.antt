@@ -4,9 +4,7 @@ use Prim.Native.Nat.{ℕ}
 use mathlib.Core.Path.{_≡_}
 use mathlib.Core.List.{List, [], _∷_}
 use lib.ListN.{replicate}
-use Rattle.refusal.specs.declared.Verdict.{Verdict}
-use Rattle.refusal.specs.declared.Verdict.the-variants.{Go, Stop}
-use Rattle.refusal.specs.Number.{numberOf}
+use Rattle.refusal.specs.Number.{verdictNumber}
 use Rattle.refusal.specs.Tests.{Test, first}
 use Rattle.model.specs.declared.Record.{Record}
 use Rattle.model.specs.Disc.{Disc}
@@ -17,14 +15,9 @@ use Rattle.model.specs.Once.{entryTests, saveTests, perMille}
 use Rattle.model.specs.Rewrite.{blockTest}
 use Rattle.model.specs.Both.{entrySector}
 
--- the number that a verdict gives: the line of "Why a call is turned down", or 0 where the call goes on
-unfoldable pub lineOf : Verdict → ℕ
-lineOf Go = 0
-lineOf (Stop why) = numberOf why
-
 -- the number that some tests give
 unfoldable pub gives : List Test → ℕ
-gives l = lineOf (first l)
+gives l = verdictNumber (first l)
 
 -- a sparing entry (original, mapped); 0xffffffff is a free one
 abbrev pub entry : ℕ → ℕ → Entry

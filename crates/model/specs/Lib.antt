@@ -10,6 +10,7 @@ pub mod Rewrite
 pub mod Both
 pub mod Calls
 pub mod Store
+pub mod Told
 pub mod Demand
 pub mod Lives
 pub mod Examples

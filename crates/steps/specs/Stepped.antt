@@ -3,12 +3,13 @@
 use Prim.Native.Nat.{ℕ, zero, suc}
 use mathlib.Core.Path.{_≡_}
 use mathlib.Core.Bool.{Bool, true, false}
-use mathlib.Core.List.{List}
+use mathlib.Core.List.{List, [], _∷_, _++_}
 use Rattle.refusal.specs.Number.{numberOf}
 use Rattle.model.specs.declared.Cut.{Cut}
 use Rattle.model.specs.declared.Record.{Record}
 use Rattle.model.specs.Disc.{Disc}
 use Rattle.model.specs.Examine.{Setting}
+use Rattle.model.specs.Told.{recordValues}
 use Rattle.model.specs.Calls.{Call, saveVirtual, freeVirtual, commit, saveBlock, savePacket, sparePacket, openDisc, Answer, done, cut, refused, opened, State, step}
 use Rattle.steps.specs.declared.Answered.{Answered}
 
@@ -44,6 +45,13 @@ numberFor (done r) = 0
 numberFor cut = 255
 numberFor (refused why) = numberOf why
 numberFor (opened r n) = 0
+
+-- and the values that go with it: the record, and of an opening how many sectors were passed over
+abbrev pub valuesFor : Answer → List ℕ
+valuesFor (done r) = recordValues r
+valuesFor cut = []
+valuesFor (refused why) = []
+valuesFor (opened r n) = recordValues r ++ (n ∷ [])
 
 -- the record in force after an answer
 abbrev pub heldBy : Answer → Record → Record

@@ -2,12 +2,14 @@
 -- lent, each with disc, marks and lent table as the last one left them and the record last handed back.
 use Prim.Native.Nat.{ℕ}
 use mathlib.Core.Bool.{false}
-use mathlib.Core.List.{List}
+use mathlib.Core.List.{List, [], _∷_, _++_}
+use Rattle.refusal.specs.Number.{numberOf}
 use Rattle.model.specs.declared.Opened.{Opened}
 use Rattle.model.specs.Disc.{Disc}
 use Rattle.model.specs.Examine.{Setting}
 use Rattle.model.specs.Both.{opening}
 use Rattle.model.specs.Calls.{Call, Answer, State, answers, final}
+use Rattle.model.specs.Told.{recordValues}
 use Rattle.model.specs.Demand.{afterOpening}
 use Rattle.store.specs.declared.Ran.{Ran}
 use Rattle.store.specs.Encoded.{decode}
@@ -50,3 +52,15 @@ ranBy (Opened.Refused why) e d t numbers pool replies = outcome (Ran.Refused why
 -- the outcome of a run
 unfoldable pub ran : Setting → Disc → List ℕ → List ℕ → List ℕ → List ℕ → Outcome
 ran e d t numbers pool replies = ranBy (opening e d t) e d t numbers pool replies
+
+-- ---- what a caller is told of it
+
+-- the number: 0, or the line by which its own opening was turned down
+abbrev pub ranNumber : Ran → ℕ
+ranNumber (Ran.Ended held passed) = 0
+ranNumber (Ran.Refused why) = numberOf why
+
+-- and the values: the record in force, and how many sectors the last opening passed over that was accepted
+abbrev pub ranValues : Ran → List ℕ
+ranValues (Ran.Ended held passed) = recordValues held ++ (passed ∷ [])
+ranValues (Ran.Refused why) = []

@@ -1,9 +1,10 @@
 -- Opening, reading and fullness on a write-once disc alone: opening and reading as the calls of both kinds (model, Both.antt), with line 7 for a rewritable list.
 use Prim.Native.Nat.{ℕ}
-use mathlib.Core.List.{List, _∷_}
+use mathlib.Core.List.{List, [], _∷_}
 use Rattle.refusal.specs.declared.Refusal.the-variants.{OtherKind}
 use Rattle.refusal.specs.declared.Verdict.{Verdict}
 use Rattle.refusal.specs.declared.Verdict.the-variants.{Go, Stop}
+use Rattle.refusal.specs.Number.{numberOf}
 use Rattle.refusal.specs.Tests.{test, first, andThen}
 use Rattle.model.specs.declared.Record.{Record}
 use Rattle.model.specs.declared.Opened.{Opened}
@@ -55,3 +56,15 @@ measuredBy (Stop why) n = Measured.Refused why
 -- 1,000 times NWA / L rounded down
 unfoldable pub fullnessOf : Setting → Disc → List ℕ → Record → Measured
 fullnessOf e d t held = measuredBy (fullnessVerdict e d t held) (perMille (nextHeld held) (e .span))
+
+-- ---- what a caller is told of fullness
+
+-- the number: 0, or the line of the refusal
+abbrev pub measuredNumber : Measured → ℕ
+measuredNumber (Measured.PerMille n) = 0
+measuredNumber (Measured.Refused why) = numberOf why
+
+-- and the value, in per mille
+abbrev pub measuredValues : Measured → List ℕ
+measuredValues (Measured.PerMille n) = n ∷ []
+measuredValues (Measured.Refused why) = []
