@@ -3,6 +3,7 @@ pub mod Writes
 pub mod Vat
 pub mod VatWritten
 pub mod Sparing
+pub mod Told
 pub mod Plan
 pub mod Examine
 pub mod Once
@@ -10,7 +11,6 @@ pub mod Rewrite
 pub mod Both
 pub mod Calls
 pub mod Store
-pub mod Told
 pub mod Demand
 pub mod Lives
 pub mod Examples
