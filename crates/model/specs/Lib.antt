@@ -9,6 +9,7 @@ pub mod Examine
 pub mod Once
 pub mod Rewrite
 pub mod Both
+pub mod Lent
 pub mod Calls
 pub mod Store
 pub mod Demand
