@@ -10,6 +10,7 @@ use Rattle.model.specs.declared.Record.{Record}
 use Rattle.model.specs.Disc.{Disc}
 use Rattle.model.specs.Examine.{Setting}
 use Rattle.model.specs.Told.{recordValues}
+use Rattle.model.specs.Lent.{Lent}
 use Rattle.model.specs.Calls.{Call, saveVirtual, freeVirtual, commit, saveBlock, savePacket, sparePacket, openDisc, Answer, done, cut, refused, opened, State, step}
 use Rattle.steps.specs.declared.Answered.{Answered}
 
@@ -78,3 +79,7 @@ pub record Stepped (e : Setting) (st : State) (c : Call) (a : Answered) (d : Dis
   pub answer : answerOf a ≡ step e st c .answer
   pub disc : d ≡ step e st c .state .disc
   pub table : t ≡ step e st c .state .table
+
+-- the same over the lent lists: the call c, lent the table t and handed the record, answers a and leaves the disc d and the table t′
+abbrev pub Steps : Lent → List ℕ → Record → Call → Answered → Disc → List ℕ → Type 0
+Steps x t held c a d t′ = Stepped (x .setting) (stateOf (x .disc) t held) c a d t′

@@ -1,10 +1,11 @@
 -- Opening, reading and fullness on a write-once disc alone: opening and reading as the calls of both kinds (model, Both.antt), with line 7 for a rewritable list.
 use Prim.Native.Nat.{ℕ}
+use mathlib.Core.Path.{_≡_}
 use mathlib.Core.List.{List, [], _∷_}
 use Rattle.refusal.specs.declared.Refusal.the-variants.{OtherKind}
 use Rattle.refusal.specs.declared.Verdict.{Verdict}
 use Rattle.refusal.specs.declared.Verdict.the-variants.{Go, Stop}
-use Rattle.refusal.specs.Number.{numberOf}
+use Rattle.refusal.specs.Number.{numberOf, verdictNumber}
 use Rattle.refusal.specs.Tests.{test, first, andThen}
 use Rattle.model.specs.declared.Record.{Record}
 use Rattle.model.specs.declared.Opened.{Opened}
@@ -14,6 +15,7 @@ use Rattle.model.specs.Vat.{entriesOf}
 use Rattle.model.specs.Examine.{Setting, writeOnce, examined, lentTable}
 use Rattle.model.specs.Once.{nextHeld, newestFile, openOnceTests, foundRecord, passedOver, perMille, fullnessVerdict}
 use Rattle.write_once.specs.declared.Measured.{Measured}
+use Rattle.model.specs.Lent.{Lent}
 use Rattle.model.specs.Both.{openedBy, filledBy, readOnceTests, readLent, givenBy, blockBy, entrySector}
 
 -- ---- opening: lines 1 to 9
@@ -68,3 +70,8 @@ measuredNumber (Measured.Refused why) = numberOf why
 abbrev pub measuredValues : Measured → List ℕ
 measuredValues (Measured.PerMille n) = n ∷ []
 measuredValues (Measured.Refused why) = []
+
+-- fullness, lent the table t, answers r
+pub record Measures (x : Lent) (t : List ℕ) (held : Record) (r : Measured) : Type 0 where
+  pub answer : r ≡ fullnessOf (x .setting) (x .disc) t held
+  pub number : measuredNumber r ≡ verdictNumber (fullnessVerdict (x .setting) (x .disc) t held)
