@@ -1,6 +1,6 @@
 -- A commit on a write-once disc keeps the invariant, wherever it is cut: its VAT is found again exactly if its ICB is whole. Assumes nothing.
 use Prim.Native.Nat.{ℕ, _+_, _-_, _*_, _≤_, _<_}
-use mathlib.Core.Bool.{true, false, cond}
+use mathlib.Core.Bool.{true, false, cond, not}
 use mathlib.Core.Logic.{_≢_}
 use mathlib.Core.Path.{_≡_, refl, sym, ap, _∙_, subst}
 use mathlib.Core.List.{List, [], _∷_, _++_}
@@ -8,7 +8,7 @@ use native.Mathlib.Omega.{arith}
 use lib.Dec.{leb, eqb}
 use lib.ListN.{length, take, length-append}
 use lib.Seq.{length-take-le}
-use borrow.Author.Tests.{leb-true, lt-ltb}
+use borrow.Author.Tests.{leb-true, lt-ltb, not-true}
 use Rattle.refusal.specs.declared.Verdict.the-variants.{Go}
 use Rattle.fields.proofs.Laws.{part-all}
 use Rattle.model.specs.declared.Cut.{Cut}
@@ -21,8 +21,9 @@ use Rattle.model.specs.VatWritten.{dataSectors, writtenFile, writtenData
 use Rattle.model.specs.Examine.{Setting, lentTable}
 use Rattle.model.specs.Once.{nextOn, entriesHeld, nextHeld, lastHeld, onceVerdict, roomToCommit, commitTests, icbBlock, commitWrites, commitPlan}
 use Rattle.model.specs.Calls.{commit, State, step}
-use Rattle.model.specs.Store.{Slot, entrySlots, Store, store, Shape, cutIn, writesIn, wholeAt, taken}
-use Rattle.model.proofs.Basics.{cond-elim, by-lt, and-true, both, or-right}
+use Rattle.model.specs.Store.{Slot, entrySlots, Store, store, Shape, cutIn, writesIn, wasCut, wholeAt, taken}
+use Rattle.model.specs.Consequences.{laysIcb}
+use Rattle.model.proofs.Basics.{cond-elim, by-lt, and-true, both, or-cases, or-right}
 use Rattle.model.proofs.Agree.{Agree, agree-less, agree-trans}
 use Rattle.model.proofs.Scan.{below-mono, not-recorded, slots-agree}
 use Rattle.model.proofs.Sectors.{Made, shapely-made, shapely-most, inside-fits, landed-shapely, landed-inside, sector-done, mark-done, recorded-done, writes-append, writes-one, landing-uncut, landing-done-before, nwa-is}
@@ -284,6 +285,25 @@ module _ (e : Setting) (h : Shape) (st : State) (σ : Store) (i : Live e st σ) 
   torn-commit q =
       rw is-disc
       (torn-kept (e .start) (e .span) (st .disc) c t′ (nextHeld (st .held)) (lastHeld (st .held)) (i .kept) (live-blank e st σ i) few′ (i .fresh) (live-last e st σ i) space q)
+
+  -- a commit whose ICB is whole
+  pub laid : laysIcb h σ (commit c) ≡ true → landing (1 + D′) c ≡ Landing.Done
+  unfolding laysIcb wasCut cutIn
+  laid q =
+      let m : 1 + D′ ≡ writesIn h σ (commit c) = omega (arith, told) in
+      rw m
+      (or-cases (not (struck c (writesIn h σ (commit c)))) _ q
+      (λ w. landing-uncut _ _ c (not-true _ w) (omega (arith, told)) (omega arith))
+      (λ w. whole-lands _ c (omega (arith, told)) w))
+
+  -- its VAT is the topmost, and names the one before it
+  pub laid-kept : laysIcb h σ (commit c) ≡ true → Kept (e .start) (e .span) (writes 1 c ws (st .disc)) (nextHeld (st .held) + D′) (σ .blocks)
+  laid-kept q = whole-commit (laid q)
+
+  pub laid-previous : laysIcb h σ (commit c) ≡ true → previousOf (vatFile (writes 1 c ws (st .disc)) (e .start) (nextHeld (st .held) + D′)) ≡ lastHeld (st .held)
+  laid-previous q =
+      rw is-disc
+      (whole-previous (e .start) (e .span) (st .disc) c t′ (nextHeld (st .held)) (lastHeld (st .held)) (i .kept) (live-blank e st σ i) few′ (i .fresh) (live-last e st σ i) space (laid q))
 
   -- the last write of a cut commit, its ICB, decides
   commit-choice : taken h σ (commit c) true ≡ cond (wholeAt (1 + D′) c) (store (σ .blocks) (σ .blocks)) σ

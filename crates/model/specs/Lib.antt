@@ -16,3 +16,4 @@ pub mod Examples
 pub mod LivesAgain
 pub mod Consequences
 pub mod Run
+pub mod ReadBack
