@@ -18,3 +18,4 @@ pub mod Examples
 pub mod LivesAgain
 pub mod Consequences
 pub mod Run
+pub mod ReadBack
