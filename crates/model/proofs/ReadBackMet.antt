@@ -23,7 +23,7 @@ use Rattle.model.specs.Calls.{Call, commit, openDisc, Answer, done, cut,
 use Rattle.model.specs.Store.{cutIn, wasCut}
 use Rattle.model.specs.Consequences.{Follows, laysIcb}
 use Rattle.model.specs.Run.{twelve, fresh, lent, calls, given, before}
-use Rattle.model.specs.ReadBack.{Stands, VatFrom, VatStands, TableFrom, blankDisc, three, embeddedDisc, many, besideDisc, small, two, tableDisc, onceVolume, againVolume, ReadBackMet}
+use Rattle.model.specs.ReadBack.{Stands, VatFrom, VatStands, TableFrom, blankDisc, threeEntries, embeddedDisc, manyEntries, besideDisc, smallGeometry, twoEntries, tableDisc, onceVolume, againVolume, ReadBackMet}
 use Rattle.model.proofs.Basics.{both}
 use Rattle.model.proofs.Sectors.{Made, shapely-is}
 use Rattle.model.proofs.WrittenVat.{length-icb}
@@ -62,50 +62,50 @@ one-stands n p b l h on long = read-back .lands 1 noCut p b (blankDisc n) (blank
 
 -- ---- a VAT of each form
 
-three-from : VatFrom 3 three 1
-unfolding three allBelow belowOrNone none
+three-from : VatFrom 3 threeEntries 1
+unfolding threeEntries allBelow belowOrNone none
 three-from = record { few = omega arith; below = refl; before = refl; small = omega arith }
 
-three-stands : Stands embeddedDisc 3 (writtenIcb 3 three 1)
+three-stands : Stands embeddedDisc 3 (writtenIcb 3 threeEntries 1)
 unfolding embeddedDisc
-three-stands = one-stands 4 3 (writtenIcb 3 three 1) (omega arith) (omega arith) (omega arith) (length-icb three 1 3)
+three-stands = one-stands 4 3 (writtenIcb 3 threeEntries 1) (omega arith) (omega arith) (omega arith) (length-icb threeEntries 1 3)
 
-many-long : length many ≡ 459
-unfolding many
+many-long : length manyEntries ≡ 459
+unfolding manyEntries
 many-long = length-replicate {A = ℕ} 459 none
 
-many-from : VatFrom 1 many none
-unfolding many allBelow belowOrNone none
+many-from : VatFrom 1 manyEntries none
+unfolding manyEntries allBelow belowOrNone none
 many-from = record { few = omega (arith, many-long); below = refl; before = refl; small = omega arith }
 
-one-sector : dataSectors (length many) ≡ 1
+one-sector : dataSectors (length manyEntries) ≡ 1
 unfolding dataSectors fileBytes blocksIn
 one-sector = rw many-long
 
-many-stands : VatStands besideDisc 0 1 many none
+many-stands : VatStands besideDisc 0 1 manyEntries none
 unfolding besideDisc entriesHeld nextHeld lastHeld
 many-stands =
-    let count : 459 ≡ length many = omega (arith, many-long) in
-    let k : 0 + dataSectors (length many) ≡ 1 = omega (arith, one-sector) in
-    subst (λ (n : ℕ). VatStands besideDisc 0 n many none) k
-    (rw (commit-disc (setting [] 0 2) many (Record.WriteOnce 459 0 none) count noCut (blankDisc 2))
-    (commit-stands 0 (blankDisc 2) noCut many 0 none (blank-made 2) (omega (arith, one-sector, blank-marks 2)) (uncut _)))
+    let count : 459 ≡ length manyEntries = omega (arith, many-long) in
+    let k : 0 + dataSectors (length manyEntries) ≡ 1 = omega (arith, one-sector) in
+    subst (λ (n : ℕ). VatStands besideDisc 0 n manyEntries none) k
+    (rw (commit-disc (setting [] 0 2) manyEntries (Record.WriteOnce 459 0 none) count noCut (blankDisc 2))
+    (commit-stands 0 (blankDisc 2) noCut manyEntries 0 none (blank-made 2) (omega (arith, one-sector, blank-marks 2)) (uncut _)))
 
 -- ---- a sparing table
 
-two-fit : entriesFit small two ≡ true
-unfolding small two entriesFit originalsFit ascending mappedFit mappedOf isFree none outside apart apartFrom absent
+two-fit : entriesFit smallGeometry twoEntries ≡ true
+unfolding smallGeometry twoEntries entriesFit originalsFit ascending mappedFit mappedOf isFree none outside apart apartFrom absent
 two-fit = refl
 
-two-from : TableFrom small two 1
-unfolding small
+two-from : TableFrom smallGeometry twoEntries 1
+unfolding smallGeometry
 two-from = record { fits = two-fit; size = omega arith; sectors = omega arith; inside = omega arith; sequence = omega arith }
 
-two-stand : Stands tableDisc 32 (writtenTable 1 (flat two))
-unfolding tableDisc small
+two-stand : Stands tableDisc 32 (writtenTable 1 (flat twoEntries))
+unfolding tableDisc smallGeometry
 two-stand =
-    one-stands 160 32 (writtenTable 1 (flat two)) (omega arith) (omega arith) (omega arith)
-    (length-written small two 1 two-fit (omega arith) (omega arith) (omega arith) (omega arith))
+    one-stands 160 32 (writtenTable 1 (flat twoEntries)) (omega arith) (omega arith) (omega arith)
+    (length-written smallGeometry twoEntries 1 two-fit (omega arith) (omega arith) (omega arith) (omega arith))
 
 -- ---- a volume of each kind
 
@@ -161,7 +161,7 @@ follows =
 
 -- all of them
 pub read-back-met : ReadBackMet
-unfolding three kindInRange tablesInRange tablesApart tablesOf tablesIn absent onceVolume againVolume volumeWith before accepted laysIcb wasCut cutIn struck noCut
+unfolding threeEntries kindInRange tablesInRange tablesApart tablesOf tablesIn absent onceVolume againVolume volumeWith before accepted laysIcb wasCut cutIn struck noCut
 read-back-met =
     record {
       embedded = (omega arith, three-from, three-stands);

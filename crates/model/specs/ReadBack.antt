@@ -160,32 +160,32 @@ unfoldable pub blankDisc : ℕ → Disc
 blankDisc n = disc (replicate (2048 * n) 0) (replicate n 0)
 
 -- three entries, the second unused
-unfoldable pub three : List ℕ
-three = 2 ∷ none ∷ 0 ∷ []
+unfoldable pub threeEntries : List ℕ
+threeEntries = 2 ∷ none ∷ 0 ∷ []
 
 -- their VAT is written to the last of four sectors; the previous ICB is at 1
 unfoldable pub embeddedDisc : Disc
-embeddedDisc = write 1 noCut 3 (writtenIcb 3 three 1) (blankDisc 4)
+embeddedDisc = write 1 noCut 3 (writtenIcb 3 threeEntries 1) (blankDisc 4)
 
 -- as many entries as take a data sector, all of them unused
-unfoldable pub many : List ℕ
-many = replicate 459 none
+unfoldable pub manyEntries : List ℕ
+manyEntries = replicate 459 none
 
 -- their VAT is written to two sectors, as a commit writes it that is handed no ICB before it
 unfoldable pub besideDisc : Disc
-besideDisc = writes 1 noCut (commitWrites (setting [] 0 2) many (Record.WriteOnce 459 0 none)) (blankDisc 2)
+besideDisc = writes 1 noCut (commitWrites (setting [] 0 2) manyEntries (Record.WriteOnce 459 0 none)) (blankDisc 2)
 
 -- a rewritable volume of 160 sectors: S 96, L 32, tables at 0 and 32, each of 72 bytes
-unfoldable pub small : Geometry
-small = record { start = 96; span = 32; sectors = 160; tables = 0 ∷ 32 ∷ []; size = 72 }
+unfoldable pub smallGeometry : Geometry
+smallGeometry = record { start = 96; span = 32; sectors = 160; tables = 0 ∷ 32 ∷ []; size = 72 }
 
 -- packet 0 is spared at 64, and the spare at 128 is free
-unfoldable pub two : List Entry
-two = record { original = 0; mapped = 64 } ∷ record { original = none; mapped = 128 } ∷ []
+unfoldable pub twoEntries : List Entry
+twoEntries = record { original = 0; mapped = 64 } ∷ record { original = none; mapped = 128 } ∷ []
 
 -- the table, of sequence 1, is written to sector 32
 unfoldable pub tableDisc : Disc
-tableDisc = write 1 noCut 32 (writtenTable 1 (flat two)) (blankDisc 160)
+tableDisc = write 1 noCut 32 (writtenTable 1 (flat twoEntries)) (blankDisc 160)
 
 -- a volume of each kind, of partition 7
 unfoldable pub onceVolume : Volume
@@ -197,9 +197,9 @@ againVolume = volumeWith (Rewritable 7 2 72) (0 ∷ 32 ∷ 0 ∷ 0 ∷ [])
 
 -- each claim of ReadBack speaks of something
 pub record ReadBackMet : Type 0 where
-  pub embedded : (length three ≤ 458) × VatFrom 3 three 1 × Stands embeddedDisc (sectorAt 0 3) (writtenIcb 3 three 1)
-  pub beside : (459 ≤ length many) × VatFrom 1 many none × VatStands besideDisc 0 1 many none
-  pub table : TableFrom small two 1 × Stands tableDisc 32 (writtenTable 1 (flat two))
+  pub embedded : (length threeEntries ≤ 458) × VatFrom 3 threeEntries 1 × Stands embeddedDisc (sectorAt 0 3) (writtenIcb 3 threeEntries 1)
+  pub beside : (459 ≤ length manyEntries) × VatFrom 1 manyEntries none × VatStands besideDisc 0 1 manyEntries none
+  pub table : TableFrom smallGeometry twoEntries 1 × Stands tableDisc 32 (writtenTable 1 (flat twoEntries))
   pub once : Ranged onceVolume × (kindInRange (onceVolume .kind) ≡ true) × (tablesApart (tablesOf onceVolume) ≡ true)
   pub again : Ranged againVolume × (kindInRange (againVolume .kind) ≡ true) × (tablesApart (tablesOf againVolume) ≡ true)
   -- the eighteenth call of the run in Run.antt is a commit that is done
