@@ -1,8 +1,8 @@
 //! The proved block layer of CD UDF discs, from Rust.
 //!
 //! [`Disc`] is a lent disc, [`Open`] an open one: its calls are those of document 01, "The CD UDF block layer", with types for record,
-//! cut and refusal. [`calls`] has the same calls over plain slices and numbers, as they stand in `include/tuormik.h`. [`plain`] is a
-//! second implementation of document 01, to hold the first against.
+//! cut and refusal. [`calls`] has the same calls over plain slices and numbers, as they stand in `include/tuormik.h`. [`image`] has discs
+//! in image files, with their marks.
 //!
 //! ```
 //! use tuormik::{write_maps, Cut, Disc, Maps};
@@ -19,16 +19,16 @@
 //! ```
 
 pub mod calls;
-pub mod compare;
 pub mod descriptors;
 mod ffi;
-pub mod layer;
+pub mod image;
 mod marks;
 mod open;
-pub mod plain;
 mod refusal;
+
+// the functions of `ffi`, where the proved library is not linked
 #[cfg(feature = "stand-in")]
-pub mod stand_in;
+extern crate tuormik_plain as _;
 
 pub use marks::marks_by_rule;
 pub use open::{look_up, read_maps, write_maps, Call, Disc, Maps, Open, Ran};

@@ -4,7 +4,6 @@
 mod args;
 mod commands;
 mod demo;
-mod image;
 mod picture;
 
 use args::Args;
@@ -33,6 +32,12 @@ impl Failure {
 impl From<Error> for Failure {
     fn from(error: Error) -> Failure {
         Failure::Refused(error)
+    }
+}
+
+impl From<tuormik::image::Error> for Failure {
+    fn from(error: tuormik::image::Error) -> Failure {
+        Failure::Usage(error.to_string())
     }
 }
 

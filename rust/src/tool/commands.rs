@@ -1,12 +1,12 @@
 //! The commands over an image file.
 
 use super::args::Args;
-use super::image::{mark_name, write_file, Image};
 use super::picture;
 use super::{Done, Failure, Progress};
 use std::io::{Read, Write};
 use std::path::Path;
 use tuormik::descriptors::{write_volume, DESCRIPTORS_END};
+use tuormik::image::{mark_name, write_file, Image};
 use tuormik::{
     read_maps, Cut, Disc, Error, Held, Maps, Open, Record, Refusal, BLANK, MOST_SECTORS, NONE, PACKET, PACKET_BYTES, RECORDED, SECTOR,
 };
@@ -180,7 +180,7 @@ pub fn read(args: &mut Args, out: &mut dyn Write) -> Done {
         bytes = text;
     }
     match args.path("--output") {
-        Some(path) => write_file(path, &bytes),
+        Some(path) => Ok(write_file(path, &bytes)?),
         None => Ok(out.write_all(&bytes)?),
     }
 }

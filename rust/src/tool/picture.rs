@@ -1,10 +1,10 @@
 //! A picture of a disc: a small square a sector, row by row.
 
 use super::commands::chain;
-use super::image::Image;
 use super::Failure;
 use std::fmt::Write;
 use tuormik::descriptors::Volume;
+use tuormik::image::Image;
 use tuormik::{read_maps, Held, Maps, NONE, PACKET, RECORDED, UNREADABLE};
 
 /// What a sector is drawn as.

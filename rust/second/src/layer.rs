@@ -1,6 +1,7 @@
 //! The same fourteen calls of two implementations, side by side.
 
-use crate::{calls, plain};
+use crate::plain;
+use tuormik::calls;
 
 type Open = fn(&[u8], &[u8], &[u8], u32, u32, &mut [u32], &mut [u32]) -> u32;
 type Read = fn(&[u8], &[u8], &[u8], u32, u32, &[u32], &[u32], u32, &mut [u8]) -> u32;

@@ -1,7 +1,7 @@
 //! Document 01's worked examples, a to l, through both implementations.
 
-use tuormik::layer::{Layer, PLAIN, PROVED};
 use tuormik::{BLANK, MOST_ENTRIES, NONE, PACKET_BYTES, RECORDED, SECTOR};
+use tuormik_second::layer::{Layer, PLAIN, PROVED};
 
 /// A lent disc, whose every sector begins with its own number.
 struct World {

@@ -2,8 +2,8 @@
 //!
 //! `TUORMIK_SEED` and `TUORMIK_CASES` choose another seed and number of cases; the program `compare` does the same with progress.
 
-use tuormik::compare::{compare_cases, Tally, IN_A_LIST};
-use tuormik::layer::{Layer, PLAIN, PROVED};
+use tuormik_second::compare::{compare_cases, Tally, IN_A_LIST};
+use tuormik_second::layer::{Layer, PLAIN, PROVED};
 
 const SEED: u64 = 20_040_182;
 const CASES: u64 = 6_000;

@@ -1,8 +1,8 @@
 //! The plain implementation under the C names, in the place of the proved library: for trying what stands above the interface where
-//! that library is not built. It is compiled only with the feature `stand-in`.
+//! that library is not built.
 #![allow(clippy::too_many_arguments, clippy::missing_safety_doc)]
 
-use crate::plain;
+use crate as plain;
 use std::slice::{from_raw_parts as lent, from_raw_parts_mut as lent_mut};
 
 #[no_mangle]

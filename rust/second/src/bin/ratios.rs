@@ -1,13 +1,14 @@
 //! How long the calls of the proved library take, as ratios to the plain implementation, both measured by turns in one run.
 //!
-//!     cargo run --release --bin ratios -- [SECTORS ..]
+//!     cargo run --release -p tuormik-second --bin ratios -- [SECTORS ..]
 //!
 //! Prints the tables of docs/BENCHMARKS.md. Each time is the least of many; a disc is put back as it was after every call.
 
 use std::process::ExitCode;
 use std::time::{Duration, Instant};
-use tuormik::layer::{Layer, PLAIN, PROVED};
-use tuormik::{plain, BLANK, MOST_ENTRIES, NONE, PACKET, PACKET_BYTES, RECORDED, SECTOR};
+use tuormik::{BLANK, MOST_ENTRIES, NONE, PACKET, PACKET_BYTES, RECORDED, SECTOR};
+use tuormik_second::layer::{Layer, PLAIN, PROVED};
+use tuormik_second::plain;
 
 const SIZES: [usize; 4] = [3_330, 33_300, 333_000, 1_000_000];
 

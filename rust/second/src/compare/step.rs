@@ -2,7 +2,7 @@
 
 use super::bytes::{mend_checksum, noise, Bytes, Copy, Entries, File, Icb};
 use crate::layer::Layer;
-use crate::{BLANK, MOST_ENTRIES, RECORDED, SECTOR};
+use tuormik::{BLANK, MOST_ENTRIES, RECORDED, SECTOR};
 
 /// A volume, and what its sectors hold before the first step.
 #[derive(Clone, Debug)]

@@ -1,8 +1,8 @@
 //! Document 01's demand 3 on random lists: the plain store ("The plain store") is fed each call's arguments and cut and whether it was
 //! accepted, and after every list that does not end in a cut reading gives what the store holds.
 
-use tuormik::layer::{Layer, PLAIN, PROVED};
 use tuormik::{BLANK, MOST_ENTRIES, NONE, PACKET, PACKET_BYTES, SECTOR};
+use tuormik_second::layer::{Layer, PLAIN, PROVED};
 
 const CUT: u32 = 255;
 

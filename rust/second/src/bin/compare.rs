@@ -1,11 +1,11 @@
 //! Holds the proved library against the plain implementation on random lists of calls.
 //!
-//!     cargo run --release --bin compare -- [SEED [CASES [FIRST]]]
+//!     cargo run --release -p tuormik-second --bin compare -- [SEED [CASES [FIRST]]]
 
 use std::process::ExitCode;
 use std::time::Instant;
-use tuormik::compare::compare_cases;
-use tuormik::layer::{PLAIN, PROVED};
+use tuormik_second::compare::compare_cases;
+use tuormik_second::layer::{PLAIN, PROVED};
 
 const USAGE: &str = "usage: compare [SEED [CASES [FIRST]]]
 Compares the proved library with the plain implementation on CASES random lists of calls (1,000) of SEED (1), from number FIRST (0) on.";

@@ -3,7 +3,8 @@
 //! The images stand in `tests/discs` as their sectors that are not zeros; `tests/discs/README.md` says how each was made.
 
 use tuormik::descriptors::find_volume;
-use tuormik::{calls, marks_by_rule, plain, read_maps, Disc, Error, Held, Maps, Open, Record, Refusal, BLANK, NONE, SECTOR};
+use tuormik::{calls, marks_by_rule, read_maps, Disc, Error, Held, Maps, Open, Record, Refusal, BLANK, NONE, SECTOR};
+use tuormik_second::plain;
 
 const HEAD: &[u8] = b"tuormik sectors\n";
 

@@ -1,8 +1,9 @@
 //! Long tables, on which the two implementations must agree: sparing tables with mapped starts far apart, equal ones among them, and VATs
 //! whose files lie in many extents. The random lists of calls have short tables.
 
-use tuormik::layer::{Layer, PLAIN, PROVED};
-use tuormik::{plain, MOST_ENTRIES, NONE, PACKET, PACKET_BYTES, RECORDED, SECTOR, UNREADABLE};
+use tuormik::{MOST_ENTRIES, NONE, PACKET, PACKET_BYTES, RECORDED, SECTOR, UNREADABLE};
+use tuormik_second::layer::{Layer, PLAIN, PROVED};
+use tuormik_second::plain;
 
 /// Numbers that look random, the same in every run.
 struct Draw(u64);

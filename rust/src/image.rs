@@ -1,11 +1,51 @@
 //! Image files: the bytes of a disc, the marks of its sectors, and how both are replaced.
 
-use super::Failure;
+use crate::descriptors::Volume;
+use crate::{marks_by_rule, Disc, BLANK, MOST_SECTORS, RECORDED, SECTOR, UNREADABLE};
+use std::fmt;
 use std::fs::{self, File};
-use std::io::{ErrorKind, Write};
+use std::io::{self, ErrorKind, Write};
 use std::path::{Path, PathBuf};
-use tuormik::descriptors::Volume;
-use tuormik::{marks_by_rule, Disc, BLANK, MOST_SECTORS, RECORDED, SECTOR, UNREADABLE};
+
+/// Why an image is not read or not replaced.
+#[derive(Debug)]
+pub enum Error {
+    /// A file that cannot be read or written.
+    File {
+        /// The file.
+        path: PathBuf,
+        /// What the system says.
+        error: io::Error,
+    },
+    /// A file that is not what it should be.
+    Wrong {
+        /// The file.
+        path: PathBuf,
+        /// What is wrong with it.
+        words: String,
+    },
+}
+
+impl Error {
+    fn file(path: &Path, error: io::Error) -> Error {
+        Error::File { path: path.to_owned(), error }
+    }
+
+    fn wrong(path: &Path, words: impl Into<String>) -> Error {
+        Error::Wrong { path: path.to_owned(), words: words.into() }
+    }
+}
+
+impl fmt::Display for Error {
+    fn fmt(&self, f: &mut fmt::Formatter) -> fmt::Result {
+        match self {
+            Error::File { path, error } => write!(f, "{}: {error}", path.display()),
+            Error::Wrong { path, words } => write!(f, "{}: {words}", path.display()),
+        }
+    }
+}
+
+impl std::error::Error for Error {}
 
 /// A disc in memory, filled up with blank sectors to the partition's end, and where it came from.
 pub struct Image {
@@ -87,20 +127,20 @@ fn read_marks(text: &str, sectors: usize, image: u64) -> Result<Option<Vec<u8>>,
     Ok(Some(marks))
 }
 
-fn read_file(path: &Path) -> Result<Vec<u8>, Failure> {
-    let size = fs::metadata(path).map_err(|e| Failure::file(path, &e))?.len();
+fn read_file(path: &Path) -> Result<Vec<u8>, Error> {
+    let size = fs::metadata(path).map_err(|e| Error::file(path, e))?.len();
     if size > (MOST_SECTORS * SECTOR) as u64 {
-        return Err(Failure::Usage(format!("{}: {size} bytes are more than a disc of 1,048,576 sectors has", path.display())));
+        return Err(Error::wrong(path, format!("{size} bytes are more than a disc of 1,048,576 sectors has")));
     }
-    fs::read(path).map_err(|e| Failure::file(path, &e))
+    fs::read(path).map_err(|e| Error::file(path, e))
 }
 
 /// The text of a marks file, if there is one.
-fn marks_file(path: &Path) -> Result<Option<String>, Failure> {
+fn marks_file(path: &Path) -> Result<Option<String>, Error> {
     match fs::read_to_string(path) {
         Ok(text) => Ok(Some(text)),
         Err(e) if e.kind() == ErrorKind::NotFound => Ok(None),
-        Err(e) => Err(Failure::file(path, &e)),
+        Err(e) => Err(Error::file(path, e)),
     }
 }
 
@@ -120,9 +160,9 @@ impl Image {
 
     /// Reads an image file. The marks are those of a marks file, named or beside the image, or follow the rule; the volume is the one
     /// given by hand, or `find` finds it in the bytes.
-    pub fn load(path: &Path, marks_path: Option<&Path>, find: impl FnOnce(&[u8]) -> Result<Volume, Failure>) -> Result<Image, Failure> {
+    pub fn load<E: From<Error>>(path: &Path, marks_path: Option<&Path>, find: impl FnOnce(&[u8]) -> Result<Volume, E>) -> Result<Image, E> {
         // the file itself is replaced, not a link to it
-        let path = &fs::canonicalize(path).map_err(|e| Failure::file(path, &e))?;
+        let path = &fs::canonicalize(path).map_err(|e| Error::file(path, e))?;
         let mut bytes = read_file(path)?;
         let volume = find(&bytes)?;
         let sectors = bytes.len() / SECTOR;
@@ -165,7 +205,7 @@ impl Image {
     /// Replaces the image file by this image: a whole new file is written beside it, then renamed. Where the marks do not follow the
     /// rule, or were in a file, a marks file is replaced with it; it names the image that it goes with, so that the rename of the image
     /// is the one moment at which both change.
-    pub fn store(&mut self) -> Result<(), Failure> {
+    pub fn store(&mut self) -> Result<(), Error> {
         let recorded = self.marks.iter().rposition(|&m| m != BLANK).map_or(0, |last| last + 1);
         self.sectors = self.sectors.max(recorded);
         let bytes = &self.bytes[..SECTOR * self.sectors];
@@ -178,7 +218,7 @@ impl Image {
         let beside = with_ending(&self.path, ".new");
         write_whole(&beside, bytes)?;
         if let Ok(old) = fs::metadata(&self.path) {
-            fs::set_permissions(&beside, old.permissions()).map_err(|e| Failure::file(&beside, &e))?;
+            fs::set_permissions(&beside, old.permissions()).map_err(|e| Error::file(&beside, e))?;
         }
         rename(&beside, &self.path)?;
         if needs_marks {
@@ -191,8 +231,7 @@ impl Image {
 
 /// The marks of a marks file that goes with the image. One that was written beside it, when the image was replaced and the tool was
 /// stopped before it came to its place, is taken first.
-fn find_marks(path: &Path, sectors: usize, bytes: &[u8], must_be: bool) -> Result<Option<Vec<u8>>, Failure> {
-    let wrong = |path: &Path, words: &str| Failure::Usage(format!("{}: {words}", path.display()));
+fn find_marks(path: &Path, sectors: usize, bytes: &[u8], must_be: bool) -> Result<Option<Vec<u8>>, Error> {
     let beside = with_ending(path, ".new");
     if let Some(text) = marks_file(&beside)? {
         // a file that was not written whole, or for an image that never came, is no marks file
@@ -203,19 +242,19 @@ fn find_marks(path: &Path, sectors: usize, bytes: &[u8], must_be: bool) -> Resul
         }
     }
     let Some(text) = marks_file(path)? else {
-        return if must_be { Err(wrong(path, "there is no such file")) } else { Ok(None) };
+        return if must_be { Err(Error::wrong(path, "there is no such file")) } else { Ok(None) };
     };
     match read_marks(&text, sectors, fingerprint(bytes)) {
         Ok(Some(marks)) => Ok(Some(marks)),
         Ok(None) => {
-            Err(wrong(path, "these marks go with another image than this one (take out its 'image' line to use them all the same)"))
+            Err(Error::wrong(path, "these marks go with another image than this one (take out its 'image' line to use them all the same)"))
         }
-        Err(words) => Err(wrong(path, &words)),
+        Err(words) => Err(Error::wrong(path, words)),
     }
 }
 
 /// Writes a file whole, down to the disc.
-fn write_whole(path: &Path, bytes: &[u8]) -> Result<(), Failure> {
+fn write_whole(path: &Path, bytes: &[u8]) -> Result<(), Error> {
     let write = || -> std::io::Result<()> {
         let mut file = File::create(path)?;
         file.write_all(bytes)?;
@@ -224,12 +263,12 @@ fn write_whole(path: &Path, bytes: &[u8]) -> Result<(), Failure> {
     write().map_err(|e| {
         // what was half written is of no use
         let _ = fs::remove_file(path);
-        Failure::file(path, &e)
+        Error::file(path, e)
     })
 }
 
-fn rename(from: &Path, to: &Path) -> Result<(), Failure> {
-    fs::rename(from, to).map_err(|e| Failure::file(to, &e))?;
+fn rename(from: &Path, to: &Path) -> Result<(), Error> {
+    fs::rename(from, to).map_err(|e| Error::file(to, e))?;
     // the folder's entry too; where a folder cannot be opened the rename stands by itself
     let folder = to.parent().filter(|f| !f.as_os_str().is_empty()).unwrap_or(Path::new("."));
     if let Ok(folder) = File::open(folder) {
@@ -239,9 +278,9 @@ fn rename(from: &Path, to: &Path) -> Result<(), Failure> {
 }
 
 /// Writes a file that is no image: whole, then renamed.
-pub fn write_file(path: &Path, bytes: &[u8]) -> Result<(), Failure> {
+pub fn write_file(path: &Path, bytes: &[u8]) -> Result<(), Error> {
     if fs::metadata(path).is_ok_and(|there| !there.is_file()) {
-        return fs::write(path, bytes).map_err(|e| Failure::file(path, &e));
+        return fs::write(path, bytes).map_err(|e| Error::file(path, e));
     }
     let beside = with_ending(path, ".new");
     write_whole(&beside, bytes)?;

@@ -2,8 +2,9 @@
 
 use super::bytes::{Allocation, Bytes, Copy, Entries, File, Icb, Random, Twist, COUNTS};
 use super::step::{Call, Fail, Odd, Start, Step, World};
-use crate::{plain, MOST_ENTRIES, NONE, PACKET, PACKET_BYTES, SECTOR};
+use crate::plain;
 use std::collections::VecDeque;
+use tuormik::{MOST_ENTRIES, NONE, PACKET, PACKET_BYTES, SECTOR};
 
 /// What a case is drawn by.
 pub struct Drawer {

@@ -1,7 +1,8 @@
 //! Edges of document 01 that random lists on small discs do not come to, through both implementations.
 
-use tuormik::layer::{Layer, PLAIN, PROVED};
-use tuormik::{plain, BLANK, MOST_ENTRIES, MOST_SECTORS, NONE, RECORDED, SECTOR};
+use tuormik::{BLANK, MOST_ENTRIES, MOST_SECTORS, NONE, RECORDED, SECTOR};
+use tuormik_second::layer::{Layer, PLAIN, PROVED};
+use tuormik_second::plain;
 
 fn both(edge: impl Fn(&Layer)) {
     edge(&PLAIN);

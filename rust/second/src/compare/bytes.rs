@@ -1,6 +1,7 @@
 //! Random numbers, and bytes that a few numbers tell: blocks, ICBs and copies of a sparing table, right or forged.
 
-use crate::{plain, MOST_ENTRIES, NONE, SECTOR};
+use crate::plain;
+use tuormik::{MOST_ENTRIES, NONE, SECTOR};
 
 /// A random sequence (splitmix64), given by its seed.
 #[derive(Clone)]

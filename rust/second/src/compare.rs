@@ -104,7 +104,7 @@ impl fmt::Display for Difference {
             writeln!(f, "{:>4}. {step:?}", i + 1)?;
         }
         writeln!(f, "then: {}", self.what)?;
-        writeln!(f, "again: cargo run --release --bin compare -- {} 1 {}", self.seed, self.number)
+        writeln!(f, "again: cargo run --release -p tuormik-second --bin compare -- {} 1 {}", self.seed, self.number)
     }
 }
 

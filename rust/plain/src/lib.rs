@@ -6,6 +6,9 @@
 //! down by `Err(n)`.
 #![allow(clippy::too_many_arguments)]
 
+#[cfg(feature = "c-names")]
+mod c_names;
+
 const SECTOR: usize = 2048;
 const PACKET: usize = 32;
 const PACKET_BYTES: usize = PACKET * SECTOR;

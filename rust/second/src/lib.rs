@@ -1,0 +1,7 @@
+//! The proved library and a second implementation of document 01 side by side, and random lists of calls that hold the one against the
+//! other.
+
+pub mod compare;
+pub mod layer;
+
+pub use tuormik_plain as plain;
