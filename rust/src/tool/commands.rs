@@ -6,9 +6,10 @@ use super::{Done, Failure, Progress};
 use std::io::{Read, Write};
 use std::path::Path;
 use tuormik::descriptors::{write_volume, DESCRIPTORS_END};
-use tuormik::image::{mark_name, write_file, Image};
+use tuormik::image::{mark_name, Image};
 use tuormik::{
-    read_maps, Cut, Disc, Error, Held, Maps, Open, Record, Refusal, BLANK, MOST_SECTORS, NONE, PACKET, PACKET_BYTES, RECORDED, SECTOR,
+    possible_icbs, read_maps, Cut, Disc, Error, Held, Maps, Open, Record, Refusal, BLANK, MOST_ENTRIES, MOST_SECTORS, NONE, PACKET,
+    PACKET_BYTES, RECORDED, SECTOR,
 };
 
 const VOLUME_OPTIONS: [&str; 8] = ["--marks", "--start", "--length", "--maps", "--tables", "--table-bytes", "--partition", "--write-once"];
@@ -21,6 +22,11 @@ fn known(args: &Args, own: &[&str]) -> Done {
 fn load(args: &mut Args) -> Result<Image, Failure> {
     let path = args.next_path("IMAGE")?;
     Image::load(&path, args.path("--marks"), |bytes| args.volume(bytes))
+}
+
+fn load_to_write(args: &mut Args) -> Result<Image, Failure> {
+    let path = args.next_path("IMAGE")?;
+    Image::load_to_write(&path, args.path("--marks"), |bytes| args.volume(bytes))
 }
 
 /// A number with commas.
@@ -36,8 +42,30 @@ fn grouped(n: u64) -> String {
     text
 }
 
-fn warn_if_passed(record: Record, out: &mut dyn Write) -> Done {
-    if record.passed_over > 0 {
+/// The blocks that may be a newer VAT than the one that was found.
+fn possible_in(disc: &Disc, record: Record) -> Vec<u32> {
+    possible_icbs(disc.bytes, disc.marks, disc.start, record)
+}
+
+/// A commit after which a VAT that may be newer is no longer found needs --force.
+fn need_force(open: &Open, is_forced: bool) -> Done {
+    match possible_in(open.disc(), open.record()).last() {
+        Some(block) if !is_forced => Err(Failure::Usage(format!(
+            "block {block} (sector {}) was passed over and holds a File Entry of file type 0: it may be a newer VAT that breaks a rule of 01.\n\
+             A commit would end the disc with the older VAT, and on a CD-R it cannot be undone. Nothing was written; --force commits.",
+            u64::from(open.disc().start) + u64::from(*block)
+        ))),
+        _ => Ok(()),
+    }
+}
+
+fn warn_if_passed(disc: &Disc, record: Record, out: &mut dyn Write) -> Done {
+    if let Some(block) = possible_in(disc, record).last() {
+        let at = u64::from(disc.start) + u64::from(*block);
+        writeln!(out, "warning       {} passed over above the last VAT ICB. Block {block} (sector {at}) among", passed_words(record))?;
+        writeln!(out, "              them holds a File Entry of file type 0: it may be a newer VAT that breaks a rule of 01.")?;
+        writeln!(out, "              Do not commit: the disc would end with the older VAT, and on a CD-R that cannot be undone.")?;
+    } else if record.passed_over > 0 {
         writeln!(
             out,
             "warning       {} passed over above the last VAT ICB: blocks saved and not committed, a write that was",
@@ -78,6 +106,13 @@ pub fn info(args: &mut Args, out: &mut dyn Write) -> Done {
         Err(_) => {}
     }
     writeln!(out, "disc          {} sectors: {}", grouped(image.marks.len() as u64), mark_counts(&image.marks))?;
+    if image.file_sectors() < image.marks.len() {
+        let (has, end) = (grouped(image.file_sectors() as u64), grouped(u64::from(start) + u64::from(length)));
+        writeln!(
+            out,
+            "note          the image file has {has} sectors, and S + L is {end}: those that it does not have are taken as blank"
+        )?;
+    }
     writeln!(out, "marks         {}", image.marks_source())?;
     writeln!(out, "S             {}", grouped(start.into()))?;
     writeln!(out, "L             {}", grouped(length.into()))?;
@@ -104,7 +139,7 @@ pub fn info(args: &mut Args, out: &mut dyn Write) -> Done {
             writeln!(out, "passed over   {}", record.passed_over)?;
         }
     }
-    warn_if_passed(record, out)
+    warn_if_passed(open.disc(), record, out)
 }
 
 pub fn list(args: &mut Args, out: &mut dyn Write) -> Done {
@@ -117,7 +152,7 @@ pub fn list(args: &mut Args, out: &mut dyn Write) -> Done {
         Held::WriteOnce { .. } => list_once(&open, out)?,
         Held::Rewritable { .. } => list_packets(&open, all, out)?,
     }
-    warn_if_passed(open.record(), out)
+    warn_if_passed(open.disc(), open.record(), out)
 }
 
 fn list_once(open: &Open, out: &mut dyn Write) -> Done {
@@ -180,7 +215,7 @@ pub fn read(args: &mut Args, out: &mut dyn Write) -> Done {
         bytes = text;
     }
     match args.path("--output") {
-        Some(path) => Ok(write_file(path, &bytes)?),
+        Some(path) => Ok(image.write_output(path, &bytes)?),
         None => Ok(out.write_all(&bytes)?),
     }
 }
@@ -192,8 +227,8 @@ fn optional_count(args: &mut Args) -> Result<u32, Failure> {
             let word = word.to_string_lossy();
             word.parse()
                 .ok()
-                .filter(|&n| n as usize <= MOST_SECTORS)
-                .ok_or_else(|| Failure::Usage(format!("COUNT: {word} is no number of blocks")))
+                .filter(|&n| n > 0 && n as usize <= MOST_SECTORS)
+                .ok_or_else(|| Failure::Usage(format!("COUNT: {word} is no number of blocks from 1 to 1,048,576")))
         }
     }
 }
@@ -231,6 +266,26 @@ fn input(path: &Path, most: usize) -> Result<Vec<u8>, Failure> {
     Ok(bytes)
 }
 
+/// The bytes that are to be saved: as many as the disc can hold, one at least, and with --packet whole packets.
+fn input_for(image: &Image, path: &Path, packet: bool) -> Result<Vec<u8>, Failure> {
+    let blocks = match read_maps(&image.volume.maps) {
+        Ok(Maps::WriteOnce { .. }) => (image.volume.length as usize).min(MOST_ENTRIES),
+        _ => (image.volume.length as usize).min(MOST_SECTORS),
+    };
+    let bytes = input(path, SECTOR * blocks)?;
+    let wrong = |words: String| Err(Failure::Usage(format!("{}: {words}", path.display())));
+    match bytes.len() {
+        0 => wrong("it is empty: there is nothing to save".into()),
+        n if n > SECTOR * blocks => {
+            wrong(format!("it has more than the {} bytes of all {} blocks", grouped((SECTOR * blocks) as u64), grouped(blocks as u64)))
+        }
+        n if packet && !n.is_multiple_of(PACKET_BYTES) => {
+            wrong(format!("its {} bytes are no whole packets of 65,536, which --packet saves", grouped(n as u64)))
+        }
+        _ => Ok(bytes),
+    }
+}
+
 /// Stores the image once a call is done, and where the power was to fail in it too: then it is the disc as the cut left it.
 fn finish(image: &mut Image, answer: Result<String, Failure>, out: &mut dyn Write) -> Done {
     match answer {
@@ -257,22 +312,23 @@ fn commit_and_tell(open: &mut Open, cut: Cut) -> Result<String, Failure> {
 }
 
 pub fn save(args: &mut Args, out: &mut dyn Write) -> Done {
-    known(args, &["--no-commit", "--packet", "--cut"])?;
-    let mut image = load(args)?;
+    known(args, &["--no-commit", "--packet", "--cut", "--force"])?;
+    let mut image = load_to_write(args)?;
     let word = args.next_word().ok_or_else(|| Failure::Usage("NUMBER is missing".into()))?;
     let path = args.next_path("FILE")?;
     args.end()?;
     let cut = args.cut()?;
     let (packet, commits) = (args.has("--packet"), !args.has("--no-commit"));
-    let mut bytes = input(&path, image.bytes.len())?;
-    let unit = if packet { PACKET_BYTES } else { SECTOR };
-    bytes.resize(bytes.len().div_ceil(unit).max(1) * unit, 0);
-    let answer = save_all(image.disc(), &word.to_string_lossy(), &bytes, packet, commits, cut);
+    let is_forced = args.has("--force") || !commits;
+    let mut bytes = input_for(&image, &path, packet)?;
+    bytes.resize(bytes.len().next_multiple_of(SECTOR), 0);
+    let answer = save_all(image.disc(), &word.to_string_lossy(), &bytes, packet, commits, is_forced, cut);
     finish(&mut image, answer, out)
 }
 
-fn save_all(disc: Disc, word: &str, bytes: &[u8], packet: bool, commits: bool, cut: Cut) -> Result<String, Failure> {
+fn save_all(disc: Disc, word: &str, bytes: &[u8], packet: bool, commits: bool, is_forced: bool, cut: Cut) -> Result<String, Failure> {
     let mut open = disc.open()?;
+    need_force(&open, is_forced)?;
     let is_once = matches!(open.record().held, Held::WriteOnce { .. });
     let first = match word {
         "new" if is_once => open.record().entries(),
@@ -308,14 +364,15 @@ fn save_all(disc: Disc, word: &str, bytes: &[u8], packet: bool, commits: bool, c
 }
 
 pub fn free(args: &mut Args, out: &mut dyn Write) -> Done {
-    known(args, &["--cut"])?;
-    let mut image = load(args)?;
+    known(args, &["--cut", "--force"])?;
+    let mut image = load_to_write(args)?;
     let first = args.next_number("NUMBER")?;
     let count = optional_count(args)?;
     args.end()?;
-    let cut = args.cut()?;
+    let (cut, is_forced) = (args.cut()?, args.has("--force"));
     let free_all = |disc: Disc| -> Result<String, Failure> {
         let mut open = disc.open()?;
+        need_force(&open, is_forced)?;
         for i in 0..count {
             open.free_virtual(first.saturating_add(i))?;
         }
@@ -327,17 +384,22 @@ pub fn free(args: &mut Args, out: &mut dyn Write) -> Done {
 }
 
 pub fn commit(args: &mut Args, out: &mut dyn Write) -> Done {
-    known(args, &["--cut"])?;
-    let mut image = load(args)?;
+    known(args, &["--cut", "--force"])?;
+    let mut image = load_to_write(args)?;
     args.end()?;
-    let cut = args.cut()?;
-    let answer = image.disc().open().map_err(Failure::from).and_then(|mut open| commit_and_tell(&mut open, cut));
+    let (cut, is_forced) = (args.cut()?, args.has("--force"));
+    let commit_it = |disc: Disc| -> Result<String, Failure> {
+        let mut open = disc.open()?;
+        need_force(&open, is_forced)?;
+        commit_and_tell(&mut open, cut)
+    };
+    let answer = commit_it(image.disc());
     finish(&mut image, answer, out)
 }
 
 pub fn spare(args: &mut Args, out: &mut dyn Write) -> Done {
     known(args, &["--zeros", "--cut"])?;
-    let mut image = load(args)?;
+    let mut image = load_to_write(args)?;
     let b = args.next_number("NUMBER")?;
     let path = args.next_word();
     args.end()?;
@@ -390,9 +452,6 @@ pub fn make(args: &mut Args, out: &mut dyn Write) -> Done {
     ])?;
     let path = args.next_path("IMAGE")?;
     args.end()?;
-    if !args.has("--force") && path.exists() {
-        return Err(Failure::Usage(format!("{} is there already (--force replaces it)", path.display())));
-    }
     let sectors = args.number("--sectors")?.ok_or_else(|| Failure::Usage("how many sectors? --sectors N".into()))?;
     if sectors as usize > MOST_SECTORS {
         return Err(Error::Refused(Refusal::DiscShape).into());
@@ -401,7 +460,7 @@ pub fn make(args: &mut Args, out: &mut dyn Write) -> Done {
     let length = args.number("--length")?.unwrap_or(sectors.saturating_sub(start));
     let spares = args.numbers("--spares")?.unwrap_or_default();
     let (volume, partition) = args.new_volume(start, length)?;
-    let mut image = Image::new(&path, args.path("--marks"), sectors as usize, volume);
+    let mut image = Image::create(&path, args.path("--marks"), sectors as usize, volume, args.has("--force"))?;
     image.disc().make(&spares)?;
     let is_described = !args.has("--no-descriptors") && describe(&mut image, partition);
     image.store()?;
@@ -479,7 +538,7 @@ pub fn history(args: &mut Args, out: &mut dyn Write) -> Done {
         writeln!(out, "{last:>7}  {at:>7}  {:>6}  {:>6}", record.entries(), record.passed_over)?;
     }
     match found.first() {
-        Some((_, newest)) => warn_if_passed(*newest, out),
+        Some((_, newest)) => warn_if_passed(&image.disc(), *newest, out),
         None => Ok(()),
     }
 }
@@ -496,7 +555,7 @@ pub fn map(args: &mut Args, out: &mut dyn Write) -> Done {
         Some("ppm") => picture::ppm(&kinds),
         _ => return Err(Failure::Usage(format!("{}: a picture ends in .svg or .ppm", path.display()))),
     };
-    write_file(&path, &bytes)?;
+    image.write_output(&path, &bytes)?;
     writeln!(out, "{}: {}", path.display(), picture::legend(&kinds))?;
     Ok(())
 }
