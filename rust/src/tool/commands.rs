@@ -304,7 +304,7 @@ fn finish(image: &mut Image, answer: Result<String, Failure>, out: &mut dyn Writ
 
 /// Commits, and says what the disc has come to.
 fn commit_and_tell(open: &mut Open, cut: Cut) -> Result<String, Failure> {
-    open.commit(cut)?;
+    open.commit_cut(cut)?;
     Ok(match open.record().held {
         Held::WriteOnce { entries, next, last } => format!("committed: N {entries}, NWA {next}, last ICB {last}"),
         Held::Rewritable { .. } => String::new(),
@@ -344,9 +344,9 @@ fn save_all(disc: Disc, word: &str, bytes: &[u8], packet: bool, commits: bool, i
         let step = if packet { PACKET * i } else { i } as u32;
         let number = first.saturating_add(step);
         match (is_once, packet) {
-            (true, false) => open.save_virtual(number, part, cut_of(is_last))?,
-            (false, false) => open.save_block(number, part, cut_of(is_last))?,
-            (_, true) => open.save_packet(number, part, cut_of(is_last))?,
+            (true, false) => open.save_virtual_cut(number, part, cut_of(is_last))?,
+            (false, false) => open.save_block_cut(number, part, cut_of(is_last))?,
+            (_, true) => open.save_packet_cut(number, part, cut_of(is_last))?,
         }
         progress.tell(i, count);
     }
@@ -412,7 +412,7 @@ pub fn spare(args: &mut Args, out: &mut dyn Write) -> Done {
             Some(bytes) => bytes.clone(),
             None => read_packet(&open, b, zeros)?,
         };
-        open.spare_packet(b, &packet, cut)?;
+        open.spare_packet_cut(b, &packet, cut)?;
         let at = open.table().chunks_exact(2).find(|e| e[0] == b).map_or(NONE, |e| e[1]);
         Ok(format!("spared the packet of block {b}: it is now at sector {at}"))
     };

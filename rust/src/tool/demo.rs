@@ -66,12 +66,12 @@ fn commit_demo(out: &mut dyn Write) -> Result<bool, Failure> {
     memory.disc().make(&[])?;
     let mut open = memory.disc().open()?;
     for v in 0..COUNT {
-        open.save_virtual(v, &block(v, 1), Cut::NONE)?;
+        open.save_virtual(v, &block(v, 1))?;
     }
-    open.commit(Cut::NONE)?;
+    open.commit()?;
     writeln!(out, "A write-once disc: {COUNT} blocks saved and committed. Then each is saved again, and the commit of these is cut.")?;
     for v in 0..COUNT {
-        open.save_virtual(v, &block(v, 2), Cut::NONE)?;
+        open.save_virtual(v, &block(v, 2))?;
     }
     let (table, record) = (open.table().to_vec(), open.record());
     let _ = open.close();
@@ -84,7 +84,7 @@ fn commit_demo(out: &mut dyn Write) -> Result<bool, Failure> {
             let cut = Cut::at(at, effect);
             // the saves again would be found only after a commit, so the commit runs with the record and the table of the saves
             let mut open = Open::resume(tried.disc(), &table, record);
-            let answer = open.commit(cut);
+            let answer = open.commit_cut(cut);
             done = answer.is_ok();
             let what = match answer {
                 Ok(()) => "no cut: the commit was done".to_string(),
@@ -132,7 +132,7 @@ fn sparing_demo(out: &mut dyn Write) -> Result<bool, Failure> {
     memory.disc().make(&[96, 128])?;
     let mut open = memory.disc().open()?;
     for b in (0..LENGTH).step_by(32) {
-        open.save_packet(b, &packet(b, 1), Cut::NONE)?;
+        open.save_packet(b, &packet(b, 1))?;
     }
     let _ = open.close();
     writeln!(
@@ -146,7 +146,7 @@ fn sparing_demo(out: &mut dyn Write) -> Result<bool, Failure> {
         for (effect, name) in EFFECTS {
             let mut tried = memory.clone();
             let mut open = tried.disc().open()?;
-            let answer = open.spare_packet(32, &bytes, Cut::at(at, effect));
+            let answer = open.spare_packet_cut(32, &bytes, Cut::at(at, effect));
             let what = match answer {
                 Ok(()) => "no cut: the sparing was done".to_string(),
                 Err(Error::Cut) => format!("the power fails at write {at}, which becomes {name}"),
