@@ -37,7 +37,8 @@ impl From<Error> for Failure {
 
 impl From<tuormik::image::Error> for Failure {
     fn from(error: tuormik::image::Error) -> Failure {
-        Failure::Usage(error.to_string())
+        let hint = if matches!(error, tuormik::image::Error::Exists { .. }) { " (--force replaces it)" } else { "" };
+        Failure::Usage(format!("{error}{hint}"))
     }
 }
 
