@@ -31,6 +31,7 @@ mod marks;
 mod open;
 mod passed;
 mod refusal;
+mod words;
 
 // the functions of `ffi`, where the proved library is not linked
 #[cfg(feature = "stand-in")]
@@ -40,6 +41,7 @@ pub use marks::marks_by_rule;
 pub use open::{look_up, read_maps, write_maps, Call, Disc, DiscRef, Maps, Open, OpenRef, Ran};
 pub use passed::possible_icbs;
 pub use refusal::{Error, Refusal};
+pub use words::grouped;
 
 /// Bytes of a sector, and of a block.
 pub const SECTOR: usize = 2048;

@@ -1,6 +1,6 @@
 //! Marks files: the marks of a disc's sectors, as text.
 
-use crate::{marks_by_rule, BLANK, MOST_SECTORS, RECORDED, SECTOR, UNREADABLE};
+use crate::{grouped, marks_by_rule, BLANK, MOST_SECTORS, RECORDED, SECTOR, UNREADABLE};
 
 /// The format of a marks file, in words.
 pub const MARKS_FORMAT: &str = "\
@@ -58,7 +58,7 @@ pub(super) fn read_marks(text: &[u8], bytes: &[u8]) -> Result<Vec<u8>, String> {
     }
     let is_written = |sector: &[u8]| sector.iter().any(|&b| b != 0);
     match bytes.chunks(SECTOR).zip(&marks).position(|(sector, &mark)| mark == BLANK && is_written(sector)) {
-        Some(at) => Err(format!("sector {at} is called blank, and its bytes are not zeros")),
+        Some(at) => Err(format!("sector {} is called blank, and its bytes are not zeros", grouped(at as u64))),
         None => Ok(marks),
     }
 }
@@ -78,7 +78,8 @@ fn read_line(line: &str, marks: &mut [u8], bytes: &[u8]) -> Result<(), String> {
             let end = from.checked_add(count).filter(|&end| end <= MOST_SECTORS).ok_or_else(wrong)?;
             let sectors = marks.len();
             if end > sectors && mark != BLANK {
-                return Err(format!("it names sectors up to {}, and the image has {sectors}", end - 1));
+                let (last, sectors) = (grouped(end as u64 - 1), grouped(sectors as u64));
+                return Err(format!("it names sectors up to {last}, and the image has {sectors}"));
             }
             if let Some(named) = marks.get_mut(from..end.min(sectors)) {
                 named.fill(mark);
