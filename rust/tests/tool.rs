@@ -42,6 +42,13 @@ impl Folder {
         assert!(err.contains(&format!("(01, line {line})")), "{words:?}: {err}");
     }
 
+    /// Runs it and expects status 3, and a message that the image is as the cut left it.
+    fn is_cut(&self, words: &[&str], where_it_was: &str) {
+        let (status, _, err) = self.run(words);
+        let told = format!("tuormik: the power failed at {where_it_was}; the image was stored as the cut left it\n");
+        assert_eq!((status, err), (3, told), "{words:?}");
+    }
+
     fn usage(&self, words: &[&str]) {
         let (status, out, err) = self.run(words);
         assert_eq!((status, out.as_str()), (2, ""), "{words:?}");
@@ -75,7 +82,8 @@ fn has(text: &str, line: &str) {
     assert!(text.lines().any(|l| squeezed(l) == line), "'{line}' is not in\n{text}");
 }
 
-const COMMANDS: [&str; 11] = ["info", "list", "read", "save", "free", "commit", "spare", "make", "history", "map", "demo"];
+const COMMANDS: [&str; 15] =
+    ["info", "verify", "list", "read", "save", "free", "commit", "spare", "make", "export", "diff", "report", "history", "map", "demo"];
 
 #[test]
 fn every_command_has_help() {
@@ -90,10 +98,13 @@ fn every_command_has_help() {
     folder.usage(&["dance"]);
     for command in COMMANDS {
         folder.usage(&[command, "--no-such-option"]);
-        folder.usage(&[command, "a", "b", "c", "d", "e"]);
+        if !["info", "verify"].contains(&command) {
+            folder.usage(&[command, "a", "b", "c", "d", "e"]);
+        }
         if command != "demo" {
             folder.usage(&[command]);
-            folder.usage(&[command, "no-such-image", "0", "no-such-file"]);
+            let (status, ..) = folder.run(&[command, "no-such-image", "0", "no-such-file"]);
+            assert_eq!(status, if command == "verify" { 1 } else { 2 }, "{command}");
         }
     }
 }
@@ -147,8 +158,7 @@ fn what_is_not_committed_is_passed_over() {
     has(&folder.does(&["commit", "d.img"]), "committed: N 0, NWA 3, last ICB 2");
     assert!(!folder.does(&["info", "d.img"]).contains("warning"));
     // a commit that is cut: the image is the disc as the cut left it
-    let (status, _, err) = folder.run(&["save", "d.img", "new", "text", "--cut", "1:unreadable"]);
-    assert_eq!((status, err.as_str()), (1, "tuormik: The power failed in the call.\n"));
+    folder.is_cut(&["save", "d.img", "new", "text", "--cut", "1:unreadable"], "write 1 of the commit, which became unreadable");
     has(&folder.does(&["info", "d.img"]), "passed over 2");
     assert!(folder.names().contains(&"d.img.marks".to_string()));
 }
@@ -200,7 +210,7 @@ fn a_rewritable_disc_lives() {
     has(&folder.does(&["info", "d.img"]), "sequence 1");
     let list = folder.does(&["list", "d.img"]);
     has(&list, "32 to 63 96 to 127 spared, 32 recorded, 0 unreadable, 0 blank");
-    has(&list, "1 packets in place, recorded");
+    has(&list, "1 packet in place, recorded");
     folder.refuses(18, &["spare", "d.img", "32"]);
     folder.refuses(12, &["spare", "d.img", "64"]);
     folder.refuses(3, &["spare", "d.img", "0", "text"]);
@@ -208,14 +218,14 @@ fn a_rewritable_disc_lives() {
     folder.refuses(7, &["history", "d.img"]);
     folder.does(&["spare", "d.img", "0"]);
     // a cut save leaves a sector unreadable; saving the packet heals it
-    assert_eq!(folder.run(&["save", "d.img", "3", "text", "--cut", "9:unreadable"]).0, 1);
+    folder.is_cut(&["save", "d.img", "3", "text", "--cut", "9:unreadable"], "write 9 of the save of block 3, which became unreadable");
     folder.refuses(14, &["read", "d.img", "8"]);
     folder.refuses(14, &["save", "d.img", "3", "text"]);
     folder.does(&["save", "d.img", "0", "text", "--packet"]);
     assert!(folder.does(&["read", "d.img", "0"]).starts_with("a block"));
     for picture in ["p.svg", "p.ppm"] {
         let words = folder.does(&["map", "d.img", picture]);
-        assert!(words.contains("3 sparing table, 64 used spare"), "{words}");
+        assert!(words.contains("64 used spare, 3 sparing table"), "{words}");
     }
     assert!(folder.bytes("p.svg").starts_with(b"<svg"));
     assert!(folder.bytes("p.ppm").starts_with(b"P6\n"));
