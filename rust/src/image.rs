@@ -1,11 +1,30 @@
-//! Image files: the bytes of a disc, the marks of its sectors, and how both are replaced.
+//! Discs in image files: the bytes of a disc, the marks of its sectors, and how both are replaced together.
+//!
+//! An image file is a dump of a disc, 2,048 bytes a sector. The marks of its sectors stand in a marks file, IMAGE.marks or another one, or
+//! follow the rule of [`marks_by_rule`]; [`MARKS_FORMAT`] tells how such a file is written.
+//!
+//! [`Image::load`] reads the pair of files and writes nothing, so that a folder may be read-only. [`Image::load_to_write`] takes the
+//! image's lock before, and holds it until the image is dropped: two processes cannot store over each other. [`Image::store`] replaces
+//! both files so that whoever is stopped in it, at any call of the file system, leaves the old pair or the new one.
+
+mod files;
+mod journal;
+mod lock;
+mod marks_file;
 
 use crate::descriptors::Volume;
-use crate::{marks_by_rule, Disc, BLANK, MOST_SECTORS, RECORDED, SECTOR, UNREADABLE};
+use crate::{marks_by_rule, read_maps, Disc, Maps, BLANK, MOST_SECTORS, PACKET, SECTOR};
+use files::{folder_of, if_there, with_ending, Files, Stamp, System, MOST_BYTES};
+use journal::{NewMarks, Pair};
+use lock::Lock;
+use marks_file::{fingerprint, is_marks_file, marks_text, read_marks};
 use std::fmt;
-use std::fs::{self, File};
-use std::io::{self, ErrorKind, Write};
+use std::fs::{self, OpenOptions};
+use std::io::{self, ErrorKind};
+use std::os::unix::fs::{FileTypeExt, MetadataExt};
 use std::path::{Path, PathBuf};
+
+pub use marks_file::{mark_name, MARKS_FORMAT};
 
 /// Why an image is not read or not replaced.
 #[derive(Debug)]
@@ -24,6 +43,21 @@ pub enum Error {
         /// What is wrong with it.
         words: String,
     },
+    /// An image that another process has loaded to write it.
+    Held {
+        /// The image.
+        path: PathBuf,
+        /// The number of that process, where its lock tells it.
+        by: Option<u32>,
+    },
+    /// An image that is stored, with files that are not all in their places yet; the next load to write puts them there, and until then a
+    /// load finds them where they are.
+    Unfinished {
+        /// The image.
+        path: PathBuf,
+        /// What stood in the way.
+        error: Box<Error>,
+    },
 }
 
 impl Error {
@@ -41,6 +75,15 @@ impl fmt::Display for Error {
         match self {
             Error::File { path, error } => write!(f, "{}: {error}", path.display()),
             Error::Wrong { path, words } => write!(f, "{}: {words}", path.display()),
+            Error::Held { path, by: Some(by) } => write!(f, "{}: process {by} is writing it; nothing was done here", path.display()),
+            Error::Held { path, by: None } => write!(f, "{}: another process is writing it; nothing was done here", path.display()),
+            Error::Unfinished { path, error } => {
+                write!(
+                    f,
+                    "{}: it is stored, but not all is in its place ({error}); the next command that writes to it puts it there",
+                    path.display()
+                )
+            }
         }
     }
 }
@@ -49,136 +92,81 @@ impl std::error::Error for Error {}
 
 /// A disc in memory, filled up with blank sectors to the partition's end, and where it came from.
 pub struct Image {
+    /// The bytes of the disc.
     pub bytes: Vec<u8>,
+    /// The marks of its sectors.
     pub marks: Vec<u8>,
+    /// The map list, S and L.
     pub volume: Volume,
-    path: PathBuf,
-    /// the file that the marks are from, or go to
-    marks_path: PathBuf,
-    has_marks_file: bool,
+    pair: Pair,
     /// sectors of the image file
     sectors: usize,
+    has_marks_file: bool,
+    /// what is held where the image is to be stored
+    hold: Option<Hold>,
 }
 
-fn with_ending(path: &Path, ending: &str) -> PathBuf {
-    let mut name = path.as_os_str().to_owned();
-    name.push(ending);
-    PathBuf::from(name)
-}
-
-/// A number that tells an image's bytes from others.
-fn fingerprint(bytes: &[u8]) -> u64 {
-    let mix = |hash: u64, word: u64| (hash ^ word).wrapping_mul(0x0000_0100_0000_01b3).rotate_left(23);
-    let words = bytes.chunks_exact(8);
-    let rest = words.remainder().iter().fold(0, |word, &b| word << 8 | u64::from(b));
-    let hash = words.fold(0xcbf2_9ce4_8422_2325, |hash, w| mix(hash, u64::from_le_bytes([w[0], w[1], w[2], w[3], w[4], w[5], w[6], w[7]])));
-    mix(mix(hash, rest), bytes.len() as u64)
-}
-
-const MARK_NAMES: [&str; 3] = ["blank", "recorded", "unreadable"];
-
-/// The text of a marks file: its head, the image that it goes with, and runs of sectors.
-fn marks_text(marks: &[u8], image: u64) -> String {
-    let mut text = format!("tuormik marks\nimage {image:016x}\n");
-    let mut from = 0;
-    for run in marks.chunk_by(|a, b| a == b) {
-        let name = MARK_NAMES[usize::from(run[0])];
-        text.push_str(&format!("{name} {from} {}\n", run.len()));
-        from += run.len();
-    }
-    text
-}
-
-/// The marks that a marks file tells, for an image of these sectors; what it leaves out is recorded up to the last sector it names, and
-/// blank from there. `Ok(None)` where it says that it goes with another image.
-fn read_marks(text: &str, sectors: usize, image: u64) -> Result<Option<Vec<u8>>, String> {
-    let mut marks = Vec::new();
-    let mut lines = text.lines().enumerate();
-    if lines.next().map(|(_, line)| line.trim()) != Some("tuormik marks") {
-        return Err("its first line is not 'tuormik marks'".into());
-    }
-    for (i, line) in lines {
-        let wrong = || format!("line {} is none of 'image FINGERPRINT' and 'blank|recorded|unreadable FROM COUNT'", i + 1);
-        let words: Vec<&str> = line.split_whitespace().collect();
-        match words[..] {
-            [] => {}
-            ["image", print] => {
-                if u64::from_str_radix(print, 16).map_err(|_| wrong())? != image {
-                    return Ok(None);
-                }
-            }
-            [name, from, count] => {
-                let mark = MARK_NAMES.iter().position(|n| *n == name).ok_or_else(wrong)? as u8;
-                let from: usize = from.parse().map_err(|_| wrong())?;
-                let count: usize = count.parse().map_err(|_| wrong())?;
-                let end = from.checked_add(count).filter(|&end| end <= MOST_SECTORS).ok_or_else(wrong)?;
-                if marks.len() < end {
-                    marks.resize(end, RECORDED);
-                }
-                marks[from..end].fill(mark);
-            }
-            _ => return Err(wrong()),
-        }
-    }
-    if marks.len() > sectors && marks[sectors..].iter().any(|&m| m != BLANK) {
-        return Err(format!("it names sectors past the image's {sectors}"));
-    }
-    marks.resize(sectors, BLANK);
-    Ok(Some(marks))
-}
-
-fn read_file(path: &Path) -> Result<Vec<u8>, Error> {
-    let size = fs::metadata(path).map_err(|e| Error::file(path, e))?.len();
-    if size > (MOST_SECTORS * SECTOR) as u64 {
-        return Err(Error::wrong(path, format!("{size} bytes are more than a disc of 1,048,576 sectors has")));
-    }
-    fs::read(path).map_err(|e| Error::file(path, e))
-}
-
-/// The text of a marks file, if there is one.
-fn marks_file(path: &Path) -> Result<Option<String>, Error> {
-    match fs::read_to_string(path) {
-        Ok(text) => Ok(Some(text)),
-        Err(e) if e.kind() == ErrorKind::NotFound => Ok(None),
-        Err(e) => Err(Error::file(path, e)),
-    }
+/// What is held of an image that is to be stored.
+struct Hold {
+    _lock: Lock,
+    /// the fingerprint of the file that is replaced, if there is one
+    was: Option<u64>,
+    /// the stamps of image and marks as they were read
+    stamps: [Option<Stamp>; 2],
 }
 
 impl Image {
-    /// An image that is not a file yet.
-    pub fn new(path: &Path, marks_path: Option<&Path>, sectors: usize, volume: Volume) -> Image {
-        Image {
-            bytes: vec![0; SECTOR * sectors],
-            marks: vec![BLANK; sectors],
-            volume,
-            path: path.to_owned(),
-            marks_path: marks_path.map_or_else(|| with_ending(path, ".marks"), Path::to_owned),
-            has_marks_file: false,
-            sectors,
+    /// Makes an image that is not a file yet, of blank sectors, and takes its lock. A file of that name, or its marks, are replaced only
+    /// where `replaces` says so.
+    pub fn create(path: &Path, marks_path: Option<&Path>, sectors: usize, volume: Volume, replaces: bool) -> Result<Image, Error> {
+        let image = settled(path)?;
+        let marks = marks_path.map_or_else(|| Ok(with_ending(&image, ".marks")), settled)?;
+        if image == marks {
+            return Err(Error::wrong(path, "the image cannot be its own marks file"));
         }
+        let pair = Pair { image, marks };
+        need_replaceable(&pair.image)?;
+        need_replaceable(&pair.marks)?;
+        let lock = Lock::take(&pair.image)?;
+        journal::finish(&System, &pair.image)?;
+        let there = journal::read_pair(&System, &pair)?;
+        for (is_there, path) in [(there.image.is_some(), &pair.image), (there.marks.is_some(), &pair.marks)] {
+            if is_there && !replaces {
+                return Err(Error::wrong(path, "it is there already (--force replaces it)"));
+            }
+        }
+        if there.marks.as_deref().is_some_and(|text| !is_marks_file(text)) {
+            return Err(Error::wrong(&pair.marks, "it is there, is no marks file, and stays as it is"));
+        }
+        let hold = Hold { _lock: lock, was: there.image.as_deref().map(fingerprint), stamps: stamps(&pair)? };
+        let (bytes, marks) = (vec![0; SECTOR * sectors], vec![BLANK; sectors]);
+        Ok(Image { bytes, marks, volume, pair, sectors, has_marks_file: false, hold: Some(hold) })
     }
 
     /// Reads an image file. The marks are those of a marks file, named or beside the image, or follow the rule; the volume is the one
-    /// given by hand, or `find` finds it in the bytes.
+    /// that `find` finds, in the bytes or elsewhere. Nothing is written and nothing locked; what is read belongs together also where
+    /// another process stores the image at that moment.
     pub fn load<E: From<Error>>(path: &Path, marks_path: Option<&Path>, find: impl FnOnce(&[u8]) -> Result<Volume, E>) -> Result<Image, E> {
-        // the file itself is replaced, not a link to it
-        let path = &fs::canonicalize(path).map_err(|e| Error::file(path, e))?;
-        let mut bytes = read_file(path)?;
-        let volume = find(&bytes)?;
-        let sectors = bytes.len() / SECTOR;
-        let own_marks_path = with_ending(path, ".marks");
-        let named = marks_path.is_some();
-        let marks_path = marks_path.map_or(own_marks_path, Path::to_owned);
-        let found = find_marks(&marks_path, sectors, &bytes, named)?;
-        let has_marks_file = found.is_some();
-        let mut marks = found.unwrap_or_else(|| marks_by_rule(&bytes));
-        // a disc ends at its last recorded sector: those from there to the partition's end are blank
-        let end = (volume.start as usize).saturating_add(volume.length as usize);
-        if bytes.len() == SECTOR * sectors && sectors < end && end <= MOST_SECTORS {
-            bytes.resize(SECTOR * end, 0);
-            marks.resize(end, BLANK);
-        }
-        Ok(Image { bytes, marks, volume, path: path.to_owned(), marks_path, has_marks_file, sectors })
+        read_image(located(path, marks_path)?, marks_path.is_some(), find)
+    }
+
+    /// Takes the image's lock and reads it as [`Image::load`] does, to store it later. A store that was stopped is finished before. What
+    /// cannot be replaced is refused: what is no regular file, and what is read-only.
+    pub fn load_to_write<E: From<Error>>(
+        path: &Path,
+        marks_path: Option<&Path>,
+        find: impl FnOnce(&[u8]) -> Result<Volume, E>,
+    ) -> Result<Image, E> {
+        let pair = located(path, marks_path)?;
+        need_replaceable(&pair.image)?;
+        need_replaceable(&pair.marks)?;
+        let lock = Lock::take(&pair.image)?;
+        journal::finish(&System, &pair.image)?;
+        let stamps = stamps(&pair)?;
+        let mut image = read_image(pair, marks_path.is_some(), find)?;
+        let was = Some(fingerprint(image.file_bytes()));
+        image.hold = Some(Hold { _lock: lock, was, stamps });
+        Ok(image)
     }
 
     /// The disc as it is lent to the layer.
@@ -192,125 +180,192 @@ impl Image {
         }
     }
 
+    /// The sectors of the image file: fewer than those of the disc where the file ends before the partition does.
+    pub fn file_sectors(&self) -> usize {
+        self.sectors
+    }
+
+    fn file_bytes(&self) -> &[u8] {
+        &self.bytes[..SECTOR * self.sectors]
+    }
+
     /// How the marks were found, in words.
     pub fn marks_source(&self) -> String {
         if self.has_marks_file {
-            let name = self.marks_path.file_name().unwrap_or(self.marks_path.as_os_str());
+            let name = self.pair.marks.file_name().unwrap_or(self.pair.marks.as_os_str());
             format!("from {}", name.to_string_lossy())
         } else {
             "by the rule that trailing sectors of zeros are blank".to_string()
         }
     }
 
-    /// Replaces the image file by this image: a whole new file is written beside it, then renamed. Where the marks do not follow the
-    /// rule, or were in a file, a marks file is replaced with it; it names the image that it goes with, so that the rename of the image
-    /// is the one moment at which both change.
+    /// Replaces the image file by this image, and its marks file where there is one or the marks do not follow the rule. Whoever is stopped
+    /// in it leaves both files old or both new, as the next load reads them. An image that was loaded only to be read is not stored.
     pub fn store(&mut self) -> Result<(), Error> {
         let recorded = self.marks.iter().rposition(|&m| m != BLANK).map_or(0, |last| last + 1);
         self.sectors = self.sectors.max(recorded);
-        let bytes = &self.bytes[..SECTOR * self.sectors];
-        let marks = &self.marks[..self.sectors];
-        let needs_marks = self.has_marks_file || marks_by_rule(bytes) != marks;
-        let new_marks = with_ending(&self.marks_path, ".new");
-        if needs_marks {
-            write_whole(&new_marks, marks_text(marks, fingerprint(bytes)).as_bytes())?;
+        let Some(hold) = &self.hold else {
+            return Err(Error::wrong(&self.pair.image, "it was loaded to be read, and is not stored"));
+        };
+        if stamps(&self.pair)? != hold.stamps {
+            return Err(Error::wrong(&self.pair.image, "it or its marks were changed by another program meanwhile; nothing was stored"));
         }
-        let beside = with_ending(&self.path, ".new");
-        write_whole(&beside, bytes)?;
-        if let Ok(old) = fs::metadata(&self.path) {
-            fs::set_permissions(&beside, old.permissions()).map_err(|e| Error::file(&beside, e))?;
-        }
-        rename(&beside, &self.path)?;
-        if needs_marks {
-            rename(&new_marks, &self.marks_path)?;
-            self.has_marks_file = true;
+        let (bytes, marks) = (self.file_bytes(), &self.marks[..self.sectors]);
+        let print = fingerprint(bytes);
+        let new_marks = if self.has_marks_file || marks_by_rule(bytes) != marks {
+            NewMarks::Text(marks_text(marks, print).into_bytes())
+        } else if hold.stamps[1].is_some() {
+            NewMarks::Removed
+        } else {
+            NewMarks::Kept
+        };
+        let has_marks_file = matches!(new_marks, NewMarks::Text(_));
+        journal::store(&System, &self.pair, hold.was, bytes, new_marks)?;
+        let stamps = stamps(&self.pair)?;
+        self.has_marks_file = has_marks_file;
+        if let Some(hold) = &mut self.hold {
+            (hold.was, hold.stamps) = (Some(print), stamps);
         }
         Ok(())
     }
-}
 
-/// The marks of a marks file that goes with the image. One that was written beside it, when the image was replaced and the tool was
-/// stopped before it came to its place, is taken first.
-fn find_marks(path: &Path, sectors: usize, bytes: &[u8], must_be: bool) -> Result<Option<Vec<u8>>, Error> {
-    let beside = with_ending(path, ".new");
-    if let Some(text) = marks_file(&beside)? {
-        // a file that was not written whole, or for an image that never came, is no marks file
-        if let Ok(Some(marks)) = read_marks(&text, sectors, fingerprint(bytes)) {
-            if text.contains("\nimage ") {
-                return Ok(Some(marks));
+    /// Writes a file that is none of the image's own, as [`write_file`] does.
+    pub fn write_output(&self, path: &Path, bytes: &[u8]) -> Result<(), Error> {
+        let output = settled(path)?;
+        for own in [&self.pair.image, &self.pair.marks] {
+            if output == *own || is_same_file(&output, own)? {
+                return Err(Error::wrong(path, "it is the image or its marks file, and is not written over"));
             }
         }
-    }
-    let Some(text) = marks_file(path)? else {
-        return if must_be { Err(Error::wrong(path, "there is no such file")) } else { Ok(None) };
-    };
-    match read_marks(&text, sectors, fingerprint(bytes)) {
-        Ok(Some(marks)) => Ok(Some(marks)),
-        Ok(None) => {
-            Err(Error::wrong(path, "these marks go with another image than this one (take out its 'image' line to use them all the same)"))
-        }
-        Err(words) => Err(Error::wrong(path, words)),
+        write_file(&output, bytes)
     }
 }
 
-/// Writes a file whole, down to the disc.
-fn write_whole(path: &Path, bytes: &[u8]) -> Result<(), Error> {
-    let write = || -> std::io::Result<()> {
-        let mut file = File::create(path)?;
-        file.write_all(bytes)?;
-        file.sync_all()
+/// Writes a file whole, then renames it to its place. What is no regular file, or is read-only, stays as it is.
+pub fn write_file(path: &Path, bytes: &[u8]) -> Result<(), Error> {
+    let path = &settled(path)?;
+    need_replaceable(path)?;
+    let new = with_ending(path, &format!(".tuormik-new-{}", std::process::id()));
+    let write = || -> io::Result<()> {
+        System.write(&new, bytes, path)?;
+        System.rename(&new, path)?;
+        System.sync_folder(folder_of(path))
     };
     write().map_err(|e| {
         // what was half written is of no use
-        let _ = fs::remove_file(path);
+        let _ = fs::remove_file(&new);
         Error::file(path, e)
     })
 }
 
-fn rename(from: &Path, to: &Path) -> Result<(), Error> {
-    fs::rename(from, to).map_err(|e| Error::file(to, e))?;
-    // the folder's entry too; where a folder cannot be opened the rename stands by itself
-    let folder = to.parent().filter(|f| !f.as_os_str().is_empty()).unwrap_or(Path::new("."));
-    if let Ok(folder) = File::open(folder) {
-        let _ = folder.sync_all();
+/// The file that a name leads to, links followed; where there is none yet, the name in its folder.
+fn settled(path: &Path) -> Result<PathBuf, Error> {
+    let wrong = |e| Error::file(path, e);
+    if let Some(path) = if_there(fs::canonicalize(path)).map_err(wrong)? {
+        return Ok(path);
+    }
+    if fs::symlink_metadata(path).is_ok() {
+        return Err(Error::wrong(path, "it is a link to nothing"));
+    }
+    let name = path.file_name().ok_or_else(|| Error::wrong(path, "it is no name of a file"))?;
+    Ok(fs::canonicalize(folder_of(path)).map_err(wrong)?.join(name))
+}
+
+/// The files of an image that is there, or of which a store was stopped before it was, and of its marks.
+fn located(path: &Path, marks_path: Option<&Path>) -> Result<Pair, Error> {
+    let image = settled(path)?;
+    let marks = marks_path.map_or_else(|| Ok(with_ending(&image, ".marks")), settled)?;
+    Ok(Pair { image, marks })
+}
+
+fn stamps(pair: &Pair) -> Result<[Option<Stamp>; 2], Error> {
+    let stamp = |path: &Path| System.stamp(path).map_err(|e| Error::file(path, e));
+    Ok([stamp(&pair.image)?, stamp(&pair.marks)?])
+}
+
+fn is_same_file(a: &Path, b: &Path) -> Result<bool, Error> {
+    let found = |path: &Path| if_there(fs::metadata(path)).map_err(|e| Error::file(path, e));
+    Ok(match (found(a)?, found(b)?) {
+        (Some(a), Some(b)) => (a.dev(), a.ino()) == (b.dev(), b.ino()),
+        _ => false,
+    })
+}
+
+/// What is there may be replaced: a regular file that can be written to, or nothing.
+fn need_replaceable(path: &Path) -> Result<(), Error> {
+    let Some(there) = if_there(fs::metadata(path)).map_err(|e| Error::file(path, e))? else {
+        return Ok(());
+    };
+    if !there.is_file() {
+        let kind = there.file_type();
+        let what = match () {
+            () if kind.is_dir() => "a folder",
+            () if kind.is_block_device() || kind.is_char_device() => "a device",
+            () => "no regular file",
+        };
+        return Err(Error::wrong(path, format!("it is {what}, and nothing is written to it")));
+    }
+    let is_open_to_writing = || match OpenOptions::new().write(true).open(path) {
+        Ok(_) => Ok(true),
+        Err(e) if [ErrorKind::PermissionDenied, ErrorKind::ReadOnlyFilesystem].contains(&e.kind()) => Ok(false),
+        Err(e) => Err(Error::file(path, e)),
+    };
+    if there.permissions().readonly() || !is_open_to_writing()? {
+        return Err(Error::wrong(path, "it is read-only, and stays as it is"));
     }
     Ok(())
 }
 
-/// Writes a file that is no image: whole, then renamed.
-pub fn write_file(path: &Path, bytes: &[u8]) -> Result<(), Error> {
-    if fs::metadata(path).is_ok_and(|there| !there.is_file()) {
-        return fs::write(path, bytes).map_err(|e| Error::file(path, e));
+/// Reads image and marks, and finds the volume.
+fn read_image<E: From<Error>>(pair: Pair, must_have_marks: bool, find: impl FnOnce(&[u8]) -> Result<Volume, E>) -> Result<Image, E> {
+    let contents = journal::read_pair(&System, &pair)?;
+    let wrong = |words: String| Error::wrong(&pair.image, words);
+    let mut bytes = contents.image.ok_or_else(|| Error::file(&pair.image, ErrorKind::NotFound.into()))?;
+    need_sectors(bytes.len()).map_err(wrong)?;
+    if must_have_marks && contents.marks.is_none() {
+        return Err(Error::file(&pair.marks, ErrorKind::NotFound.into()).into());
     }
-    let beside = with_ending(path, ".new");
-    write_whole(&beside, bytes)?;
-    rename(&beside, path)
+    let (volume, sectors) = (find(&bytes)?, bytes.len() / SECTOR);
+    need_whole(&volume, sectors).map_err(wrong)?;
+    let mut marks = match &contents.marks {
+        Some(text) => read_marks(text, &bytes).map_err(|words| Error::wrong(&pair.marks, words))?,
+        None => marks_by_rule(&bytes),
+    };
+    let end = (volume.start as usize).saturating_add(volume.length as usize);
+    if sectors < end && end <= MOST_SECTORS {
+        // a write-once disc ends at its last recorded sector: those from there to the partition's end are blank
+        bytes.resize(SECTOR * end, 0);
+        marks.resize(end, BLANK);
+    }
+    Ok(Image { bytes, marks, volume, pair, sectors, has_marks_file: contents.marks.is_some(), hold: None })
 }
 
-/// The mark in words.
-pub fn mark_name(mark: u8) -> &'static str {
-    match mark {
-        BLANK => "blank",
-        RECORDED => "recorded",
-        UNREADABLE => "unreadable",
-        _ => "unknown",
+/// The bytes of an image are whole sectors, as many as a disc can have.
+fn need_sectors(length: usize) -> Result<(), String> {
+    match length {
+        0 => Err("it is empty: a disc has one sector at least".into()),
+        _ if length >= MOST_BYTES => {
+            Err(format!("it has more than {} bytes, and so more sectors than a disc of 1,048,576", MOST_BYTES - 1))
+        }
+        _ if !length.is_multiple_of(SECTOR) => {
+            Err(format!("its {length} bytes are no multiple of 2,048: {} sectors and {} bytes", length / SECTOR, length % SECTOR))
+        }
+        _ => Ok(()),
     }
 }
 
-#[cfg(test)]
-mod tests {
-    use super::*;
-
-    #[test]
-    fn marks_are_read_as_written() {
-        let marks = [1, 1, 0, 2, 2, 1, 0, 0];
-        let text = marks_text(&marks, 5);
-        assert_eq!(read_marks(&text, 8, 5), Ok(Some(marks.to_vec())));
-        assert_eq!(read_marks(&text, 8, 6), Ok(None));
-        assert_eq!(read_marks("tuormik marks\nunreadable 1 1\n", 4, 5), Ok(Some(vec![1, 2, 0, 0])));
-        assert!(read_marks("marks", 4, 5).is_err());
-        assert!(read_marks("tuormik marks\nrecorded 0 5", 4, 5).is_err());
-        assert!(read_marks("tuormik marks\nrecorded 0 99999999999999999999", 4, 5).is_err());
-        assert!(read_marks("tuormik marks\nspoilt 0 1", 4, 5).is_err());
+/// A rewritable disc is not shorter than its partition and its sparing tables: what is cut off there is lost, not blank.
+fn need_whole(volume: &Volume, sectors: usize) -> Result<(), String> {
+    let Ok(Maps::Rewritable { tables, .. }) = read_maps(&volume.maps) else {
+        return Ok(());
+    };
+    let (start, length) = (u64::from(volume.start), u64::from(volume.length));
+    let mut places = tables.iter().map(|&table| u64::from(table)).chain([start, length]);
+    let is_aligned = places.all(|place| place.is_multiple_of(PACKET as u64));
+    let end = tables.iter().map(|&table| u64::from(table) + PACKET as u64).fold(start + length, u64::max);
+    // what is not aligned, or on no disc, the layer turns down
+    if is_aligned && (sectors as u64) < end && end <= MOST_SECTORS as u64 {
+        return Err(format!("it has {sectors} sectors, and its partition and sparing tables end at {end}: the rest was cut off"));
     }
+    Ok(())
 }

@@ -24,6 +24,7 @@ mod ffi;
 pub mod image;
 mod marks;
 mod open;
+mod passed;
 mod refusal;
 
 // the functions of `ffi`, where the proved library is not linked
@@ -32,6 +33,7 @@ extern crate tuormik_plain as _;
 
 pub use marks::marks_by_rule;
 pub use open::{look_up, read_maps, write_maps, Call, Disc, Maps, Open, Ran};
+pub use passed::possible_icbs;
 pub use refusal::{Error, Refusal};
 
 /// Bytes of a sector, and of a block.

@@ -11,6 +11,7 @@ mod found;
 mod info;
 mod json;
 mod media;
+mod passed;
 mod picture;
 mod progress;
 mod refused;
@@ -185,8 +186,9 @@ the standard output.
 
 Saves the bytes of FILE ('-': the standard input) as blocks from NUMBER on; the last one is filled up with zeros. On a write-once disc
 NUMBER may be 'new', which adds blocks, and a commit follows; without it what was saved is not found again. On a rewritable disc --packet
-saves whole packets, and so heals unreadable ones.
+saves whole packets, and so heals unreadable ones: FILE then has 65,536 bytes for each.
   --no-commit          no commit after the saves
+  --force              commits also where a sector that was passed over may be a newer VAT
 ",
         run: commands::save,
     },
@@ -196,6 +198,7 @@ saves whole packets, and so heals unreadable ones.
         help: "tuormik free IMAGE NUMBER [COUNT]
 
 Frees COUNT virtual blocks (1) of a write-once disc from NUMBER on, and commits.
+  --force              commits also where a sector that was passed over may be a newer VAT
 ",
         run: commands::free,
     },
@@ -205,6 +208,7 @@ Frees COUNT virtual blocks (1) of a write-once disc from NUMBER on, and commits.
         help: "tuormik commit IMAGE
 
 Opens a write-once disc and commits the table that was found: the disc then ends with its VAT ICB, and opening passes over nothing.
+  --force              commits also where a sector that was passed over may be a newer VAT
 ",
         run: commands::commit,
     },
@@ -241,7 +245,7 @@ they make no file system.
   --maps FILE          the map list itself
   --marks FILE         where the marks go, if they need a file (IMAGE.marks)
   --no-descriptors     no descriptors
-  --force              replaces IMAGE where it is there
+  --force              replaces IMAGE, and its marks file, where they are there
 ",
         run: commands::make,
     },
@@ -360,6 +364,7 @@ fn dispatch(mut words: impl Iterator<Item = OsString>, out: &mut dyn Write) -> D
         }
         if !["make", "demo"].contains(&entry.name) {
             out.write_all(VOLUME_HELP.as_bytes())?;
+            out.write_all(tuormik::image::MARKS_FORMAT.as_bytes())?;
         }
         return Ok(());
     }

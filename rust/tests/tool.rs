@@ -139,11 +139,12 @@ fn a_write_once_disc_lives() {
     folder.refuses(12, &["save", "d.img", "4", "text"]);
     folder.refuses(7, &["spare", "d.img", "0"]);
     folder.refuses(3, &["spare", "d.img", "0", "text"]);
-    folder.refuses(7, &["save", "d.img", "0", "text", "--packet"]);
+    folder.write("packet", &[7; 65_536]);
+    folder.refuses(7, &["save", "d.img", "0", "packet", "--packet"]);
     let history = folder.does(&["history", "d.img"]);
     assert_eq!(history.lines().count(), 5, "{history}");
     // everything is still told by the rule, so no marks file and nothing else is there
-    assert_eq!(folder.names(), ["d.img", "out", "text", "two"]);
+    assert_eq!(folder.names(), ["d.img", "out", "packet", "text", "two"]);
 }
 
 #[test]
@@ -175,10 +176,7 @@ fn a_block_of_zeros_needs_a_marks_file() {
     folder.does(&["make", "e.img", "--sectors", "401", "--write-once"]);
     std::fs::copy(folder.0.join("d.img.marks"), folder.0.join("e.img.marks")).expect("a copy");
     folder.usage(&["info", "e.img"]);
-    // those of an image that came to its place before they did are
     folder.does(&["commit", "d.img"]);
-    std::fs::rename(folder.0.join("d.img.marks"), folder.0.join("d.img.marks.new")).expect("a rename");
-    folder.write("d.img.marks", b"tuormik marks\nimage 0\n");
     has(&folder.does(&["info", "d.img"]), "passed over 0");
 }
 
@@ -221,8 +219,9 @@ fn a_rewritable_disc_lives() {
     folder.is_cut(&["save", "d.img", "3", "text", "--cut", "9:unreadable"], "write 9 of the save of block 3, which became unreadable");
     folder.refuses(14, &["read", "d.img", "8"]);
     folder.refuses(14, &["save", "d.img", "3", "text"]);
-    folder.does(&["save", "d.img", "0", "text", "--packet"]);
-    assert!(folder.does(&["read", "d.img", "0"]).starts_with("a block"));
+    folder.write("packet", &[b'p'; 65_536]);
+    folder.does(&["save", "d.img", "0", "packet", "--packet"]);
+    assert!(folder.does(&["read", "d.img", "8"]).starts_with("pp"));
     for picture in ["p.svg", "p.ppm"] {
         let words = folder.does(&["map", "d.img", picture]);
         assert!(words.contains("64 used spare, 3 sparing table"), "{words}");
@@ -251,9 +250,9 @@ fn volumes_by_hand() {
     folder.write("maps", &[1, 0]);
     folder.refuses(4, &["info", "d.img", "--start", "0", "--length", "20", "--maps", "maps"]);
     folder.write("odd", &[1; 2049]);
-    folder.refuses(1, &["info", "odd", "--start", "0", "--length", "1", "--write-once"]);
+    folder.usage(&["info", "odd", "--start", "0", "--length", "1", "--write-once"]);
     folder.write("empty", &[]);
-    folder.refuses(8, &["info", "empty", "--start", "0", "--length", "1", "--write-once"]);
+    folder.usage(&["info", "empty", "--start", "0", "--length", "1", "--write-once"]);
     folder.refuses(2, &["info", "d.img", "--start", "4294967295", "--length", "4294967295", "--write-once"]);
     assert!(!Path::new(&folder.0.join("e.img")).exists());
 }
@@ -265,13 +264,13 @@ fn an_image_is_replaced_whole_or_not_at_all() {
     folder.does(&["make", "d.img", "--sectors", "400", "--write-once"]);
     folder.write("text", b"one");
     let before = folder.bytes("d.img");
-    // a folder stands where the new image is to be written
-    std::fs::create_dir(folder.0.join("d.img.new")).expect("a folder");
+    // a folder stands where the store is to be told of
+    std::fs::create_dir(folder.0.join("d.img.tuormik-store")).expect("a folder");
     folder.usage(&["save", "d.img", "new", "text"]);
     assert_eq!(folder.bytes("d.img"), before);
-    std::fs::remove_dir(folder.0.join("d.img.new")).expect("a folder");
-    // a half of one that a crash left is written over
-    folder.write("d.img.new", &[9; 100]);
+    std::fs::remove_dir(folder.0.join("d.img.tuormik-store")).expect("a folder");
+    // a half of one that a crash left is removed
+    folder.write("d.img.tuormik-new-7", &[9; 100]);
     folder.does(&["save", "d.img", "new", "text"]);
     assert_eq!(folder.names(), ["d.img", "text"]);
     // a refused call leaves the file alone

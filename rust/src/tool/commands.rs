@@ -3,6 +3,7 @@
 use super::args::Args;
 use super::commits::{self, chain};
 use super::media::Layout;
+use super::passed::{need_force, Passed};
 use super::picture::Picture;
 use super::progress::Progress;
 use super::refused::{self, Asked};
@@ -14,9 +15,10 @@ use super::{Done, Failure};
 use std::io::{Read, Write};
 use std::path::{Path, PathBuf};
 use tuormik::descriptors::{write_volume, DESCRIPTORS_END};
-use tuormik::image::{write_file, Image};
+use tuormik::image::Image;
 use tuormik::{
-    read_maps, Cut, Effect, Error, Held, Maps, Open, Refusal, BLANK, MOST_SECTORS, NONE, PACKET, PACKET_BYTES, RECORDED, SECTOR,
+    read_maps, Cut, Effect, Error, Held, Maps, Open, Refusal, BLANK, MOST_ENTRIES, MOST_SECTORS, NONE, PACKET, PACKET_BYTES, RECORDED,
+    SECTOR,
 };
 
 const VOLUME_OPTIONS: [&str; 8] = ["--marks", "--start", "--length", "--maps", "--tables", "--table-bytes", "--partition", "--write-once"];
@@ -37,6 +39,12 @@ fn load_next(args: &mut Args) -> Result<Image, Failure> {
     load(args, &path)
 }
 
+/// The same, to be stored: it is locked from here on.
+fn load_to_write(args: &mut Args) -> Result<Image, Failure> {
+    let path = args.next_path("IMAGE")?;
+    Image::load_to_write(&path, args.path("--marks"), |bytes| args.volume(bytes))
+}
+
 /// The images of a command that takes several.
 pub fn images(args: &mut Args, own: &[&str]) -> Result<Vec<PathBuf>, Failure> {
     known(args, own)?;
@@ -46,16 +54,6 @@ pub fn images(args: &mut Args, own: &[&str]) -> Result<Vec<PathBuf>, Failure> {
         return Err(Failure::Usage(format!("--marks goes with one image, and these are {}", grouped(paths.len()))));
     }
     Ok(paths)
-}
-
-/// Warns where an opening passed something over.
-pub fn warn_if_passed(passed_over: u32, out: &mut dyn Write) -> Done {
-    if passed_over > 0 {
-        let were = if passed_over == 1 { "1 sector was".to_string() } else { format!("{} sectors were", grouped(passed_over)) };
-        writeln!(out, "warning       {were} passed over above the last VAT ICB: blocks saved and not committed, a write that was")?;
-        writeln!(out, "              cut, or a VAT that breaks a rule of 01. 'tuormik commit' ends the disc with a VAT again.")?;
-    }
-    Ok(())
 }
 
 pub fn list(args: &mut Args, out: &mut dyn Write) -> Done {
@@ -68,7 +66,7 @@ pub fn list(args: &mut Args, out: &mut dyn Write) -> Done {
         Held::WriteOnce { .. } => list_once(&open, out)?,
         Held::Rewritable { .. } => list_packets(&open, all, out)?,
     }
-    warn_if_passed(open.record().passed_over, out)
+    Passed::new(open.disc(), open.record()).warn(out)
 }
 
 fn list_once(open: &Open, out: &mut dyn Write) -> Done {
@@ -128,7 +126,7 @@ pub fn read(args: &mut Args, out: &mut dyn Write) -> Done {
         bytes = text;
     }
     match args.path("--output") {
-        Some(path) => Ok(write_file(path, &bytes)?),
+        Some(path) => Ok(image.write_output(path, &bytes)?),
         None => Ok(out.write_all(&bytes)?),
     }
 }
@@ -138,8 +136,8 @@ fn optional_count(args: &mut Args) -> Result<u32, Failure> {
         return Ok(1);
     };
     let word = word.to_string_lossy();
-    let count = number(&word).filter(|&n| n as usize <= MOST_SECTORS);
-    count.ok_or_else(|| Failure::Usage(format!("COUNT: {word} is no number of blocks")))
+    let count = number(&word).filter(|&n| n > 0 && n as usize <= MOST_SECTORS);
+    count.ok_or_else(|| Failure::Usage(format!("COUNT: {word} is no number of blocks from 1 to 1,048,576")))
 }
 
 /// Sixteen bytes a line, in hexadecimal and as letters; lines that repeat the one before are left out.
@@ -175,6 +173,26 @@ fn input(path: &Path, most: usize) -> Result<Vec<u8>, Failure> {
     Ok(bytes)
 }
 
+/// The bytes that are to be saved: as many as the disc can hold, one at least, and with --packet whole packets.
+fn input_for(image: &Image, path: &Path, packet: bool) -> Result<Vec<u8>, Failure> {
+    let blocks = match read_maps(&image.volume.maps) {
+        Ok(Maps::WriteOnce { .. }) => (image.volume.length as usize).min(MOST_ENTRIES),
+        _ => (image.volume.length as usize).min(MOST_SECTORS),
+    };
+    let bytes = input(path, SECTOR * blocks)?;
+    let wrong = |words: String| Err(Failure::Usage(format!("{}: {words}", path.display())));
+    match bytes.len() {
+        0 => wrong("it is empty: there is nothing to save".into()),
+        n if n > SECTOR * blocks => {
+            wrong(format!("it has more than the {} bytes of all {} blocks", grouped(SECTOR * blocks), grouped(blocks)))
+        }
+        n if packet && !n.is_multiple_of(PACKET_BYTES) => {
+            wrong(format!("its {} bytes are no whole packets of 65,536, which --packet saves", grouped(n)))
+        }
+        _ => Ok(bytes),
+    }
+}
+
 fn effect_name(effect: Effect) -> &'static str {
     match effect {
         Effect::Old => "old",
@@ -202,6 +220,13 @@ fn finish(image: &mut Image, answer: Result<String, Failure>, cut: Cut, out: &mu
     }
 }
 
+/// Opens a disc that is to be committed, which needs --force where that may lose a newer VAT.
+fn open_to_commit(image: &mut Image, is_forced: bool) -> Result<Open<'_>, Failure> {
+    let open = commits::open(image)?;
+    need_force(&open, is_forced)?;
+    Ok(open)
+}
+
 /// Commits, and says what the disc has come to.
 fn commit_and_tell(open: &mut Open, cut: Cut) -> Result<String, Failure> {
     open.commit(cut).map_err(|error| refused::by_call(open, Asked::Commit, error))?;
@@ -214,17 +239,18 @@ fn commit_and_tell(open: &mut Open, cut: Cut) -> Result<String, Failure> {
 }
 
 pub fn save(args: &mut Args, out: &mut dyn Write) -> Done {
-    known(args, &["--no-commit", "--packet", "--cut"])?;
-    let mut image = load_next(args)?;
+    known(args, &["--no-commit", "--packet", "--cut", "--force"])?;
+    let mut image = load_to_write(args)?;
     let word = args.next_word().ok_or_else(|| Failure::Usage("NUMBER is missing".into()))?;
     let path = args.next_path("FILE")?;
     args.end()?;
     let cut = args.cut()?;
     let (packet, commits) = (args.has("--packet"), !args.has("--no-commit"));
-    let mut bytes = input(&path, image.bytes.len())?;
-    let unit = if packet { PACKET_BYTES } else { SECTOR };
-    bytes.resize(bytes.len().div_ceil(unit).max(1) * unit, 0);
-    let answer = commits::open(&mut image).and_then(|open| save_all(open, &word.to_string_lossy(), &bytes, packet, commits, cut));
+    let is_forced = args.has("--force") || !commits;
+    let mut bytes = input_for(&image, &path, packet)?;
+    bytes.resize(bytes.len().next_multiple_of(SECTOR), 0);
+    let save = |open| save_all(open, &word.to_string_lossy(), &bytes, packet, commits, cut);
+    let answer = open_to_commit(&mut image, is_forced).and_then(save);
     finish(&mut image, answer, cut, out)
 }
 
@@ -264,13 +290,13 @@ fn save_all(mut open: Open, word: &str, bytes: &[u8], packet: bool, commits: boo
 }
 
 pub fn free(args: &mut Args, out: &mut dyn Write) -> Done {
-    known(args, &["--cut"])?;
-    let mut image = load_next(args)?;
+    known(args, &["--cut", "--force"])?;
+    let mut image = load_to_write(args)?;
     let first = args.next_number("NUMBER")?;
     let count = optional_count(args)?;
     args.end()?;
     let cut = args.cut()?;
-    let answer = commits::open(&mut image).and_then(|open| free_all(open, first, count, cut));
+    let answer = open_to_commit(&mut image, args.has("--force")).and_then(|open| free_all(open, first, count, cut));
     finish(&mut image, answer, cut, out)
 }
 
@@ -284,17 +310,17 @@ fn free_all(mut open: Open, first: u32, count: u32, cut: Cut) -> Result<String, 
 }
 
 pub fn commit(args: &mut Args, out: &mut dyn Write) -> Done {
-    known(args, &["--cut"])?;
-    let mut image = load_next(args)?;
+    known(args, &["--cut", "--force"])?;
+    let mut image = load_to_write(args)?;
     args.end()?;
     let cut = args.cut()?;
-    let answer = commits::open(&mut image).and_then(|mut open| commit_and_tell(&mut open, cut));
+    let answer = open_to_commit(&mut image, args.has("--force")).and_then(|mut open| commit_and_tell(&mut open, cut));
     finish(&mut image, answer, cut, out)
 }
 
 pub fn spare(args: &mut Args, out: &mut dyn Write) -> Done {
     known(args, &["--zeros", "--cut"])?;
-    let mut image = load_next(args)?;
+    let mut image = load_to_write(args)?;
     let b = args.next_number("NUMBER")?;
     let path = args.next_word();
     args.end()?;
@@ -348,15 +374,12 @@ pub fn make(args: &mut Args, out: &mut dyn Write) -> Done {
     ])?;
     let path = args.next_path("IMAGE")?;
     args.end()?;
-    if !args.has("--force") && path.exists() {
-        return Err(Failure::Usage(format!("{} is there already (--force replaces it)", path.display())));
-    }
     let Layout { sectors, start, length, spares, .. } = args.layout()?;
     if sectors as usize > MOST_SECTORS {
         return Err(refused::sectors(sectors as usize));
     }
     let (volume, partition) = args.new_volume(start, length)?;
-    let mut image = Image::new(&path, args.path("--marks"), sectors as usize, volume);
+    let mut image = Image::create(&path, args.path("--marks"), sectors as usize, volume, args.has("--force"))?;
     let mut disc = image.disc();
     disc.make(&spares).map_err(|error| refused::by_making(&disc, &spares, error))?;
     let is_described = !args.has("--no-descriptors") && describe(&mut image, partition);
@@ -411,7 +434,7 @@ pub fn history(args: &mut Args, out: &mut dyn Write) -> Done {
             writeln!(out, "{icb:>7}  {sector:>8}  {entries:>6}  {between:>6}")?;
         }
     }
-    warn_if_passed(found.first().map_or(0, |newest| newest.record.passed_over), out)
+    found.first().map_or(Ok(()), |newest| Passed::new(&image.disc(), newest.record).warn(out))
 }
 
 pub fn map(args: &mut Args, out: &mut dyn Write) -> Done {
@@ -426,7 +449,7 @@ pub fn map(args: &mut Args, out: &mut dyn Write) -> Done {
         Some("ppm") => picture.ppm(),
         _ => return Err(Failure::Usage(format!("{}: a picture ends in .svg or .ppm", path.display()))),
     };
-    write_file(&path, &bytes)?;
+    image.write_output(&path, &bytes)?;
     writeln!(out, "{}: {}", path.display(), picture.legend())?;
     if let Some(words) = &picture.from_marks {
         writeln!(out, "drawn from the marks alone, since the disc was turned down: {words}")?;

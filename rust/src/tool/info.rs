@@ -1,7 +1,7 @@
 //! What kind of disc each image has, and how full it is.
 
 use super::args::Args;
-use super::commands::{images, load, warn_if_passed};
+use super::commands::{images, load};
 use super::json::Json;
 use super::summary::Summary;
 use super::{Done, Failure};
@@ -29,7 +29,7 @@ fn as_text(args: &Args, path: &Path, out: &mut dyn Write) -> Done {
         writeln!(out, "{name:<12}  {words}")?;
     }
     match &summary.opened {
-        Ok(opened) => warn_if_passed(opened.passed_over(), out),
+        Ok(opened) => opened.warn(out),
         Err((words, why)) => Err(Failure::Refused(words.clone(), *why)),
     }
 }

@@ -11,7 +11,7 @@ use super::{verify, Done, Failure};
 use std::fmt::Write as _;
 use std::io::Write;
 use std::path::Path;
-use tuormik::image::{write_file, Image};
+use tuormik::image::Image;
 
 const STYLE: &str = "
 body { font: 15px/1.5 system-ui, sans-serif; color: #222; max-width: 1112px; margin: 32px auto; padding: 0 24px; }
@@ -34,7 +34,7 @@ pub fn report(args: &mut Args, out: &mut dyn Write) -> Done {
     let mut image = load(args, &path)?;
     let page = page(&path, &mut image)?;
     match args.path("--output") {
-        Some(to) => Ok(write_file(to, page.as_bytes())?),
+        Some(to) => Ok(image.write_output(to, page.as_bytes())?),
         None => Ok(out.write_all(page.as_bytes())?),
     }
 }

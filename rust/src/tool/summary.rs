@@ -1,9 +1,11 @@
 //! What is to be said of an image and its disc: in a curator's words, in document 01's letters, and as JSON.
 
 use super::json::Json;
+use super::passed::Passed;
 use super::room::new_blocks;
 use super::words::{counted, grouped, joined, parts};
-use super::{commits, found, refused, states, Failure};
+use super::{commits, found, refused, states, Done, Failure};
+use std::io::Write;
 use tuormik::image::{mark_name, Image};
 use tuormik::{read_maps, Held, Maps, Open, Refusal, BLANK, NONE, RECORDED, UNREADABLE};
 
@@ -23,6 +25,7 @@ pub fn mark_words(marks: &[u8]) -> String {
 /// What an image says of itself, and what opening its disc gave.
 pub struct Summary {
     sectors: usize,
+    file_sectors: usize,
     counts: [usize; 3],
     mark_words: String,
     marks_source: String,
@@ -34,7 +37,7 @@ pub struct Summary {
 
 /// What an opening gave.
 pub enum Opened {
-    WriteOnce { entries: u32, used: usize, next: u32, last: u32, fits: usize, per_mille: u32, passed_over: u32, passed_words: String },
+    WriteOnce { entries: u32, used: usize, next: u32, last: u32, fits: usize, per_mille: u32, passed: Passed },
     Rewritable { blocks: [usize; 3], entries: u32, used: usize, sequence: u32, stale: Vec<u32> },
 }
 
@@ -57,6 +60,7 @@ impl Summary {
         };
         let mut summary = Summary {
             sectors: image.marks.len(),
+            file_sectors: image.file_sectors(),
             counts: mark_counts(&image.marks),
             mark_words: mark_words(&image.marks),
             marks_source: image.marks_source(),
@@ -83,6 +87,10 @@ impl Summary {
             lines.extend(opened.words());
         }
         lines.push(("disc", format!("{}: {}", counted(self.sectors, "sector"), self.mark_words)));
+        if self.file_sectors < self.sectors {
+            let (has, end) = (counted(self.file_sectors, "sector"), grouped(u64::from(self.start) + u64::from(self.length)));
+            lines.push(("note", format!("the image file has {has}, and S + L is {end}: those that it does not have are taken as blank")));
+        }
         lines.push(("marks", self.marks_source.clone()));
         if let Some(Maps::Rewritable { table_bytes, tables, .. }) = &self.maps {
             let places: Vec<String> = tables.iter().map(|&t| grouped(t)).collect();
@@ -108,6 +116,7 @@ impl Summary {
             ("kind", kind),
             ("partition", partition),
             ("sectors", Json::number(self.sectors)),
+            ("file_sectors", Json::number(self.file_sectors)),
             ("recorded", recorded),
             ("unreadable", unreadable),
             ("blank", blank),
@@ -133,7 +142,6 @@ impl Opened {
         Ok(match record.held {
             Held::WriteOnce { entries, next, last } => {
                 let per_mille = open.fullness().map_err(|error| refused::by_call(open, refused::Asked::Fullness, error))?;
-                let start = disc.start as usize;
                 Opened::WriteOnce {
                     entries,
                     used: open.table().iter().filter(|&&entry| entry != NONE).count(),
@@ -141,8 +149,7 @@ impl Opened {
                     last,
                     fits: new_blocks(entries as usize, next as usize, disc.length as usize),
                     per_mille,
-                    passed_over: record.passed_over,
-                    passed_words: found::passed_over(disc, start + last as usize + 1, start + next as usize),
+                    passed: Passed::new(disc, record),
                 }
             }
             Held::Rewritable { entries, sequence } => {
@@ -178,16 +185,16 @@ impl Opened {
     /// In the letters of document 01.
     fn letters(&self, start: u32) -> Vec<(&'static str, String)> {
         match self {
-            Opened::WriteOnce { entries, used, next, last, passed_over, passed_words, .. } => {
+            Opened::WriteOnce { entries, used, next, last, passed, .. } => {
                 let at = u64::from(start) + u64::from(*last);
                 let mut lines = vec![
                     ("N", format!("{} ({} used)", grouped(*entries), grouped(*used))),
                     ("NWA", grouped(*next)),
                     ("last ICB", format!("{} (sector {})", grouped(*last), grouped(at))),
-                    ("passed over", grouped(*passed_over)),
+                    ("passed over", grouped(passed.count)),
                 ];
-                if *passed_over > 0 {
-                    lines.push(("which are", passed_words.clone()));
+                if passed.count > 0 {
+                    lines.push(("which are", passed.words.clone()));
                 }
                 lines
             }
@@ -201,14 +208,15 @@ impl Opened {
 
     fn json(&self) -> Vec<(&'static str, Json)> {
         match self {
-            Opened::WriteOnce { entries, used, next, last, fits, per_mille, passed_over, .. } => vec![
+            Opened::WriteOnce { entries, used, next, last, fits, per_mille, passed } => vec![
                 ("n", Json::number(*entries)),
                 ("used", Json::number(*used)),
                 ("new_blocks_that_fit", Json::number(*fits)),
                 ("fullness_per_mille", Json::number(*per_mille)),
                 ("nwa", Json::number(*next)),
                 ("last_icb", Json::number(*last)),
-                ("passed_over", Json::number(*passed_over)),
+                ("passed_over", Json::number(passed.count)),
+                ("possible_newer_vat", passed.possible.map_or(Json::None, Json::number)),
             ],
             Opened::Rewritable { blocks, entries, used, sequence, stale } => {
                 let [recorded, unreadable, blank] = blocks.map(Json::number);
@@ -227,19 +235,20 @@ impl Opened {
         }
     }
 
-    pub fn passed_over(&self) -> u32 {
+    /// Warns where an opening passed something over.
+    pub fn warn(&self, out: &mut dyn Write) -> Done {
         match self {
-            Opened::WriteOnce { passed_over, .. } => *passed_over,
-            Opened::Rewritable { .. } => 0,
+            Opened::WriteOnce { passed, .. } => passed.warn(out),
+            Opened::Rewritable { .. } => Ok(()),
         }
     }
 
     /// What stands against calling a disc clean, beside blocks that cannot be read.
     pub fn faults(&self) -> Vec<String> {
         match self {
-            Opened::WriteOnce { passed_over: 0, .. } => Vec::new(),
-            Opened::WriteOnce { passed_over, passed_words, .. } => {
-                vec![format!("{} passed over above the last commit: {passed_words}", counted(*passed_over as usize, "sector"))]
+            Opened::WriteOnce { passed, .. } if passed.count == 0 => Vec::new(),
+            Opened::WriteOnce { passed, .. } => {
+                vec![format!("{} passed over above the last commit: {}", counted(passed.count as usize, "sector"), passed.words)]
             }
             Opened::Rewritable { stale, .. } if stale.is_empty() => Vec::new(),
             Opened::Rewritable { stale, .. } => vec![stale_words(stale)],
