@@ -147,7 +147,7 @@ fn misplaced_spare(disc: &Disc, tables: &[u32], table_bytes: u32, spares: &[u32]
     if spares.len() > most {
         return format!(
             "a sparing table of {} has room for {}, not {}",
-            bytes_words(table_bytes),
+            counted(table_bytes as usize, "byte"),
             counted(most, "spare"),
             grouped(spares.len())
         );
@@ -169,10 +169,6 @@ fn misplaced_spare(disc: &Disc, tables: &[u32], table_bytes: u32, spares: &[u32]
     "the spares break the rule for a copy of the sparing table".to_string()
 }
 
-fn bytes_words(n: u32) -> String {
-    counted(n as usize, "byte")
-}
-
 const TABLE_REGID: &str = "*OSTA UDF Sparing Table";
 const TABLE_REGID_150: &str = "*UDF Sparing Table";
 const ENTRIES_AT: usize = 48;
@@ -180,27 +176,34 @@ const SEQUENCE_AT: usize = 52;
 
 /// Line 8 of a rewritable disc: what stands where the tables should be.
 pub fn no_copy(disc: &Disc, tables: &[u32], table_bytes: u32) -> String {
-    let words: Vec<String> = tables.iter().map(|&t| copy_words(disc, t, table_bytes)).collect();
+    let found: Vec<(String, u32)> = tables.iter().map(|&t| (copy_words(disc, t, table_bytes), t)).collect();
+    let words: Vec<String> = found
+        .chunk_by(|a, b| a.0 == b.0)
+        .map(|alike| match alike {
+            [(words, t)] => format!("sector {} {words}", grouped(*t)),
+            _ => format!("each of sectors {} {}", joined(&alike.iter().map(|(_, t)| grouped(*t)).collect::<Vec<_>>()), alike[0].0),
+        })
+        .collect();
     format!("no copy of the sparing table can be used: {}", words.join("; "))
 }
 
+/// What is to be said of the sector of a table that does not count.
 fn copy_words(disc: &Disc, at: u32, table_bytes: u32) -> String {
-    let place = format!("sector {}", grouped(at));
     let mark = disc.marks.get(at as usize).copied().unwrap_or(BLANK);
     if mark != RECORDED {
-        return format!("{place} is {}", mark_name(mark));
+        return format!("is {}", mark_name(mark));
     }
     let bytes = sector(disc, at as usize);
     let name = identifier(bytes.get(16..).unwrap_or_default());
-    let needed = 56 + 8 * number_at(bytes, ENTRIES_AT, 2);
+    let needed = 56 + 8 * number_at(bytes, ENTRIES_AT, 2) as usize;
     match name.as_str() {
-        TABLE_REGID_150 => format!("{place} has the identifier of UDF 1.50, {TABLE_REGID_150}, where CD UDF has {TABLE_REGID}"),
-        TABLE_REGID if needed > table_bytes.into() => {
-            format!("the table in {place} needs {}, and the map list gives it {}", bytes_words(needed as u32), grouped(table_bytes))
+        TABLE_REGID_150 => format!("has the identifier of UDF 1.50, {TABLE_REGID_150}, where CD UDF has {TABLE_REGID}"),
+        TABLE_REGID if needed > table_bytes as usize => {
+            format!("has a table of {}, and the map list gives it {}", counted(needed, "byte"), grouped(table_bytes))
         }
-        TABLE_REGID => format!("the table in {place} breaks the rule for a copy"),
-        "" => format!("{place} has no identifier"),
-        other => format!("{place} has the identifier {other}"),
+        TABLE_REGID => "has a table that breaks the rule for a copy".to_string(),
+        "" => "has no identifier".to_string(),
+        other => format!("has the identifier {other}"),
     }
 }
 

@@ -251,7 +251,8 @@ impl Picture {
         let (mut left, mut line) = (LEFT, 0);
         let mut items = Vec::new();
         for (count, words, colour) in self.counts() {
-            let words = format!("{words}: {}", grouped(count));
+            let marked = if colour == self::colour(Kind::Unreadable) { " (their rows are marked at the right)" } else { "" };
+            let words = format!("{words}: {}{marked}", grouped(count));
             let wide = 30 + LETTER * words.len();
             if left + wide > LEFT + WIDE {
                 (left, line) = (LEFT, line + 1);

@@ -60,7 +60,10 @@ fn verdict_of(args: &Args, path: &Path) -> Result<Verdict, Failure> {
 
 /// What is said of a file, without the name that the line has already.
 fn without_name(words: &str, path: &Path) -> String {
-    words.strip_prefix(&format!("{}: ", path.display())).unwrap_or(words).to_string()
+    match words.split_once(": ") {
+        Some((named, rest)) if Path::new(named).file_name() == path.file_name() => rest.to_string(),
+        _ => words.to_string(),
+    }
 }
 
 /// Clean is a disc that opens, passes over nothing, and has every block that is used, and every copy of its sparing table.
