@@ -6,8 +6,11 @@ use crate::{read_maps, Maps, SECTOR};
 /// The map list, S and L of a volume.
 #[derive(Clone, Debug, PartialEq, Eq)]
 pub struct Volume {
+    /// The map list.
     pub maps: Vec<u8>,
+    /// S, the partition's first sector.
     pub start: u32,
+    /// L, its number of sectors.
     pub length: u32,
 }
 

@@ -13,7 +13,7 @@ mod lock;
 mod marks_file;
 
 use crate::descriptors::Volume;
-use crate::{marks_by_rule, read_maps, Disc, Maps, BLANK, MOST_SECTORS, PACKET, SECTOR};
+use crate::{marks_by_rule, read_maps, Disc, DiscRef, Maps, BLANK, MOST_SECTORS, PACKET, SECTOR};
 use files::{folder_of, if_there, with_ending, Files, Stamp, System, MOST_BYTES};
 use journal::{NewMarks, Pair};
 use lock::Lock;
@@ -178,6 +178,11 @@ impl Image {
             start: self.volume.start,
             length: self.volume.length,
         }
+    }
+
+    /// The disc, to be read.
+    pub fn to_read(&self) -> DiscRef<'_> {
+        DiscRef { bytes: &self.bytes, marks: &self.marks, maps: &self.volume.maps, start: self.volume.start, length: self.volume.length }
     }
 
     /// The sectors of the image file: fewer than those of the disc where the file ends before the partition does.

@@ -246,7 +246,7 @@ fn sparings() {
     refuse(&folder, 19, &[(&["spare", "e.img", "0"], "the disc has no spares")]);
     folder.does(&["make", "f.img", "--sectors", "640", "--tables", "0,32", "--spares", "96", "--length", "64"]);
     folder.does(&["spare", "f.img", "0"]);
-    refuse(&folder, 19, &[(&["spare", "f.img", "32"], "no spare is free: the disc has 1 spare, 1 used")]);
+    refuse(&folder, 19, &[(&["spare", "f.img", "32"], "no spare is free: the disc has 1, which is used")]);
     folder.does(&["make", "g.img", "--sectors", "640", "--tables", "0", "--spares", "96", "--length", "64"]);
     let sentence = "the disc has one sparing table only, and sparing rewrites it: a cut there could lose every sparing";
     refuse(&folder, 17, &[(&["spare", "g.img", "0"], sentence)]);

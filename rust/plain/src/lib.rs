@@ -4,6 +4,7 @@
 //! The tests hold the two against each other, and the benchmarks take it as their baseline. Each function is the one of the same name in
 //! `include/tuormik.h`, with slices for pointers and lengths. "Line n" is line n of 01, "Why a call is turned down"; a call is turned
 //! down by `Err(n)`.
+#![deny(missing_docs)]
 #![allow(clippy::too_many_arguments)]
 
 #[cfg(feature = "c-names")]

@@ -18,23 +18,38 @@ type WriteMaps = fn(u32, u16, u32, &[u32], &mut [u8]) -> u32;
 type LookUp = fn(&[u8], u32, &mut [u32]) -> u32;
 type Run = fn(&mut [u8], &mut [u8], &[u8], u32, u32, &mut [u32], &mut [u32], &[u32], &[u8], &mut [u32]) -> u32;
 
-#[derive(Clone, Copy)]
 /// An implementation of `include/tuormik.h` over slices.
+#[derive(Clone, Copy)]
 pub struct Layer {
+    /// What it is called in messages.
     pub name: &'static str,
+    /// `tuormik_open`.
     pub open: Open,
+    /// `tuormik_read`.
     pub read: Read,
+    /// `tuormik_save_virtual`.
     pub save_virtual: SaveVirtual,
+    /// `tuormik_free_virtual`.
     pub free_virtual: FreeVirtual,
+    /// `tuormik_commit`.
     pub commit: Commit,
+    /// `tuormik_save_block`.
     pub save_block: SaveBlock,
+    /// `tuormik_save_packet`.
     pub save_packet: SavePacket,
+    /// `tuormik_spare_packet`.
     pub spare_packet: SparePacket,
+    /// `tuormik_make`.
     pub make: Make,
+    /// `tuormik_fullness`.
     pub fullness: Fullness,
+    /// `tuormik_read_maps`.
     pub read_maps: ReadMaps,
+    /// `tuormik_write_maps`.
     pub write_maps: WriteMaps,
+    /// `tuormik_look_up`.
     pub look_up: LookUp,
+    /// `tuormik_run`.
     pub run: Run,
 }
 

@@ -529,12 +529,12 @@ mod tests {
     fn noted() -> Memory {
         let memory = Memory::new(&beside(), &Version::new(1, Some("one")).contents());
         let is_noted = |memory: &&Memory| memory.names.borrow().contains_key(&Note::path(&beside().image));
-        let stopped = (0..).map(|calls| {
+        let mut stopped = (0..100).map(|calls| {
             let stopped = memory.stopping_after(calls);
             let _ = Version::new(2, Some("two")).store(&stopped, &beside());
             Memory { left: Cell::new(usize::MAX), is_stopped: Cell::new(false), ..stopped }
         });
-        stopped.into_iter().find(|memory| is_noted(&memory)).expect("a note")
+        stopped.find(|memory| is_noted(&memory)).expect("a note")
     }
 
     #[test]

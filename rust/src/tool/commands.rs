@@ -8,7 +8,7 @@ use super::picture::Picture;
 use super::progress::Progress;
 use super::refused::{self, Asked};
 use super::report::commit_row;
-use super::states::{self, packet_place, spared_to};
+use super::states::View;
 use super::summary::mark_words;
 use super::words::{counted, grouped, number};
 use super::{Done, Failure};
@@ -58,20 +58,21 @@ pub fn images(args: &mut Args, own: &[&str]) -> Result<Vec<PathBuf>, Failure> {
 
 pub fn list(args: &mut Args, out: &mut dyn Write) -> Done {
     known(args, &["--all"])?;
-    let mut image = load_next(args)?;
+    let image = load_next(args)?;
     args.end()?;
-    let all = args.has("--all");
-    let open = commits::open(&mut image)?;
-    match open.record().held {
-        Held::WriteOnce { .. } => list_once(&open, out)?,
-        Held::Rewritable { .. } => list_packets(&open, all, out)?,
+    let open = commits::open(&image)?;
+    let view = View::from(&open);
+    if view.is_write_once() {
+        list_once(view, out)?;
+    } else {
+        list_packets(view, args.has("--all"), out)?;
     }
-    Passed::new(open.disc(), open.record()).warn(out)
+    Passed::new(view).warn(out)
 }
 
-fn list_once(open: &Open, out: &mut dyn Write) -> Done {
+fn list_once(open: View, out: &mut dyn Write) -> Done {
     writeln!(out, "virtual  logical    sector")?;
-    for block in states::blocks(open) {
+    for block in open.blocks() {
         let (logical, sector) = match block.place {
             Some((logical, sector)) => (grouped(logical), grouped(sector)),
             None => ("-".to_string(), "-".to_string()),
@@ -81,14 +82,13 @@ fn list_once(open: &Open, out: &mut dyn Write) -> Done {
     Ok(())
 }
 
-fn list_packets(open: &Open, all: bool, out: &mut dyn Write) -> Done {
-    let disc = open.disc();
+fn list_packets(open: View, all: bool, out: &mut dyn Write) -> Done {
     writeln!(out, "  blocks                 sectors")?;
     let mut plain = 0;
-    for b in (0..disc.length).step_by(PACKET) {
-        let is_spared = spared_to(open, b).is_some();
-        let at = packet_place(open, b);
-        let marks = &disc.marks[at..at + PACKET];
+    for b in (0..open.count()).step_by(PACKET) {
+        let is_spared = open.spared_to(b).is_some();
+        let at = open.packet_place(b);
+        let marks = &open.disc.marks[at..at + PACKET];
         if !is_spared && !all && marks.iter().all(|&m| m == RECORDED) {
             plain += 1;
             continue;
@@ -100,19 +100,19 @@ fn list_packets(open: &Open, all: bool, out: &mut dyn Write) -> Done {
     if plain > 0 {
         writeln!(out, "{} in place, recorded", counted(plain, "packet"))?;
     }
-    for entry in open.table().chunks_exact(2).filter(|e| e[0] == NONE) {
-        writeln!(out, "    free spare         {:>8} to {}", grouped(entry[1]), grouped(entry[1] as usize + PACKET - 1))?;
+    for (_, mapped) in open.spares().filter(|&(original, _)| original == NONE) {
+        writeln!(out, "    free spare         {:>8} to {}", grouped(mapped), grouped(mapped as usize + PACKET - 1))?;
     }
     Ok(())
 }
 
 pub fn read(args: &mut Args, out: &mut dyn Write) -> Done {
     known(args, &["--output", "--hex", "--at"])?;
-    let mut image = load_next(args)?;
+    let image = load_next(args)?;
     let first = args.next_number("NUMBER")?;
     let count = optional_count(args)?;
     args.end()?;
-    let open = commits::open_at(&mut image, args.number("--at")?)?;
+    let open = commits::open_at(&image, args.number("--at")?)?;
     let mut bytes = Vec::new();
     let mut progress = Progress::new("blocks read");
     for i in 0..count {
@@ -222,14 +222,14 @@ fn finish(image: &mut Image, answer: Result<String, Failure>, cut: Cut, out: &mu
 
 /// Opens a disc that is to be committed, which needs --force where that may lose a newer VAT.
 fn open_to_commit(image: &mut Image, is_forced: bool) -> Result<Open<'_>, Failure> {
-    let open = commits::open(image)?;
+    let open = commits::open_to_write(image)?;
     need_force(&open, is_forced)?;
     Ok(open)
 }
 
 /// Commits, and says what the disc has come to.
 fn commit_and_tell(open: &mut Open, cut: Cut) -> Result<String, Failure> {
-    open.commit(cut).map_err(|error| refused::by_call(open, Asked::Commit, error))?;
+    open.commit_cut(cut).map_err(|error| refused::by_call(&*open, Asked::Commit, error))?;
     Ok(match open.record().held {
         Held::WriteOnce { entries, next, last } => {
             format!("committed: N {}, NWA {}, last ICB {}", grouped(entries), grouped(next), grouped(last))
@@ -255,7 +255,7 @@ pub fn save(args: &mut Args, out: &mut dyn Write) -> Done {
 }
 
 fn save_all(mut open: Open, word: &str, bytes: &[u8], packet: bool, commits: bool, cut: Cut) -> Result<String, Failure> {
-    let is_once = states::is_write_once(&open);
+    let is_once = View::from(&open).is_write_once();
     let first = match word {
         "new" if is_once => open.record().entries(),
         _ => number(word).ok_or_else(|| Failure::Usage(format!("NUMBER: {word} is no block number")))?,
@@ -271,9 +271,9 @@ fn save_all(mut open: Open, word: &str, bytes: &[u8], packet: bool, commits: boo
         let number = first.saturating_add(step);
         let cut = cut_of(is_last);
         let (answer, asked) = match (is_once, packet) {
-            (true, false) => (open.save_virtual(number, part, cut), Asked::SaveVirtual(number)),
-            (false, false) => (open.save_block(number, part, cut), Asked::SaveBlock(number)),
-            (_, true) => (open.save_packet(number, part, cut), Asked::SavePacket(number)),
+            (true, false) => (open.save_virtual_cut(number, part, cut), Asked::SaveVirtual(number)),
+            (false, false) => (open.save_block_cut(number, part, cut), Asked::SaveBlock(number)),
+            (_, true) => (open.save_packet_cut(number, part, cut), Asked::SavePacket(number)),
         };
         answer.map_err(|error| refused::by_call(&open, asked, error))?;
         progress.tell(i, count);
@@ -327,7 +327,7 @@ pub fn spare(args: &mut Args, out: &mut dyn Write) -> Done {
     let cut = args.cut()?;
     let zeros = args.has("--zeros");
     let given = path.map(|path| input(Path::new(&path), PACKET_BYTES)).transpose()?;
-    let answer = commits::open(&mut image).and_then(|open| spare_it(open, b, given, zeros, cut));
+    let answer = commits::open_to_write(&mut image).and_then(|open| spare_it(open, b, given, zeros, cut));
     finish(&mut image, answer, cut, out)
 }
 
@@ -336,9 +336,9 @@ fn spare_it(mut open: Open, b: u32, given: Option<Vec<u8>>, zeros: bool, cut: Cu
         Some(bytes) => bytes,
         None => read_packet(&open, b, zeros)?,
     };
-    let answer = open.spare_packet(b, &packet, cut);
+    let answer = open.spare_packet_cut(b, &packet, cut);
     answer.map_err(|error| refused::by_call(&open, Asked::SparePacket(b, packet.len()), error))?;
-    Ok(format!("spared the packet of block {}: it is now at sector {}", grouped(b), grouped(packet_place(&open, b))))
+    Ok(format!("spared the packet of block {}: it is now at sector {}", grouped(b), grouped(View::from(&open).packet_place(b))))
 }
 
 /// The packet that begins at block b, as far as it can be read.
@@ -381,7 +381,7 @@ pub fn make(args: &mut Args, out: &mut dyn Write) -> Done {
     let (volume, partition) = args.new_volume(start, length)?;
     let mut image = Image::create(&path, args.path("--marks"), sectors as usize, volume, args.has("--force"))?;
     let mut disc = image.disc();
-    disc.make(&spares).map_err(|error| refused::by_making(&disc, &spares, error))?;
+    disc.make(&spares).map_err(|error| refused::by_making(disc.to_read(), &spares, error))?;
     let is_described = !args.has("--no-descriptors") && describe(&mut image, partition);
     image.store()?;
     writeln!(out, "made {}: {}, S {}, L {}", path.display(), counted(sectors as usize, "sector"), grouped(start), grouped(length))?;
@@ -425,24 +425,24 @@ fn is_spare_there(image: &mut Image) -> bool {
 
 pub fn history(args: &mut Args, out: &mut dyn Write) -> Done {
     known(args, &[])?;
-    let mut image = load_next(args)?;
+    let image = load_next(args)?;
     args.end()?;
-    let found = chain(&mut image)?;
+    let found = chain(&image)?;
     writeln!(out, "VAT ICB    sector       N  sectors between it and the next")?;
     for commit in &found {
         if let [icb, sector, entries, between] = &commit_row(commit, image.volume.start)[..] {
             writeln!(out, "{icb:>7}  {sector:>8}  {entries:>6}  {between:>6}")?;
         }
     }
-    found.first().map_or(Ok(()), |newest| Passed::new(&image.disc(), newest.record).warn(out))
+    Passed::new((&commits::open(&image)?).into()).warn(out)
 }
 
 pub fn map(args: &mut Args, out: &mut dyn Write) -> Done {
     known(args, &[])?;
-    let mut image = load_next(args)?;
+    let image = load_next(args)?;
     let path = args.next_path("PICTURE")?;
     args.end()?;
-    let picture = Picture::new(&mut image)?;
+    let picture = Picture::new(&image)?;
     let ending = path.extension().map(|e| e.to_ascii_lowercase());
     let bytes = match ending.as_ref().and_then(|e| e.to_str()) {
         Some("svg") => picture.svg().into_bytes(),

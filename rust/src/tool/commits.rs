@@ -1,35 +1,34 @@
 //! A disc opened, as it is now or as a commit of the past left it, and the chain of its commits.
 
 use super::progress::{Progress, Waiting};
+use super::refused::{self, Asked};
+use super::states::{Block, View};
 use super::words::{counted, grouped, joined};
-use super::{refused, states, Failure};
+use super::Failure;
 use tuormik::image::Image;
-use tuormik::{read_maps, Disc, Error, Held, Maps, Open, Record, Refusal};
+use tuormik::{read_maps, DiscRef, Error, Held, Maps, Open, OpenRef, Record, Refusal, SECTOR};
 
-fn disc_of(image: &mut Image, length: u32) -> Disc<'_> {
-    Disc { length, ..image.disc() }
+/// Opens a disc; a line tells of an opening that takes longer than a second.
+fn open_patiently(disc: DiscRef<'_>) -> Result<OpenRef<'_>, Error> {
+    let _waiting = Waiting::new("opening the disc".to_string());
+    disc.open()
 }
 
-/// Opens the disc of an image with its partition cut to a length; a line tells of an opening that takes longer than a second.
-fn open_cut(image: &mut Image, length: u32) -> Result<Open<'_>, (Error, Disc<'_>)> {
-    let waiting = Waiting::new("opening the disc".to_string());
-    let opened = disc_of(image, length).open().map(|open| (open.table().to_vec(), open.record()));
-    drop(waiting);
-    let disc = disc_of(image, length);
-    match opened {
-        Ok((table, record)) => Ok(Open::resume(disc, &table, record)),
-        Err(error) => Err((error, disc)),
-    }
+/// Opens the disc of an image to read it; a refusal says what was found instead.
+pub fn open(image: &Image) -> Result<OpenRef<'_>, Failure> {
+    let disc = image.to_read();
+    open_patiently(disc).map_err(|error| refused::by_opening(disc, error))
 }
 
-/// Opens the disc of an image; a refusal says what was found instead.
-pub fn open(image: &mut Image) -> Result<Open<'_>, Failure> {
-    let length = image.volume.length;
-    open_cut(image, length).map_err(|(error, disc)| refused::by_opening(&disc, error))
+/// Opens it to write it.
+pub fn open_to_write(image: &mut Image) -> Result<Open<'_>, Failure> {
+    let open = open(image)?;
+    let (table, record) = (open.table().to_vec(), open.record());
+    Ok(Open::resume(image.disc(), &table, record))
 }
 
 /// Opens a disc as the commit left it whose VAT ICB is at a logical block, or as it is where none is named.
-pub fn open_at(image: &mut Image, icb: Option<u32>) -> Result<Open<'_>, Failure> {
+pub fn open_at(image: &Image, icb: Option<u32>) -> Result<OpenRef<'_>, Failure> {
     let Some(icb) = icb else {
         return open(image);
     };
@@ -38,7 +37,8 @@ pub fn open_at(image: &mut Image, icb: Option<u32>) -> Result<Open<'_>, Failure>
         return Err(no_commit(&found, icb));
     }
     // all above the ICB is out of the partition, so the ICB is its last sector
-    open_cut(image, icb + 1).map_err(|(error, disc)| refused::by_opening(&disc, error))
+    let disc = DiscRef { length: icb + 1, ..image.to_read() };
+    open_patiently(disc).map_err(|error| refused::by_opening(disc, error))
 }
 
 fn no_commit(found: &[Commit], icb: u32) -> Failure {
@@ -64,7 +64,7 @@ pub struct Commit {
 }
 
 /// The commits of a write-once disc, the newest first: each is found by opening again with L cut to the ICB of the one before.
-pub fn chain(image: &mut Image) -> Result<Vec<Commit>, Failure> {
+pub fn chain(image: &Image) -> Result<Vec<Commit>, Failure> {
     if let Ok(Maps::Rewritable { .. }) = read_maps(&image.volume.maps) {
         return Err(refused::other_kind("a history of commits", false));
     }
@@ -72,10 +72,11 @@ pub fn chain(image: &mut Image) -> Result<Vec<Commit>, Failure> {
     let mut length = image.volume.length;
     let mut progress = Progress::new("commits found");
     loop {
-        let record = match open_cut(image, length) {
+        let disc = DiscRef { length, ..image.to_read() };
+        let record = match open_patiently(disc) {
             Ok(open) => open.record(),
-            Err((Error::Refused(Refusal::NoTable), _)) if !found.is_empty() => return Ok(found),
-            Err((error, disc)) => return Err(refused::by_opening(&disc, error)),
+            Err(Error::Refused(Refusal::NoTable)) if !found.is_empty() => return Ok(found),
+            Err(error) => return Err(refused::by_opening(disc, error)),
         };
         let Held::WriteOnce { last: icb, .. } = record.held else {
             return Ok(found);
@@ -90,17 +91,17 @@ pub fn chain(image: &mut Image) -> Result<Vec<Commit>, Failure> {
 }
 
 /// The bytes of a block; a refusal says why it has none.
-pub fn read(open: &Open, number: u32) -> Result<[u8; tuormik::SECTOR], Failure> {
-    open.read(number).map_err(|error| refused::by_call(open, refused::Asked::Read(number), error))
+pub fn read(open: &OpenRef, number: u32) -> Result<[u8; SECTOR], Failure> {
+    open.read(number).map_err(|error| refused::by_call(open, Asked::Read(number), error))
 }
 
-/// Reads each block that the table and the marks call readable, and gives those of which the layer says otherwise.
-pub fn read_all(open: &Open) -> Result<(), Failure> {
-    let count = states::count(open) as usize;
+/// Reads every block that the table and the marks call readable.
+pub fn read_all(open: &OpenRef) -> Result<(), Failure> {
+    let view = View::from(open);
     let mut progress = Progress::new("blocks read");
-    for block in states::blocks(open).filter(states::Block::is_readable) {
+    for block in view.blocks().filter(Block::is_readable) {
         read(open, block.number)?;
-        progress.tell(block.number as usize, count);
+        progress.tell(block.number as usize, view.count() as usize);
     }
     Ok(())
 }

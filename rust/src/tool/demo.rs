@@ -32,7 +32,7 @@ impl Memory {
     fn make(&mut self, spares: &[u32]) -> Done {
         let mut disc = self.disc();
         let answer = disc.make(spares);
-        answer.map_err(|error| refused::by_making(&disc, spares, error))
+        answer.map_err(|error| refused::by_making(disc.to_read(), spares, error))
     }
 
     /// What a disc here is turned down by has no words of its own: each is made to be opened.
@@ -144,11 +144,11 @@ fn commit_demo(out: &mut dyn Write) -> Result<Came, Failure> {
     let mut open = memory.open()?;
     for version in [1, 2] {
         for v in 0..COUNT {
-            let answer = open.save_virtual(v, &block(v, version), Cut::NONE);
+            let answer = open.save_virtual(v, &block(v, version));
             answer.map_err(|error| refused::by_call(&open, Asked::SaveVirtual(v), error))?;
         }
         if version == 1 {
-            open.commit(Cut::NONE).map_err(|error| refused::by_call(&open, Asked::Commit, error))?;
+            open.commit().map_err(|error| refused::by_call(&open, Asked::Commit, error))?;
         }
     }
     let (table, record) = (open.table().to_vec(), open.record());
@@ -157,7 +157,7 @@ fn commit_demo(out: &mut dyn Write) -> Result<Came, Failure> {
         let mut tried = memory.clone();
         // the saves again would be found only after a commit, so the commit runs with the record and the table of the saves
         let mut open = Open::resume(tried.disc(), &table, record);
-        let answer = open.commit(cut);
+        let answer = open.commit_cut(cut);
         let answer = only_cut(&open, Asked::Commit, answer)?;
         let _ = open.close();
         let open = tried.open()?;
@@ -191,7 +191,7 @@ fn sparing_demo(out: &mut dyn Write) -> Result<Came, Failure> {
     memory.make(&[96, 128])?;
     let mut open = memory.open()?;
     for b in (0..LENGTH).step_by(PACKET) {
-        let answer = open.save_packet(b, &packet(b, 1), Cut::NONE);
+        let answer = open.save_packet(b, &packet(b, 1));
         answer.map_err(|error| refused::by_call(&open, Asked::SavePacket(b), error))?;
     }
     let _ = open.close();
@@ -199,7 +199,7 @@ fn sparing_demo(out: &mut dyn Write) -> Result<Came, Failure> {
     let all = every_cut(|cut| {
         let mut tried = memory.clone();
         let mut open = tried.open()?;
-        let answer = open.spare_packet(SPARED, &bytes, cut);
+        let answer = open.spare_packet_cut(SPARED, &bytes, cut);
         let answer = only_cut(&open, Asked::SparePacket(SPARED, bytes.len()), answer)?;
         let _ = open.close();
         let open = tried.open()?;

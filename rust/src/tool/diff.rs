@@ -3,12 +3,13 @@
 use super::args::Args;
 use super::commands::{known, load};
 use super::progress::Progress;
+use super::states::View;
 use super::words::{counted, from_to, number, parts};
-use super::{commits, states, Done, Failure};
+use super::{commits, Done, Failure};
 use std::ffi::OsString;
 use std::io::Write;
 use std::path::PathBuf;
-use tuormik::{Open, SECTOR};
+use tuormik::{OpenRef, SECTOR};
 
 /// What becomes of a block from one disc to the other.
 #[derive(Clone, Copy, PartialEq, Eq)]
@@ -55,9 +56,9 @@ pub fn diff(args: &mut Args, out: &mut dyn Write) -> Done {
     let mut word = |what: &str| args.next_word().ok_or_else(|| Failure::Usage(format!("{what} is missing")));
     let ((first, first_at), (second, second_at)) = (split(word("A")?), split(word("B")?));
     args.end()?;
-    let (mut a, mut b) = (load(args, &first)?, load(args, &second)?);
-    let (a, b) = (commits::open_at(&mut a, first_at)?, commits::open_at(&mut b, second_at)?);
-    if states::is_write_once(&a) != states::is_write_once(&b) {
+    let (a, b) = (load(args, &first)?, load(args, &second)?);
+    let (a, b) = (commits::open_at(&a, first_at)?, commits::open_at(&b, second_at)?);
+    if View::from(&a).is_write_once() != View::from(&b).is_write_once() {
         return Err(Failure::Usage("one disc is write-once and the other rewritable: their blocks are not the same ones".into()));
     }
     let changes = changes(&a, &b)?;
@@ -65,16 +66,16 @@ pub fn diff(args: &mut Args, out: &mut dyn Write) -> Done {
     Failure::told(u8::from(changes.iter().any(|&change| change != Change::Alike)))
 }
 
-fn content(open: &Open, number: u32) -> Result<Content, Failure> {
-    match states::block(open, number) {
+fn content(open: &OpenRef, number: u32) -> Result<Content, Failure> {
+    match View::from(open).block(number) {
         Some(block) if block.is_readable() => Ok(Content::Bytes(Box::new(commits::read(open, number)?))),
         Some(block) if block.is_lost() => Ok(Content::Lost),
         _ => Ok(Content::None),
     }
 }
 
-fn changes(a: &Open, b: &Open) -> Result<Vec<Change>, Failure> {
-    let count = states::count(a).max(states::count(b));
+fn changes(a: &OpenRef, b: &OpenRef) -> Result<Vec<Change>, Failure> {
+    let count = View::from(a).count().max(View::from(b).count());
     let mut progress = Progress::new("blocks compared");
     let change = |number| -> Result<Change, Failure> {
         progress.tell(number as usize, count as usize);

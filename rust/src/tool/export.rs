@@ -3,7 +3,7 @@
 use super::args::Args;
 use super::commands::{known, load};
 use super::progress::Progress;
-use super::states::{self, Block};
+use super::states::{Block, View};
 use super::words::{counted, grouped, parts};
 use super::{commits, Done, Failure};
 use std::fs;
@@ -19,15 +19,16 @@ pub fn export(args: &mut Args, out: &mut dyn Write) -> Done {
     let folder = args.next_path("FOLDER")?;
     args.end()?;
     let at = args.number("--at")?;
-    let mut image = load(args, &path)?;
-    let open = commits::open_at(&mut image, at)?;
+    let image = load(args, &path)?;
+    let open = commits::open_at(&image, at)?;
+    let view = View::from(&open);
     make_folder(&folder)?;
-    let count = states::count(&open) as usize;
+    let count = view.count() as usize;
     let digits = count.saturating_sub(1).to_string().len().max(4);
     let mut list = "block,logical,sector,state,file\n".to_string();
     let mut progress = Progress::new("blocks exported");
     let mut read = 0;
-    for block in states::blocks(&open) {
+    for block in view.blocks() {
         let name = if block.is_readable() { format!("block-{:0digits$}.bin", block.number) } else { String::new() };
         if block.is_readable() {
             let to = folder.join(&name);
@@ -40,7 +41,7 @@ pub fn export(args: &mut Args, out: &mut dyn Write) -> Done {
     drop(progress);
     // the list comes last: where it stands, the export came to its end
     write_file(&folder.join(LIST), list.as_bytes())?;
-    let lost = states::blocks(&open).filter(Block::is_lost).count();
+    let lost = view.blocks().filter(Block::is_lost).count();
     let skipped = parts(&[(count - read - lost, "unused"), (lost, "that cannot be read")]);
     let also = if skipped.is_empty() { String::new() } else { format!("; skipped: {skipped}") };
     writeln!(out, "exported {} of {} to {}{also}; {LIST} lists all", grouped(read), counted(count, "block"), folder.display())?;

@@ -2,14 +2,14 @@
 
 use super::words::{counted, from_to, grouped, joined};
 use tuormik::image::mark_name;
-use tuormik::{Disc, Maps, BLANK, MOST_ENTRIES, NONE, PACKET, RECORDED, SECTOR, UNREADABLE};
+use tuormik::{DiscRef, Held, Maps, BLANK, MOST_ENTRIES, PACKET, RECORDED, SECTOR, UNREADABLE};
 
 /// A number of so many bytes, the lowest first.
 fn number_at(bytes: &[u8], at: usize, count: usize) -> u64 {
     bytes.get(at..at + count).map_or(0, |part| part.iter().rev().fold(0, |n, &b| n << 8 | u64::from(b)))
 }
 
-fn sector<'a>(disc: &'a Disc, at: usize) -> &'a [u8] {
+fn sector(disc: DiscRef<'_>, at: usize) -> &[u8] {
     disc.bytes.get(SECTOR * at..SECTOR * (at + 1)).unwrap_or_default()
 }
 
@@ -117,7 +117,7 @@ fn not_a_multiple(what: &str, n: u32) -> String {
 }
 
 /// Line 6: the first place that is wrong.
-pub fn misaligned(disc: &Disc, tables: &[u32], table_bytes: u32, spares: &[u32]) -> String {
+pub fn misaligned(disc: DiscRef, tables: &[u32], table_bytes: u32, spares: &[u32]) -> String {
     if !disc.start.is_multiple_of(PACKET as u32) {
         return not_a_multiple("the partition's first sector", disc.start);
     }
@@ -129,7 +129,7 @@ pub fn misaligned(disc: &Disc, tables: &[u32], table_bytes: u32, spares: &[u32])
 }
 
 /// Why the packet of a table or of a spare cannot be there.
-fn outside(disc: &Disc, what: &str, at: u32) -> Option<String> {
+fn outside(disc: DiscRef, what: &str, at: u32) -> Option<String> {
     let (first, end) = (at as usize, at as usize + PACKET);
     let packet = format!("the packet of the {what} at sector {}, {},", grouped(at), from_to(first, end - 1, "sector"));
     let (start, length) = (disc.start as usize, disc.length as usize);
@@ -142,7 +142,7 @@ fn outside(disc: &Disc, what: &str, at: u32) -> Option<String> {
     }
 }
 
-fn misplaced_spare(disc: &Disc, tables: &[u32], table_bytes: u32, spares: &[u32]) -> String {
+fn misplaced_spare(disc: DiscRef, tables: &[u32], table_bytes: u32, spares: &[u32]) -> String {
     let most = (table_bytes as usize).saturating_sub(56) / 8;
     if spares.len() > most {
         return format!(
@@ -175,7 +175,7 @@ const ENTRIES_AT: usize = 48;
 const SEQUENCE_AT: usize = 52;
 
 /// Line 8 of a rewritable disc: what stands where the tables should be.
-pub fn no_copy(disc: &Disc, tables: &[u32], table_bytes: u32) -> String {
+pub fn no_copy(disc: DiscRef, tables: &[u32], table_bytes: u32) -> String {
     let found: Vec<(String, u32)> = tables.iter().map(|&t| (copy_words(disc, t, table_bytes), t)).collect();
     let words: Vec<String> = found
         .chunk_by(|a, b| a.0 == b.0)
@@ -188,7 +188,7 @@ pub fn no_copy(disc: &Disc, tables: &[u32], table_bytes: u32) -> String {
 }
 
 /// What is to be said of the sector of a table that does not count.
-fn copy_words(disc: &Disc, at: u32, table_bytes: u32) -> String {
+fn copy_words(disc: DiscRef, at: u32, table_bytes: u32) -> String {
     let mark = disc.marks.get(at as usize).copied().unwrap_or(BLANK);
     if mark != RECORDED {
         return format!("is {}", mark_name(mark));
@@ -208,7 +208,7 @@ fn copy_words(disc: &Disc, at: u32, table_bytes: u32) -> String {
 }
 
 /// Line 10: the copies of one sequence, which differ.
-pub fn copies_differ(disc: &Disc, tables: &[u32]) -> String {
+pub fn copies_differ(disc: DiscRef, tables: &[u32]) -> String {
     let sequence = |t: u32| number_at(sector(disc, t as usize), SEQUENCE_AT, 4);
     let recorded: Vec<u32> = tables.iter().copied().filter(|&t| disc.marks.get(t as usize) == Some(&RECORDED)).collect();
     let highest = recorded.iter().map(|&t| sequence(t)).max().unwrap_or_default();
@@ -233,33 +233,25 @@ fn icb_words(bytes: &[u8]) -> Option<&'static str> {
     }
 }
 
-/// The blocks of the partition that are not blank, the highest first.
-fn written_blocks(disc: &Disc) -> impl Iterator<Item = (usize, u8)> {
+/// The sectors of the partition that are not blank, the highest first, with their marks.
+fn written(disc: DiscRef<'_>) -> impl Iterator<Item = (usize, u8)> + '_ {
     let (start, length) = (disc.start as usize, disc.length as usize);
-    let marks = disc.marks.get(start..).unwrap_or_default();
-    let marks = &marks[..length.min(marks.len())];
-    marks
-        .iter()
-        .enumerate()
-        .rev()
-        .filter(|(_, &mark)| mark != BLANK)
-        .map(move |(b, &mark)| (start + b, mark))
-        .collect::<Vec<_>>()
-        .into_iter()
+    let marks = disc.marks.iter().copied().enumerate().take(start + length).skip(start);
+    marks.rev().filter(|(_, mark)| *mark != BLANK)
 }
 
 /// Line 8 of a write-once disc: what the partition has instead of a VAT ICB.
-pub fn no_vat(disc: &Disc) -> String {
+pub fn no_vat(disc: DiscRef) -> String {
     let (start, length) = (disc.start as usize, disc.length as usize);
     let partition = from_to(start, start + length.saturating_sub(1), "sector");
-    let Some((last, _)) = written_blocks(disc).next() else {
+    let Some((last, _)) = written(disc).next() else {
         return format!("the partition, {partition}, is blank: it has no VAT yet");
     };
-    let found = written_blocks(disc).filter(|(_, mark)| *mark == RECORDED).find_map(|(at, _)| Some((at, icb_words(sector(disc, at))?)));
+    let found = written(disc).filter(|(_, mark)| *mark == RECORDED).find_map(|(at, _)| Some((at, icb_words(sector(disc, at))?)));
     match found {
         Some((at, words)) => format!("no VAT of CD UDF was found: sector {} has {words}", grouped(at)),
         None => {
-            let unreadable = written_blocks(disc).filter(|(_, mark)| *mark == UNREADABLE).count();
+            let unreadable = written(disc).filter(|(_, mark)| *mark == UNREADABLE).count();
             format!(
                 "no VAT was found in the partition, {partition}: of {} up to the last that is not blank, {}, {} and none is a VAT ICB",
                 counted(last + 1 - start, "sector"),
@@ -279,8 +271,8 @@ fn are_unreadable(count: usize) -> String {
 }
 
 /// Line 9: the newest VAT, which has too many entries.
-pub fn too_many_entries(disc: &Disc) -> String {
-    let icb = written_blocks(disc).filter(|(_, mark)| *mark == RECORDED).find(|(at, _)| {
+pub fn too_many_entries(disc: DiscRef) -> String {
+    let icb = written(disc).filter(|(_, mark)| *mark == RECORDED).find(|(at, _)| {
         let bytes = sector(disc, *at);
         (number_at(bytes, 0, 2), bytes.get(FILE_TYPE_AT)) == (FILE_ENTRY, Some(&0))
     });
@@ -295,7 +287,7 @@ pub fn too_many_entries(disc: &Disc) -> String {
 }
 
 /// What an opening passed over, from one sector up to another, in words.
-pub fn passed_over(disc: &Disc, from: usize, to: usize) -> String {
+pub fn passed_over(disc: DiscRef, from: usize, to: usize) -> String {
     let marks = disc.marks.get(from..to).unwrap_or_default();
     let mut named = Vec::new();
     let mut counts = [0; 3];
@@ -314,17 +306,15 @@ pub fn passed_over(disc: &Disc, from: usize, to: usize) -> String {
 
 /// The copies of the sparing table that do not count, or are not of the current sequence: each is asked for by an opening to which the
 /// others are unreadable.
-pub fn stale_copies(disc: &Disc, tables: &[u32], sequence: u32) -> Vec<u32> {
+pub fn stale_copies(disc: DiscRef, tables: &[u32], sequence: u32) -> Vec<u32> {
     let own = disc.marks.to_vec();
     let is_current = |&t: &u32| -> bool {
         let mut marks = own.clone();
         for other in tables.iter().filter(|&&other| other != t) {
             marks[*other as usize] = UNREADABLE;
         }
-        let mut table = vec![NONE; MOST_ENTRIES];
-        let mut record = [0; 5];
-        let number = tuormik::calls::open(disc.bytes, &marks, disc.maps, disc.start, disc.length, &mut table, &mut record);
-        number == 0 && record[2] == sequence
+        let alone = DiscRef { marks: &marks, ..disc };
+        alone.open().is_ok_and(|open| matches!(open.record().held, Held::Rewritable { sequence: found, .. } if found == sequence))
     };
     tables.iter().copied().filter(|t| !is_current(t)).collect()
 }

@@ -20,7 +20,7 @@ pub fn info(args: &mut Args, out: &mut dyn Write) -> Done {
 }
 
 fn summarize(args: &Args, path: &Path) -> Result<Summary, Failure> {
-    Summary::new(&mut load(args, path)?)
+    Summary::new(&load(args, path)?)
 }
 
 fn as_text(args: &Args, path: &Path, out: &mut dyn Write) -> Done {

@@ -1,9 +1,10 @@
 //! What an opening passed over above the last VAT ICB, and what to do about it.
 
+use super::states::View;
 use super::words::grouped;
 use super::{found, Done, Failure};
 use std::io::Write;
-use tuormik::{possible_icbs, Disc, Held, Open, Record};
+use tuormik::{possible_icbs, Held, Open};
 
 /// What an opening passed over.
 pub struct Passed {
@@ -16,8 +17,8 @@ pub struct Passed {
 }
 
 impl Passed {
-    /// What the opening passed over that gave a record.
-    pub fn new(disc: &Disc, record: Record) -> Passed {
+    /// What the opening passed over that gave the record.
+    pub fn new(View { disc, record, .. }: View) -> Passed {
         let start = disc.start as usize;
         let words = match record.held {
             Held::WriteOnce { next, last, .. } => found::passed_over(disc, start + last as usize + 1, start + next as usize),
@@ -56,7 +57,7 @@ impl Passed {
 
 /// A commit after which a VAT that may be newer is no longer found needs --force.
 pub fn need_force(open: &Open, is_forced: bool) -> Done {
-    let passed = Passed::new(open.disc(), open.record());
+    let passed = Passed::new(open.into());
     match passed.possible {
         Some(block) if !is_forced => Err(Failure::Usage(format!(
             "block {} was passed over and holds a File Entry of file type 0: it may be a newer VAT that breaks a rule of 01.\n\

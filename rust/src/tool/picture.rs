@@ -1,11 +1,12 @@
 //! A picture of a disc: a small field a sector, row by row.
 
+use super::states::{Block, View};
 use super::words::{counted, from_to, grouped};
-use super::{commits, states, Failure};
+use super::{commits, Failure};
 use std::fmt::Write;
 use tuormik::descriptors::Volume;
 use tuormik::image::Image;
-use tuormik::{read_maps, Held, Maps, Open, NONE, PACKET, RECORDED, UNREADABLE};
+use tuormik::{read_maps, Held, Maps, NONE, PACKET, RECORDED, UNREADABLE};
 
 /// What a sector is drawn as.
 #[derive(Clone, Copy, PartialEq, Eq)]
@@ -69,10 +70,10 @@ fn paint(kinds: &mut [Kind], from: usize, count: usize, with: Kind) {
 }
 
 impl Picture {
-    pub fn new(image: &mut Image) -> Result<Picture, Failure> {
+    pub fn new(image: &Image) -> Result<Picture, Failure> {
         let mut picture = Picture { kinds: by_marks(&image.marks), volume: image.volume.clone(), from_marks: None };
         match commits::open(image) {
-            Ok(open) => picture.paint_open(&open),
+            Ok(open) => picture.paint_open((&open).into()),
             Err(failure @ Failure::Refused(..)) => {
                 picture.from_marks = Some(failure.words());
                 return Ok(picture);
@@ -87,18 +88,18 @@ impl Picture {
         Ok(picture)
     }
 
-    fn paint_open(&mut self, open: &Open) {
-        for block in states::blocks(open).filter(states::Block::is_readable) {
+    fn paint_open(&mut self, open: View) {
+        for block in open.blocks().filter(Block::is_readable) {
             paint(&mut self.kinds, block.place.map_or(0, |(_, sector)| sector), 1, Kind::Live);
         }
-        let Held::Rewritable { .. } = open.record().held else {
+        let Held::Rewritable { .. } = open.record.held else {
             return;
         };
-        for entry in open.table().chunks_exact(2) {
-            let kind = if entry[0] == NONE { Kind::FreeSpare } else { Kind::UsedSpare };
-            paint(&mut self.kinds, entry[1] as usize, PACKET, kind);
+        for (original, mapped) in open.spares() {
+            let kind = if original == NONE { Kind::FreeSpare } else { Kind::UsedSpare };
+            paint(&mut self.kinds, mapped as usize, PACKET, kind);
         }
-        if let Ok(Maps::Rewritable { tables, .. }) = read_maps(open.disc().maps) {
+        if let Ok(Maps::Rewritable { tables, .. }) = read_maps(open.disc.maps) {
             for table in tables {
                 paint(&mut self.kinds, table as usize, 1, Kind::Table);
             }

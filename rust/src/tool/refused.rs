@@ -1,12 +1,11 @@
 //! Refusals in words: for each line of document 01 that a command can meet, a sentence with the case's own numbers.
 
 use super::room::commit_sectors;
-use super::words::{counted, from_to, grouped, parts};
-use super::{found, states, Failure};
+use super::states::View;
+use super::words::{counted, from_to, grouped};
+use super::{found, Failure};
 use tuormik::image::mark_name;
-use tuormik::{
-    read_maps, Disc, Error, Held, Maps, Open, Refusal, BLANK, MOST_ENTRIES, MOST_SECTORS, NONE, PACKET, PACKET_BYTES, RECORDED, SECTOR,
-};
+use tuormik::{read_maps, DiscRef, Error, Held, Maps, Refusal, BLANK, MOST_ENTRIES, MOST_SECTORS, PACKET, PACKET_BYTES, RECORDED, SECTOR};
 
 /// What a command asks of an open disc.
 #[derive(Clone, Copy)]
@@ -54,17 +53,17 @@ fn failure(error: Error, what: impl FnOnce() -> String, sentence: impl FnOnce(Re
 }
 
 /// An answer of a call on an open disc.
-pub fn by_call(open: &Open, asked: Asked, error: Error) -> Failure {
-    failure(error, || asked.words(), |why| of_call(open, asked, why))
+pub fn by_call<'a>(open: impl Into<View<'a>>, asked: Asked, error: Error) -> Failure {
+    failure(error, || asked.words(), |why| of_call(open.into(), asked, why))
 }
 
 /// An answer of opening a disc.
-pub fn by_opening(disc: &Disc, error: Error) -> Failure {
+pub fn by_opening(disc: DiscRef, error: Error) -> Failure {
     failure(error, || "the opening".to_string(), |why| of_disc(disc, &[], why))
 }
 
 /// An answer of making a disc with these spares.
-pub fn by_making(disc: &Disc, spares: &[u32], error: Error) -> Failure {
+pub fn by_making(disc: DiscRef, spares: &[u32], error: Error) -> Failure {
     failure(error, || "the making".to_string(), |why| of_disc(disc, spares, why))
 }
 
@@ -120,7 +119,7 @@ fn read_tables(maps: &[u8]) -> Option<(Vec<u32>, u32)> {
 }
 
 /// What is wrong with a disc that is opened or made.
-fn of_disc(disc: &Disc, spares: &[u32], why: Refusal) -> String {
+fn of_disc(disc: DiscRef, spares: &[u32], why: Refusal) -> String {
     let rewritable = read_tables(disc.maps).filter(|_| disc.maps.len() == 64);
     let (tables, table_bytes) = rewritable.clone().unwrap_or_default();
     match why {
@@ -148,7 +147,7 @@ fn are(n: usize) -> String {
     }
 }
 
-fn shape_of(disc: &Disc) -> String {
+fn shape_of(disc: DiscRef) -> String {
     let (bytes, sectors) = (disc.bytes.len(), disc.marks.len());
     if !bytes.is_multiple_of(SECTOR) {
         format!("the image has {}, which is not a multiple of 2,048", counted(bytes, "byte"))
@@ -157,7 +156,7 @@ fn shape_of(disc: &Disc) -> String {
     }
 }
 
-fn span_of(disc: &Disc) -> String {
+fn span_of(disc: DiscRef) -> String {
     if disc.length == 0 {
         return "the partition has no sectors: L is 0".to_string();
     }
@@ -182,11 +181,11 @@ fn blocks_there(count: u32) -> String {
 }
 
 /// What is wrong with a call on a disc that is open.
-fn of_call(open: &Open, asked: Asked, why: Refusal) -> String {
+fn of_call(open: View, asked: Asked, why: Refusal) -> String {
     let number = asked.number();
     match why {
         Refusal::LentLength => lent_words(asked),
-        Refusal::OtherKind => for_the_other_kind(&asked.words(), states::is_write_once(open)),
+        Refusal::OtherKind => for_the_other_kind(&asked.words(), open.is_write_once()),
         Refusal::NumberOutside => outside_words(open, asked),
         Refusal::UnusedEntry => format!("block {} is unused: the disc's table has no sector for it", grouped(number)),
         Refusal::NotRecorded => not_recorded_words(open, asked),
@@ -201,13 +200,13 @@ fn of_call(open: &Open, asked: Asked, why: Refusal) -> String {
             "the disc has one sparing table only, and sparing rewrites it: a cut there could lose every sparing".to_string()
         }
         Refusal::AlreadySpared => {
-            let to = states::spared_to(open, number).map(grouped).unwrap_or_default();
+            let to = open.spared_to(number).map(grouped).unwrap_or_default();
             format!("the packet of block {} is already spared: it is at sector {to}", grouped(number))
         }
         Refusal::NoSpare => no_spare_words(open),
         Refusal::LastSequence => format!("the sequence of the sparing table has come to its end, {}", grouped(u32::MAX)),
         Refusal::StaleRecord => format!("the disc is not as it was when it was opened, so {} was not done", asked.words()),
-        other => of_disc(open.disc(), &[], other),
+        other => of_disc(open.disc, &[], other),
     }
 }
 
@@ -218,8 +217,8 @@ fn lent_words(asked: Asked) -> String {
     }
 }
 
-fn outside_words(open: &Open, asked: Asked) -> String {
-    let (number, count) = (asked.number(), states::count(open));
+fn outside_words(open: View, asked: Asked) -> String {
+    let (number, count) = (asked.number(), open.count());
     let packets = matches!(asked, Asked::SavePacket(_) | Asked::SparePacket(..));
     match asked {
         Asked::SaveVirtual(v) if v as usize >= MOST_ENTRIES => {
@@ -240,9 +239,9 @@ fn packet_words(first: u32) -> String {
     from_to(first as usize, first as usize + PACKET - 1, "block")
 }
 
-fn not_recorded_words(open: &Open, asked: Asked) -> String {
+fn not_recorded_words(open: View, asked: Asked) -> String {
     let number = asked.number();
-    let place = |n: u32| states::block(open, n).and_then(|block| Some((block.place?.1, block.mark)));
+    let place = |n: u32| open.block(n).and_then(|block| Some((block.place?.1, block.mark)));
     if let (Asked::Read(_), Some((sector, mark))) = (asked, place(number)) {
         return format!("block {} cannot be read: its sector, {}, is {}", grouped(number), grouped(sector), mark_name(mark));
     }
@@ -262,11 +261,11 @@ fn not_recorded_words(open: &Open, asked: Asked) -> String {
     }
 }
 
-fn no_room_words(open: &Open, asked: Asked) -> String {
-    let Held::WriteOnce { entries, next, .. } = open.record().held else {
+fn no_room_words(open: View, asked: Asked) -> String {
+    let Held::WriteOnce { entries, next, .. } = open.record.held else {
         return "the disc has no room".to_string();
     };
-    let free = (open.disc().length as usize).saturating_sub(next as usize);
+    let free = (open.disc.length as usize).saturating_sub(next as usize);
     let left = match free {
         0 => "no sector is free".to_string(),
         n => format!("{} free", if n == 1 { "1 sector is".to_string() } else { format!("{} sectors are", grouped(n)) }),
@@ -279,11 +278,10 @@ fn no_room_words(open: &Open, asked: Asked) -> String {
     }
 }
 
-fn no_spare_words(open: &Open) -> String {
-    let spares = open.table().chunks_exact(2);
-    let used = spares.clone().filter(|entry| entry[0] != NONE).count();
-    match spares.count() {
+fn no_spare_words(open: View) -> String {
+    match open.spares().count() {
         0 => "the disc has no spares".to_string(),
-        count => format!("no spare is free: the disc has {}, {}", counted(count, "spare"), parts(&[(used, "used")])),
+        1 => "no spare is free: the disc has 1, which is used".to_string(),
+        count => format!("no spare is free: the disc has {}, all used", grouped(count)),
     }
 }

@@ -4,7 +4,7 @@ use super::args::Args;
 use super::commands::{known, load};
 use super::commits::{self, Commit};
 use super::picture::Picture;
-use super::states::{self, Run};
+use super::states::{Run, View};
 use super::summary::Summary;
 use super::words::{from_to, grouped};
 use super::{verify, Done, Failure};
@@ -31,8 +31,8 @@ pub fn report(args: &mut Args, out: &mut dyn Write) -> Done {
     known(args, &["--output"])?;
     let path = args.next_path("IMAGE")?;
     args.end()?;
-    let mut image = load(args, &path)?;
-    let page = page(&path, &mut image)?;
+    let image = load(args, &path)?;
+    let page = page(&path, &image)?;
     match args.path("--output") {
         Some(to) => Ok(image.write_output(to, page.as_bytes())?),
         None => Ok(out.write_all(page.as_bytes())?),
@@ -43,7 +43,7 @@ fn escaped(words: &str) -> String {
     words.replace('&', "&amp;").replace('<', "&lt;").replace('>', "&gt;").replace('"', "&quot;")
 }
 
-fn page(path: &Path, image: &mut Image) -> Result<String, Failure> {
+fn page(path: &Path, image: &Image) -> Result<String, Failure> {
     let name = escaped(&path.file_name().unwrap_or(path.as_os_str()).to_string_lossy());
     let verdict = verify::verdict(image)?;
     let summary = Summary::new(image)?;
@@ -65,12 +65,11 @@ fn page(path: &Path, image: &mut Image) -> Result<String, Failure> {
 }
 
 /// The history of a write-once disc, and the blocks of either.
-fn put_blocks(text: &mut String, image: &mut Image) -> Done {
+fn put_blocks(text: &mut String, image: &Image) -> Done {
     let open = commits::open(image)?;
-    let is_write_once = states::is_write_once(&open);
-    let rows: Vec<Vec<String>> = states::runs(&open).iter().map(run_row).collect();
-    drop(open);
-    if is_write_once {
+    let view = View::from(&open);
+    let rows: Vec<Vec<String>> = view.runs().iter().map(run_row).collect();
+    if view.is_write_once() {
         let start = image.volume.start;
         let found = commits::chain(image)?;
         let _ = writeln!(text, "<h2>History</h2>\n<p>The commits, the newest first.</p>");

@@ -1,7 +1,27 @@
 //! The blocks of an open disc: where each is, and whether it can be read.
 
 use tuormik::image::mark_name;
-use tuormik::{Held, Open, NONE, PACKET, RECORDED};
+use tuormik::{DiscRef, Held, Open, OpenRef, Record, NONE, PACKET, RECORDED};
+
+/// An open disc, as its table and its record tell it.
+#[derive(Clone, Copy)]
+pub struct View<'a> {
+    pub disc: DiscRef<'a>,
+    pub table: &'a [u32],
+    pub record: Record,
+}
+
+impl<'a> From<&'a Open<'_>> for View<'a> {
+    fn from(open: &'a Open) -> View<'a> {
+        View { disc: open.disc().to_read(), table: open.table(), record: open.record() }
+    }
+}
+
+impl<'a> From<&'a OpenRef<'_>> for View<'a> {
+    fn from(open: &'a OpenRef) -> View<'a> {
+        View { disc: open.disc(), table: open.table(), record: open.record() }
+    }
+}
 
 /// A block as the disc's table and marks tell it.
 #[derive(Clone, Copy, Debug, PartialEq, Eq)]
@@ -31,48 +51,71 @@ impl Block {
     }
 }
 
-pub fn is_write_once(open: &Open) -> bool {
-    matches!(open.record().held, Held::WriteOnce { .. })
-}
-
-/// How many blocks a disc has: N or L.
-pub fn count(open: &Open) -> u32 {
-    match open.record().held {
-        Held::WriteOnce { entries, .. } => entries,
-        Held::Rewritable { .. } => open.disc().length,
+impl<'a> View<'a> {
+    pub fn is_write_once(self) -> bool {
+        matches!(self.record.held, Held::WriteOnce { .. })
     }
-}
 
-/// The sector to which a packet is spared.
-pub fn spared_to(open: &Open, original: u32) -> Option<usize> {
-    open.table().chunks_exact(2).find(|entry| entry[0] == original).map(|entry| entry[1] as usize)
-}
-
-/// Where a packet of a rewritable disc is.
-pub fn packet_place(open: &Open, original: u32) -> usize {
-    spared_to(open, original).unwrap_or(open.disc().start as usize + original as usize)
-}
-
-/// The block of a number; none from the number of blocks upward.
-pub fn block(open: &Open, number: u32) -> Option<Block> {
-    if number >= count(open) {
-        return None;
+    /// How many blocks the disc has: N or L.
+    pub fn count(self) -> u32 {
+        match self.record.held {
+            Held::WriteOnce { entries, .. } => entries,
+            Held::Rewritable { .. } => self.disc.length,
+        }
     }
-    let disc = open.disc();
-    let place = if is_write_once(open) {
-        let entry = open.table()[number as usize];
-        (entry != NONE).then(|| (entry, disc.start as usize + entry as usize))
-    } else {
-        let within = number % PACKET as u32;
-        Some((number, packet_place(open, number - within) + within as usize))
-    };
-    let mark = place.and_then(|(_, sector)| disc.marks.get(sector).copied()).unwrap_or_default();
-    Some(Block { number, place, mark })
-}
 
-/// All blocks, in order.
-pub fn blocks<'a>(open: &'a Open<'_>) -> impl Iterator<Item = Block> + 'a {
-    (0..count(open)).filter_map(|number| block(open, number))
+    /// Original and mapped of each spare.
+    pub fn spares(self) -> impl Iterator<Item = (u32, u32)> + 'a {
+        self.table.chunks_exact(2).map(|entry| (entry[0], entry[1]))
+    }
+
+    /// How many spares are used.
+    pub fn used_spares(self) -> usize {
+        self.spares().filter(|&(original, _)| original != NONE).count()
+    }
+
+    /// The sector to which a packet is spared.
+    pub fn spared_to(self, original: u32) -> Option<usize> {
+        self.spares().find(|&(from, _)| from == original).map(|(_, mapped)| mapped as usize)
+    }
+
+    /// Where a packet of a rewritable disc is.
+    pub fn packet_place(self, original: u32) -> usize {
+        self.spared_to(original).unwrap_or(self.disc.start as usize + original as usize)
+    }
+
+    /// The block of a number; none from the number of blocks upward.
+    pub fn block(self, number: u32) -> Option<Block> {
+        if number >= self.count() {
+            return None;
+        }
+        let place = if self.is_write_once() {
+            let entry = *self.table.get(number as usize)?;
+            (entry != NONE).then(|| (entry, self.disc.start as usize + entry as usize))
+        } else {
+            let within = number % PACKET as u32;
+            Some((number, self.packet_place(number - within) + within as usize))
+        };
+        let mark = place.and_then(|(_, sector)| self.disc.marks.get(sector).copied()).unwrap_or_default();
+        Some(Block { number, place, mark })
+    }
+
+    /// All blocks, in order.
+    pub fn blocks(self) -> impl Iterator<Item = Block> + 'a {
+        (0..self.count()).filter_map(move |number| self.block(number))
+    }
+
+    /// The blocks by runs.
+    pub fn runs(self) -> Vec<Run> {
+        let mut runs: Vec<Run> = Vec::new();
+        for block in self.blocks() {
+            match runs.last_mut() {
+                Some(run) if run.goes_on_with(&block) => run.count += 1,
+                _ => runs.push(Run { first: block, count: 1 }),
+            }
+        }
+        runs
+    }
 }
 
 /// Blocks that follow each other, are in one state and stand in sectors that follow each other.
@@ -91,15 +134,4 @@ impl Run {
         let step = |place: Option<(u32, usize)>| place.map(|(_, sector)| sector + self.count);
         block.state() == self.first.state() && block.place.map(|(_, sector)| sector) == step(self.first.place)
     }
-}
-
-pub fn runs(open: &Open) -> Vec<Run> {
-    let mut runs: Vec<Run> = Vec::new();
-    for block in blocks(open) {
-        match runs.last_mut() {
-            Some(run) if run.goes_on_with(&block) => run.count += 1,
-            _ => runs.push(Run { first: block, count: 1 }),
-        }
-    }
-    runs
 }

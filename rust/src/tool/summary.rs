@@ -3,11 +3,12 @@
 use super::json::Json;
 use super::passed::Passed;
 use super::room::new_blocks;
+use super::states::View;
 use super::words::{counted, grouped, joined, parts};
-use super::{commits, found, refused, states, Done, Failure};
+use super::{commits, found, refused, Done, Failure};
 use std::io::Write;
 use tuormik::image::{mark_name, Image};
-use tuormik::{read_maps, Held, Maps, Open, Refusal, BLANK, NONE, RECORDED, UNREADABLE};
+use tuormik::{read_maps, Held, Maps, OpenRef, Refusal, BLANK, NONE, RECORDED, UNREADABLE};
 
 /// The marks in the order in which they are told.
 const MARKS: [u8; 3] = [RECORDED, UNREADABLE, BLANK];
@@ -51,7 +52,7 @@ fn tables(maps: Option<&Maps>) -> &[u32] {
 
 impl Summary {
     /// Opens the disc of an image; that it is turned down is told too.
-    pub fn new(image: &mut Image) -> Result<Summary, Failure> {
+    pub fn new(image: &Image) -> Result<Summary, Failure> {
         let maps = read_maps(&image.volume.maps).ok();
         let opened = match commits::open(image) {
             Ok(open) => Ok(Opened::new(&open)?),
@@ -70,7 +71,7 @@ impl Summary {
             opened,
         };
         if let Ok(Opened::Rewritable { sequence, stale, .. }) = &mut summary.opened {
-            *stale = found::stale_copies(&image.disc(), tables(summary.maps.as_ref()), *sequence);
+            *stale = found::stale_copies(image.to_read(), tables(summary.maps.as_ref()), *sequence);
         }
         Ok(summary)
     }
@@ -136,10 +137,9 @@ impl Summary {
 }
 
 impl Opened {
-    fn new(open: &Open) -> Result<Opened, Failure> {
-        let disc = open.disc();
-        let record = open.record();
-        Ok(match record.held {
+    fn new(open: &OpenRef) -> Result<Opened, Failure> {
+        let view = View::from(open);
+        Ok(match view.record.held {
             Held::WriteOnce { entries, next, last } => {
                 let per_mille = open.fullness().map_err(|error| refused::by_call(open, refused::Asked::Fullness, error))?;
                 Opened::WriteOnce {
@@ -147,15 +147,14 @@ impl Opened {
                     used: open.table().iter().filter(|&&entry| entry != NONE).count(),
                     next,
                     last,
-                    fits: new_blocks(entries as usize, next as usize, disc.length as usize),
+                    fits: new_blocks(entries as usize, next as usize, view.disc.length as usize),
                     per_mille,
-                    passed: Passed::new(disc, record),
+                    passed: Passed::new(view),
                 }
             }
             Held::Rewritable { entries, sequence } => {
-                let marks: Vec<u8> = states::blocks(open).map(|block| block.mark).collect();
-                let used = open.table().chunks_exact(2).filter(|entry| entry[0] != NONE).count();
-                Opened::Rewritable { blocks: mark_counts(&marks), entries, used, sequence, stale: Vec::new() }
+                let marks: Vec<u8> = view.blocks().map(|block| block.mark).collect();
+                Opened::Rewritable { blocks: mark_counts(&marks), entries, used: view.used_spares(), sequence, stale: Vec::new() }
             }
         })
     }

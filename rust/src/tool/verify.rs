@@ -3,10 +3,10 @@
 use super::args::Args;
 use super::commands::{images, load};
 use super::progress::Progress;
-use super::states::Run;
+use super::states::{Run, View};
 use super::summary::Summary;
 use super::words::{counted, from_to, grouped, parts};
-use super::{commits, states, Done, Failure};
+use super::{commits, Done, Failure};
 use std::io::Write;
 use std::path::Path;
 use tuormik::image::Image;
@@ -50,7 +50,7 @@ pub fn verify(args: &mut Args, out: &mut dyn Write) -> Done {
 }
 
 fn verdict_of(args: &Args, path: &Path) -> Result<Verdict, Failure> {
-    match load(args, path).and_then(|mut image| verdict(&mut image)) {
+    match load(args, path).and_then(|image| verdict(&image)) {
         Err(failure @ (Failure::Usage(_) | Failure::Refused(..))) => {
             Ok(Verdict { gist: String::new(), faults: vec![without_name(&failure.words(), path)] })
         }
@@ -67,7 +67,7 @@ fn without_name(words: &str, path: &Path) -> String {
 }
 
 /// Clean is a disc that opens, passes over nothing, and has every block that is used, and every copy of its sparing table.
-pub fn verdict(image: &mut Image) -> Result<Verdict, Failure> {
+pub fn verdict(image: &Image) -> Result<Verdict, Failure> {
     let summary = Summary::new(image)?;
     let opened = match summary.opened {
         Ok(opened) => opened,
@@ -78,7 +78,7 @@ pub fn verdict(image: &mut Image) -> Result<Verdict, Failure> {
     let mut faults = opened.faults();
     let open = commits::open(image)?;
     commits::read_all(&open)?;
-    faults.extend(lost_words(&states::runs(&open)));
+    faults.extend(lost_words(&View::from(&open).runs()));
     Ok(Verdict { gist: opened.gist(), faults })
 }
 
