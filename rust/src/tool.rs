@@ -185,9 +185,9 @@ the standard output.
         help: "tuormik save IMAGE NUMBER FILE [--no-commit] [--packet]
 
 Saves the bytes of FILE ('-': the standard input) as blocks from NUMBER on; the last one is filled up with zeros. On a write-once disc
-NUMBER may be 'new', which adds blocks, and a commit follows; without it what was saved is not found again. On a rewritable disc --packet
-saves whole packets, and so heals unreadable ones: FILE then has 65,536 bytes for each.
+NUMBER may be 'new', which adds blocks, and a commit follows; without it what was saved is not found again.
   --no-commit          no commit after the saves
+  --packet             whole packets of a rewritable disc, all 32 blocks of each replaced: FILE has 65,536 bytes for each
   --force              commits also where a sector that was passed over may be a newer VAT
 ",
         run: commands::save,
@@ -232,6 +232,7 @@ tuormik make IMAGE --sectors N (--write-once | --tables T,..) [--start S] [--len
 Makes a disc of N sectors and writes it to IMAGE, which must not be there yet. The partition starts at S (288) and has L sectors (to the
 end of the disc). Where sectors 256 to 259 are free, descriptors are put there that tell the volume, so that the other commands find it;
 they make no file system.
+  --sectors N          the number of sectors
   --media cdr          a write-once disc of 333,000 sectors, or of N
   --media cdrw         a rewritable disc of 273,216 sectors, or of N, with four sparing tables, two before the partition and two after it, and
                        one packet in 128 a spare, half of them on either side
@@ -268,7 +269,7 @@ where it stands the export came to its end.
 
 Holds the blocks of two images against each other, by their numbers, and tells which differ, appeared (in B alone) or went (in A alone), and
 which cannot be read. A and B are images, or IMAGE@ICB for the disc as the commit left it whose VAT ICB is at that logical block. The
-status is 0 where all are alike and 1 where not.
+status is 0 where all are alike and 1 where not. A volume given by hand is that of both; --marks does not go with two images.
 ",
         run: diff::diff,
     },
