@@ -43,6 +43,11 @@ pub enum Error {
         /// What is wrong with it.
         words: String,
     },
+    /// A file that is there already, where a new one is to be made.
+    Exists {
+        /// The file.
+        path: PathBuf,
+    },
     /// An image that another process has loaded to write it.
     Held {
         /// The image.
@@ -75,6 +80,7 @@ impl fmt::Display for Error {
         match self {
             Error::File { path, error } => write!(f, "{}: {error}", path.display()),
             Error::Wrong { path, words } => write!(f, "{}: {words}", path.display()),
+            Error::Exists { path } => write!(f, "{}: it is there already", path.display()),
             Error::Held { path, by: Some(by) } => write!(f, "{}: process {by} is writing it; nothing was done here", path.display()),
             Error::Held { path, by: None } => write!(f, "{}: another process is writing it; nothing was done here", path.display()),
             Error::Unfinished { path, error } => {
@@ -132,7 +138,7 @@ impl Image {
         let there = journal::read_pair(&System, &pair)?;
         for (is_there, path) in [(there.image.is_some(), &pair.image), (there.marks.is_some(), &pair.marks)] {
             if is_there && !replaces {
-                return Err(Error::wrong(path, "it is there already (--force replaces it)"));
+                return Err(Error::Exists { path: path.clone() });
             }
         }
         if there.marks.as_deref().is_some_and(|text| !is_marks_file(text)) {

@@ -90,7 +90,8 @@ impl Failure {
 
 impl From<tuormik::image::Error> for Failure {
     fn from(error: tuormik::image::Error) -> Failure {
-        Failure::Usage(error.to_string())
+        let hint = if matches!(error, tuormik::image::Error::Exists { .. }) { " (--force replaces it)" } else { "" };
+        Failure::Usage(format!("{error}{hint}"))
     }
 }
 

@@ -143,6 +143,21 @@ fn what_another_program_changed_meanwhile_stays() {
 }
 
 #[test]
+fn who_reads_meanwhile_finds_a_pair() {
+    let folder = Folder::with_disc("meanwhile-read");
+    folder.write("zeros", &[0; 2048]);
+    folder.does(&["save", "d.img", "new", "zeros", "--no-commit"]);
+    assert!(folder.path("d.img.marks").exists());
+    for _ in 0..10 {
+        let mut writer = folder.start(&["save", "d.img", "new", "zeros"]);
+        while writer.try_wait().expect("a status").is_none() {
+            folder.does(&["info", "d.img"]);
+        }
+        assert_eq!(ended(writer).0, 0);
+    }
+}
+
+#[test]
 fn reading_needs_no_folder_that_can_be_written() {
     let folder = Folder::with_disc("read-only-folder");
     folder.does(&["save", "d.img", "new", "text"]);

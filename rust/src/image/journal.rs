@@ -259,6 +259,7 @@ fn read_once(files: &dyn Files, pair: &Pair) -> Result<Contents, Error> {
 #[cfg(test)]
 mod tests {
     use super::*;
+    use crate::image::files::System;
     use std::cell::{Cell, RefCell};
     use std::collections::BTreeMap;
     use std::io;
@@ -428,6 +429,55 @@ mod tests {
         }
     }
 
+    /// The file system itself, killed after some calls that change it.
+    struct Killed {
+        left: Cell<usize>,
+    }
+
+    impl Killed {
+        fn call(&self) -> io::Result<()> {
+            let left = self.left.get().checked_sub(1).ok_or_else(|| io::Error::other("killed"))?;
+            self.left.set(left);
+            Ok(())
+        }
+    }
+
+    impl Files for Killed {
+        fn stamp(&self, path: &Path) -> io::Result<Option<Stamp>> {
+            System.stamp(path)
+        }
+
+        fn read(&self, path: &Path) -> io::Result<Option<Vec<u8>>> {
+            System.read(path)
+        }
+
+        fn write(&self, path: &Path, bytes: &[u8], like: &Path) -> io::Result<()> {
+            self.call()?;
+            std::fs::write(path, &bytes[..bytes.len() / 2])?;
+            self.call()?;
+            System.write(path, bytes, like)
+        }
+
+        fn rename(&self, from: &Path, to: &Path) -> io::Result<()> {
+            self.call()?;
+            System.rename(from, to)
+        }
+
+        fn remove(&self, path: &Path) -> io::Result<()> {
+            self.call()?;
+            System.remove(path)
+        }
+
+        fn sync_folder(&self, folder: &Path) -> io::Result<()> {
+            self.call()?;
+            System.sync_folder(folder)
+        }
+
+        fn names(&self, folder: &Path) -> io::Result<Vec<OsString>> {
+            System.names(folder)
+        }
+    }
+
     /// A version of a pair, and how a store makes it.
     #[derive(Clone)]
     struct Version {
@@ -523,6 +573,29 @@ mod tests {
         let version = |byte, marks| Some(Version::new(byte, marks));
         stopped_twice(&pair, [version(1, Some("one")), version(2, Some("two")), version(3, Some("three"))]);
         stopped_twice(&pair, [version(1, None), version(2, Some("two")), version(3, Some("three"))]);
+    }
+
+    /// The same on the file system itself, without the power failing: a store is killed at every call, and the next one too.
+    #[test]
+    fn two_kills_leave_files_that_belong_together() {
+        let folder = std::env::temp_dir().join(format!("tuormik-killed-{}", std::process::id()));
+        std::fs::create_dir_all(&folder).expect("a folder");
+        let pair = Pair { image: folder.join("d.img"), marks: folder.join("d.img.marks") };
+        let [one, two, three] = [(1, "one"), (2, "two"), (3, "three")].map(|(byte, marks)| Version::new(byte, Some(marks)));
+        let killed = |calls: usize| Killed { left: Cell::new(calls) };
+        // a store is 15 calls, and finishing one that was killed up to 11
+        const CALLS: [usize; 2] = [15, 26];
+        for (first, second) in (0..=CALLS[0]).flat_map(|first| (0..=CALLS[1]).map(move |second| (first, second))) {
+            one.store(&System, &pair).expect("it is stored");
+            let is_two = two.store(&killed(first), &pair).is_ok();
+            let found = seen(&System, &pair);
+            assert!(found == two.contents() || found == one.contents() && !is_two, "killed after {first}: {found:?}");
+            let is_three = three.store(&killed(second), &pair).is_ok();
+            let then = seen(&System, &pair);
+            assert!(then == three.contents() || then == found && !is_three, "killed after {first}, {second}: {found:?} became {then:?}");
+            assert!(is_two == (first == CALLS[0]) && (is_three || second < CALLS[1]), "killed after {first}, {second}");
+        }
+        std::fs::remove_dir_all(&folder).expect("a folder");
     }
 
     /// A memory in which a store of version 2 over version 1 was stopped right after its note came to its name.
