@@ -28,6 +28,7 @@ pub mod descriptors;
 mod ffi;
 pub mod image;
 mod marks;
+pub mod numbers;
 mod open;
 mod passed;
 mod refusal;

@@ -384,3 +384,16 @@ pub fn run(words: impl Iterator<Item = OsString>) -> u8 {
     let _ = out.flush();
     done.map_or_else(|failure| failure.tell(), |()| 0)
 }
+
+#[cfg(test)]
+mod tests {
+    use super::*;
+
+    #[test]
+    fn every_option_has_help() {
+        let texts: Vec<&str> = ENTRIES.iter().map(|entry| entry.help).chain([VOLUME_HELP, CUT_HELP, ENDING]).collect();
+        for option in args::FLAGS.iter().chain(&args::VALUES) {
+            assert!(*option == "--help" || texts.iter().any(|text| text.contains(&format!("  {option} "))), "{option}");
+        }
+    }
+}

@@ -269,7 +269,7 @@ fn a_map_has_labels_live_blocks_and_runs() {
     }
     // a full disc is one path a kind
     folder.does(&["make", "full.img", "--sectors", "333,000", "--write-once", "--no-descriptors"]);
-    let marks = "tuormik marks\nrecorded 0 333000\nunreadable 100000 1\nunreadable 200000 3000\n";
+    let marks = "tuormik marks\nrecorded 0 333,000\nunreadable 100,000 1\nunreadable 0x30d40 3000\n";
     folder.write("m", marks.as_bytes());
     let by_hand = ["--start", "288", "--length", "332712", "--write-once", "--marks", "m"];
     let out = folder.does(&[&["map", "full.img", "full.svg"], &by_hand[..]].concat());

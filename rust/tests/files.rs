@@ -290,7 +290,7 @@ fn dumps_that_are_too_short() {
     folder.does(&["save", "d.img", "new", "text"]);
     assert_eq!(blocks(&folder, "d.img"), 2);
     folder.write("d.img", &bytes[..2048 * 291 - 7]);
-    folder.refuses(&["info", "d.img"], &["595961", "multiple of 2,048"]);
+    folder.refuses(&["info", "d.img"], &["595,961", "multiple of 2,048"]);
     folder.write("empty", &[]);
     folder.refuses(&["info", "empty", "--start", "0", "--length", "9", "--write-once"], &["empty"]);
     // of a rewritable disc what is missing was there
@@ -321,7 +321,7 @@ fn input_that_is_not_what_it_should_be() {
     folder.refuses(&["read", "d.img", "0", "0"], &["COUNT"]);
     folder.refuses(&["free", "d.img", "0", "0"], &["COUNT"]);
     let endless = ["info", "/dev/zero", "--start", "0", "--length", "9", "--write-once"];
-    refuses_quickly(&folder, &endless, "more than 2147483648 bytes");
+    refuses_quickly(&folder, &endless, "more than 2,147,483,648 bytes");
 }
 
 /// A disc that opens by an older VAT, with a newer one above it that breaks a rule.

@@ -1,5 +1,6 @@
 //! Marks files: the marks of a disc's sectors, as text.
 
+use crate::numbers::{grouped, number};
 use crate::{marks_by_rule, BLANK, MOST_SECTORS, RECORDED, SECTOR, UNREADABLE};
 
 /// The format of a marks file, in words.
@@ -58,7 +59,7 @@ pub(super) fn read_marks(text: &[u8], bytes: &[u8]) -> Result<Vec<u8>, String> {
     }
     let is_written = |sector: &[u8]| sector.iter().any(|&b| b != 0);
     match bytes.chunks(SECTOR).zip(&marks).position(|(sector, &mark)| mark == BLANK && is_written(sector)) {
-        Some(at) => Err(format!("sector {at} is called blank, and its bytes are not zeros")),
+        Some(at) => Err(format!("sector {} is called blank, and its bytes are not zeros", grouped(at))),
         None => Ok(marks),
     }
 }
@@ -73,12 +74,11 @@ fn read_line(line: &str, marks: &mut [u8], bytes: &[u8]) -> Result<(), String> {
         ["image", _] => Err("these marks belong to other bytes than the image has: one of the two was replaced without the other".into()),
         [name, from, count] => {
             let mark = [BLANK, RECORDED, UNREADABLE].into_iter().find(|&mark| mark_name(mark) == name).ok_or_else(wrong)?;
-            let from: usize = from.parse().map_err(|_| wrong())?;
-            let count: usize = count.parse().map_err(|_| wrong())?;
+            let (from, count) = (number(from).ok_or_else(wrong)? as usize, number(count).ok_or_else(wrong)? as usize);
             let end = from.checked_add(count).filter(|&end| end <= MOST_SECTORS).ok_or_else(wrong)?;
             let sectors = marks.len();
             if end > sectors && mark != BLANK {
-                return Err(format!("it names sectors up to {}, and the image has {sectors}", end - 1));
+                return Err(format!("it names sectors up to {}, and the image has {}", grouped(end - 1), grouped(sectors)));
             }
             if let Some(named) = marks.get_mut(from..end.min(sectors)) {
                 named.fill(mark);

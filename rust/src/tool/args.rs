@@ -16,10 +16,10 @@ pub struct Args {
 }
 
 /// Options that take no value.
-const FLAGS: [&str; 10] =
+pub const FLAGS: [&str; 10] =
     ["--help", "--hex", "--json", "--no-commit", "--packet", "--all", "--write-once", "--zeros", "--force", "--no-descriptors"];
 /// Options that take one.
-const VALUES: [&str; 13] = [
+pub const VALUES: [&str; 13] = [
     "--marks",
     "--start",
     "--length",
