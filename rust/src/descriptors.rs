@@ -1,6 +1,7 @@
 //! The volume descriptors of an image (ECMA-167, part 3), as far as they tell a volume's map list, S and L. They are no part of document
 //! 01: what they say is handed to its calls, which examine it.
 
+use crate::numbers::grouped;
 use crate::{read_maps, Maps, SECTOR};
 
 /// The map list, S and L of a volume.
@@ -108,7 +109,7 @@ fn read_sequence(image: &[u8], from: usize, count: usize) -> Result<Volume, Stri
     }
     let logical = logical.ok_or("the volume descriptor sequence has no logical volume descriptor")?;
     if u32_at(logical, BLOCK_SIZE_AT) as usize != SECTOR {
-        return Err(format!("the logical volume has blocks of {} bytes, not 2,048", u32_at(logical, BLOCK_SIZE_AT)));
+        return Err(format!("the logical volume has blocks of {} bytes, not 2,048", grouped(u32_at(logical, BLOCK_SIZE_AT))));
     }
     let length = u32_at(logical, MAP_LENGTH_AT) as usize;
     let maps = logical[MAPS_AT..].get(..length).ok_or("the map list does not fit its logical volume descriptor")?;

@@ -28,10 +28,10 @@ pub mod descriptors;
 mod ffi;
 pub mod image;
 mod marks;
+pub mod numbers;
 mod open;
 mod passed;
 mod refusal;
-mod words;
 
 // the functions of `ffi`, where the proved library is not linked
 #[cfg(feature = "stand-in")]
@@ -41,7 +41,6 @@ pub use marks::marks_by_rule;
 pub use open::{look_up, read_maps, write_maps, Call, Disc, DiscRef, Maps, Open, OpenRef, Ran};
 pub use passed::possible_icbs;
 pub use refusal::{Error, Refusal};
-pub use words::grouped;
 
 /// Bytes of a sector, and of a block.
 pub const SECTOR: usize = 2048;

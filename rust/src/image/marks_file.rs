@@ -1,6 +1,7 @@
 //! Marks files: the marks of a disc's sectors, as text.
 
-use crate::{grouped, marks_by_rule, BLANK, MOST_SECTORS, RECORDED, SECTOR, UNREADABLE};
+use crate::numbers::{grouped, number};
+use crate::{marks_by_rule, BLANK, MOST_SECTORS, RECORDED, SECTOR, UNREADABLE};
 
 /// The format of a marks file, in words.
 pub const MARKS_FORMAT: &str = "\
@@ -58,7 +59,7 @@ pub(super) fn read_marks(text: &[u8], bytes: &[u8]) -> Result<Vec<u8>, String> {
     }
     let is_written = |sector: &[u8]| sector.iter().any(|&b| b != 0);
     match bytes.chunks(SECTOR).zip(&marks).position(|(sector, &mark)| mark == BLANK && is_written(sector)) {
-        Some(at) => Err(format!("sector {} is called blank, and its bytes are not zeros", grouped(at as u64))),
+        Some(at) => Err(format!("sector {} is called blank, and its bytes are not zeros", grouped(at))),
         None => Ok(marks),
     }
 }
@@ -73,13 +74,11 @@ fn read_line(line: &str, marks: &mut [u8], bytes: &[u8]) -> Result<(), String> {
         ["image", _] => Err("these marks belong to other bytes than the image has: one of the two was replaced without the other".into()),
         [name, from, count] => {
             let mark = [BLANK, RECORDED, UNREADABLE].into_iter().find(|&mark| mark_name(mark) == name).ok_or_else(wrong)?;
-            let from: usize = from.parse().map_err(|_| wrong())?;
-            let count: usize = count.parse().map_err(|_| wrong())?;
+            let (from, count) = (number(from).ok_or_else(wrong)? as usize, number(count).ok_or_else(wrong)? as usize);
             let end = from.checked_add(count).filter(|&end| end <= MOST_SECTORS).ok_or_else(wrong)?;
             let sectors = marks.len();
             if end > sectors && mark != BLANK {
-                let (last, sectors) = (grouped(end as u64 - 1), grouped(sectors as u64));
-                return Err(format!("it names sectors up to {last}, and the image has {sectors}"));
+                return Err(format!("it names sectors up to {}, and the image has {}", grouped(end - 1), grouped(sectors)));
             }
             if let Some(named) = marks.get_mut(from..end.min(sectors)) {
                 named.fill(mark);

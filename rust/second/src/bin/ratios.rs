@@ -6,6 +6,7 @@
 
 use std::process::ExitCode;
 use std::time::{Duration, Instant};
+use tuormik::numbers::grouped;
 use tuormik::{BLANK, MOST_ENTRIES, NONE, PACKET, PACKET_BYTES, RECORDED, SECTOR};
 use tuormik_second::layer::{Layer, PLAIN, PROVED};
 use tuormik_second::plain;
@@ -117,18 +118,6 @@ fn duration(time: Duration) -> String {
         _ if ns < 1e9 => format!("{:.1} ms", ns / 1e6),
         _ => format!("{:.2} s", ns / 1e9),
     }
-}
-
-fn grouped(n: usize) -> String {
-    let digits = n.to_string();
-    let mut text = String::new();
-    for (i, digit) in digits.chars().enumerate() {
-        if i > 0 && (digits.len() - i).is_multiple_of(3) {
-            text.push(',');
-        }
-        text.push(digit);
-    }
-    text
 }
 
 /// User data: bytes that no sector of which has a tag.
