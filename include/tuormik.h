@@ -21,10 +21,10 @@
  * Every call returns a number: 0 (TUORMIK_DONE), a refusal (the line of 01, 1 to 21), or 255 (TUORMIK_CUT) where the power failed in it.
  * Refusals are tested in the order of their numbers. On a refusal nothing lent has changed. Every call returns, whatever it is lent.
  *
- * The layer has no variables of its own and allocates nothing: all that a call reads or writes is lent to it. It calls nothing but
- * functions of the C library on memory (memcpy and its like), and takes at most TUORMIK_STACK bytes of stack. Nothing has to be begun or
- * ended. Two calls may run at the same time in different threads unless one of them writes what is lent to the other: calls on different
- * discs always may, and readings of one disc.
+ * The layer has no variables of its own and allocates nothing: all that a call reads or writes is lent to it, but for at most
+ * TUORMIK_STACK bytes of stack. It calls nothing but the C library's functions on memory (memcpy and its like). Nothing has to be begun
+ * or ended. Two calls may run at the same time in different threads unless one of them writes what is lent to the other: so may calls on
+ * different discs, and readings of one disc.
  */
 #ifndef TUORMIK_H
 #define TUORMIK_H
@@ -148,7 +148,7 @@ static inline const char *tuormik_refusal_text(uint32_t number) {
 #define TUORMIK_MOST_SECTORS 1048576u /* sectors that a disc has at most */
 #define TUORMIK_TABLE_LENGTH 4096u    /* places that a lent table has at least */
 #define TUORMIK_NONE 0xffffffffu      /* an unused entry; no previous ICB; a free spare */
-#define TUORMIK_STACK 16384u          /* bytes of stack that a call takes at most */
+#define TUORMIK_STACK 8192u           /* bytes of stack that a call takes at most */
 
 /* ---- the record: TUORMIK_RECORD_LENGTH numbers, filled by an opening and kept up by the calls after it */
 
