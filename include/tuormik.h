@@ -20,6 +20,11 @@
  *
  * Every call returns a number: 0 (TUORMIK_DONE), a refusal (the line of 01, 1 to 21), or 255 (TUORMIK_CUT) where the power failed in it.
  * Refusals are tested in the order of their numbers. On a refusal nothing lent has changed. Every call returns, whatever it is lent.
+ *
+ * The layer has no variables of its own and allocates nothing: all that a call reads or writes is lent to it, but for at most
+ * TUORMIK_STACK bytes of stack. It calls nothing but the C library's functions on memory (memcpy and its like). Nothing has to be begun
+ * or ended. Two calls may run at the same time in different threads unless one of them writes what is lent to the other: so may calls on
+ * different discs, and readings of one disc.
  */
 #ifndef TUORMIK_H
 #define TUORMIK_H
@@ -31,56 +36,96 @@
 extern "C" {
 #endif
 
-/* ---- answers */
+/* ---- the version of this header and of the library beside it */
+
+#define TUORMIK_VERSION_MAJOR 0
+#define TUORMIK_VERSION_MINOR 1
+#define TUORMIK_VERSION_PATCH 0
+#define TUORMIK_VERSION "0.1.0"
+
+/* ---- answers: tuormik_refusal_text tells each in words */
 
 #define TUORMIK_DONE 0u
 
-/* Disc bytes are not 2,048 times the marks, sectors exceed 1,048,576 or are none, or a mark exceeds 2. */
 #define TUORMIK_DISC_SHAPE 1u
-/* L is 0 or S + L exceeds the sectors. */
 #define TUORMIK_SPAN_OUTSIDE 2u
-/* The lent table has under 4,096 entries, or a block, packet, map list to be written, record or result has the wrong length. */
 #define TUORMIK_LENT_LENGTH 3u
-/* A map is cut short, or of length 0. */
 #define TUORMIK_MAP_CUT 4u
-/* The map list, read or to be written, is neither kind. */
 #define TUORMIK_NEITHER_KIND 5u
-/* Rewritable: S, L or a table sector is not a multiple of 32, a table's packet is off the disc, in the partition or named twice, or
-   spares to be made break the copy rule. */
 #define TUORMIK_MISALIGNED 6u
-/* The call is for the other kind. */
 #define TUORMIK_OTHER_KIND 7u
-/* No VAT ICB or counting copy exists; a lent VAT file is none. */
 #define TUORMIK_NO_TABLE 8u
-/* The VAT has over 4,096 entries. */
 #define TUORMIK_TOO_MANY_ENTRIES 9u
-/* Current copies of the sparing table differ in entries. */
 #define TUORMIK_COPIES_DIFFER 10u
-/* The record does not go with the disc and the lent table. */
 #define TUORMIK_STALE_RECORD 11u
-/* The block number is outside, or a packet start is not a multiple of 32 below L. */
 #define TUORMIK_NUMBER_OUTSIDE 12u
-/* The entry to be read or freed is unused. */
 #define TUORMIK_UNUSED_ENTRY 13u
-/* A sector to be read is not recorded. */
 #define TUORMIK_NOT_RECORDED 14u
-/* The block would pass as a VAT ICB at NWA. */
 #define TUORMIK_PASSES_AS_ICB 15u
-/* The partition has no room for this and a commit after it. */
 #define TUORMIK_NO_ROOM 16u
-/* Sparing with one table only. */
 #define TUORMIK_ONE_TABLE 17u
-/* The packet is already spared. */
 #define TUORMIK_ALREADY_SPARED 18u
-/* No entry is free. */
 #define TUORMIK_NO_SPARE 19u
-/* The sequence is 0xffffffff. */
 #define TUORMIK_LAST_SEQUENCE 20u
-/* A write-once partition to be made is not blank. */
 #define TUORMIK_NOT_BLANK 21u
 
 /* The power failed in the call: record and table are left as they came, and the next call is an opening. */
 #define TUORMIK_CUT 255u
+
+/* What a call's answer means, as a sentence; a number that no call answers has one of its own. */
+static inline const char *tuormik_refusal_text(uint32_t number) {
+    switch (number) {
+    case TUORMIK_DONE:
+        return "The call was carried out.";
+    case TUORMIK_DISC_SHAPE:
+        return "Disc bytes are not 2,048 times the marks, sectors exceed 1,048,576 or are none, or a mark exceeds 2.";
+    case TUORMIK_SPAN_OUTSIDE:
+        return "L is 0 or S + L exceeds the sectors.";
+    case TUORMIK_LENT_LENGTH:
+        return "The lent table has under 4,096 entries, or a block, packet, map list to be written, record or result has the wrong length.";
+    case TUORMIK_MAP_CUT:
+        return "A map is cut short, or of length 0.";
+    case TUORMIK_NEITHER_KIND:
+        return "The map list, read or to be written, is neither kind.";
+    case TUORMIK_MISALIGNED:
+        return "Rewritable: S, L or a table sector is not a multiple of 32, a table's packet is off the disc, in the partition or named "
+               "twice, or spares to be made break the copy rule.";
+    case TUORMIK_OTHER_KIND:
+        return "The call is for the other kind of disc.";
+    case TUORMIK_NO_TABLE:
+        return "No VAT ICB or counting copy of the sparing table exists, or a lent VAT file is none.";
+    case TUORMIK_TOO_MANY_ENTRIES:
+        return "The VAT has over 4,096 entries.";
+    case TUORMIK_COPIES_DIFFER:
+        return "Current copies of the sparing table differ in entries.";
+    case TUORMIK_STALE_RECORD:
+        return "The record does not go with the disc and the lent table.";
+    case TUORMIK_NUMBER_OUTSIDE:
+        return "The block number is outside, or a packet start is not a multiple of 32 below L.";
+    case TUORMIK_UNUSED_ENTRY:
+        return "The entry to be read or freed is unused.";
+    case TUORMIK_NOT_RECORDED:
+        return "A sector to be read is not recorded.";
+    case TUORMIK_PASSES_AS_ICB:
+        return "The block would pass as a VAT ICB at NWA.";
+    case TUORMIK_NO_ROOM:
+        return "The partition has no room for this and a commit after it.";
+    case TUORMIK_ONE_TABLE:
+        return "Sparing with one table only.";
+    case TUORMIK_ALREADY_SPARED:
+        return "The packet is already spared.";
+    case TUORMIK_NO_SPARE:
+        return "No entry of the sparing table is free.";
+    case TUORMIK_LAST_SEQUENCE:
+        return "The sequence of the sparing table is 0xffffffff.";
+    case TUORMIK_NOT_BLANK:
+        return "A write-once partition to be made is not blank.";
+    case TUORMIK_CUT:
+        return "The power failed in the call; the next call is an opening.";
+    default:
+        return "No call answers this number.";
+    }
+}
 
 /* ---- marks, kinds, cuts and sizes */
 
@@ -93,15 +138,17 @@ extern "C" {
 
 /* cut_at is the number of the sector write at which the power fails, counted from 1; 0, or a number past the call's last write, is no
    cut. Writes before it are done and later ones are not made; cut_effect says what becomes of that write itself: */
-#define TUORMIK_OLD 0u          /* the sector is as it was */
-#define TUORMIK_SPOILT 1u       /* its mark is 2, its bytes are as they were */
-#define TUORMIK_WHOLE 2u        /* it is written (any other number too) */
+#define TUORMIK_EFFECT_OLD 0u        /* the sector is as it was */
+#define TUORMIK_EFFECT_UNREADABLE 1u /* its mark is 2, its bytes are as they were */
+#define TUORMIK_EFFECT_WHOLE 2u      /* it is written (any other number too) */
 
-#define TUORMIK_SECTOR 2048u      /* bytes of a sector and of a block */
-#define TUORMIK_PACKET 32u        /* sectors of a packet */
+#define TUORMIK_SECTOR 2048u          /* bytes of a sector and of a block */
+#define TUORMIK_PACKET 32u            /* sectors of a packet */
 #define TUORMIK_PACKET_BYTES 65536u
-#define TUORMIK_TABLE_LENGTH 4096u /* places that a lent table has at least */
-#define TUORMIK_NONE 0xffffffffu  /* an unused entry; no previous ICB; a free spare */
+#define TUORMIK_MOST_SECTORS 1048576u /* sectors that a disc has at most */
+#define TUORMIK_TABLE_LENGTH 4096u    /* places that a lent table has at least */
+#define TUORMIK_NONE 0xffffffffu      /* an unused entry; no previous ICB; a free spare */
+#define TUORMIK_STACK 8192u           /* bytes of stack that a call takes at most */
 
 /* ---- the record: TUORMIK_RECORD_LENGTH numbers, filled by an opening and kept up by the calls after it */
 
@@ -111,6 +158,22 @@ extern "C" {
 #define TUORMIK_RECORD_NEXT 2   /* NWA, or the sequence */
 #define TUORMIK_RECORD_LAST 3   /* the last ICB's logical block; 0 on rewritable discs */
 #define TUORMIK_RECORD_PASSED 4 /* how many sectors the opening passed over; set by an opening, else kept */
+
+/* ---- what is lent together, each macro the arguments of a call in their order
+ *
+ *     tuormik_open(TUORMIK_LENT_DISC(disc, marks, sectors, maps, sizeof maps, s, l), TUORMIK_LENT_TABLE(table, record))
+ */
+
+/* A disc of so many sectors, with its map list and its partition; `sectors` is evaluated twice. */
+#define TUORMIK_LENT_DISC(disc, marks, sectors, maps, maps_length, s, l) \
+    (disc), (size_t)(sectors) * TUORMIK_SECTOR, (marks), (size_t)(sectors), (maps), (maps_length), (s), (l)
+/* A table of at least TUORMIK_TABLE_LENGTH numbers, and a record. */
+#define TUORMIK_LENT_TABLE(table, record) (table), (size_t)TUORMIK_TABLE_LENGTH, (record), (size_t)TUORMIK_RECORD_LENGTH
+/* The bytes of a block, and of a packet. */
+#define TUORMIK_LENT_BLOCK(block) (block), (size_t)TUORMIK_SECTOR
+#define TUORMIK_LENT_PACKET(packet) (packet), (size_t)TUORMIK_PACKET_BYTES
+/* The power stays on. */
+#define TUORMIK_NO_CUT 0u, TUORMIK_EFFECT_OLD
 
 /* ---- both kinds */
 

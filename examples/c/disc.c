@@ -17,25 +17,27 @@ static uint8_t maps[TUORMIK_WRITE_ONCE_MAPS_LENGTH];
 static uint32_t table[TUORMIK_TABLE_LENGTH];
 static uint32_t record[TUORMIK_RECORD_LENGTH];
 
-#define DISC disc, sizeof disc, marks, sizeof marks, maps, sizeof maps, S, L
-#define HELD table, TUORMIK_TABLE_LENGTH, record, TUORMIK_RECORD_LENGTH
+#define DISC TUORMIK_LENT_DISC(disc, marks, SECTORS, maps, sizeof maps, S, L)
+#define HELD TUORMIK_LENT_TABLE(table, record)
 
 /* Tells what a call answers, and whether it should. */
 static int is(const char *what, uint32_t answer, uint32_t expected) {
     printf("%-28s answers %3u", what, (unsigned)answer);
     if (answer != expected) {
-        printf(", not %u\n", (unsigned)expected);
+        printf(", not %u: %s\n", (unsigned)expected, tuormik_refusal_text(answer));
         return 0;
     }
     printf("   N %u, NWA %u, last ICB %u, passed over %u\n", (unsigned)record[TUORMIK_RECORD_COUNT], (unsigned)record[TUORMIK_RECORD_NEXT],
            (unsigned)record[TUORMIK_RECORD_LAST], (unsigned)record[TUORMIK_RECORD_PASSED]);
+    if (answer != TUORMIK_DONE)
+        printf("    %s\n", tuormik_refusal_text(answer));
     return 1;
 }
 
 /* Whether block v reads as the text. */
 static int reads(uint32_t v, const char *text) {
     uint8_t block[TUORMIK_SECTOR];
-    uint32_t answer = tuormik_read(DISC, HELD, v, block, sizeof block);
+    uint32_t answer = tuormik_read(DISC, HELD, v, TUORMIK_LENT_BLOCK(block));
     int same = answer == TUORMIK_DONE && strcmp((const char *)block, text) == 0;
     printf("block %u reads %s\n", (unsigned)v, same ? text : "otherwise");
     return same;
@@ -44,7 +46,7 @@ static int reads(uint32_t v, const char *text) {
 static uint32_t save(uint32_t v, const char *text) {
     uint8_t block[TUORMIK_SECTOR] = {0};
     strncpy((char *)block, text, sizeof block - 1);
-    return tuormik_save_virtual(DISC, HELD, v, block, sizeof block, 0, TUORMIK_OLD);
+    return tuormik_save_virtual(DISC, HELD, v, TUORMIK_LENT_BLOCK(block), TUORMIK_NO_CUT);
 }
 
 int main(void) {
@@ -54,10 +56,10 @@ int main(void) {
                is("open", tuormik_open(DISC, HELD), TUORMIK_DONE) &&
                is("save block 0", save(0, "12 May: snow to the lower hut"), TUORMIK_DONE) &&
                is("save block 1", save(1, "13 May: two pairs of plovers"), TUORMIK_DONE) &&
-               is("commit", tuormik_commit(DISC, HELD, 0, TUORMIK_OLD), TUORMIK_DONE) &&
+               is("commit", tuormik_commit(DISC, HELD, TUORMIK_NO_CUT), TUORMIK_DONE) &&
                is("save block 1 again", save(1, "13 May: three pairs of plovers"), TUORMIK_DONE) &&
                reads(1, "13 May: three pairs of plovers") &&
-               is("commit, cut at its write", tuormik_commit(DISC, HELD, 1, TUORMIK_SPOILT), TUORMIK_CUT) &&
+               is("commit, cut at its write", tuormik_commit(DISC, HELD, 1, TUORMIK_EFFECT_UNREADABLE), TUORMIK_CUT) &&
                is("open again", tuormik_open(DISC, HELD), TUORMIK_DONE) &&
                reads(0, "12 May: snow to the lower hut") &&
                reads(1, "13 May: two pairs of plovers") &&

@@ -1,13 +1,17 @@
 //! The volume descriptors of an image (ECMA-167, part 3), as far as they tell a volume's map list, S and L. They are no part of document
 //! 01: what they say is handed to its calls, which examine it.
 
-use crate::{plain, read_maps, Maps, SECTOR};
+use crate::numbers::grouped;
+use crate::{read_maps, Maps, SECTOR};
 
 /// The map list, S and L of a volume.
 #[derive(Clone, Debug, PartialEq, Eq)]
 pub struct Volume {
+    /// The map list.
     pub maps: Vec<u8>,
+    /// S, the partition's first sector.
     pub start: u32,
+    /// L, its number of sectors.
     pub length: u32,
 }
 
@@ -43,11 +47,17 @@ fn sector(image: &[u8], at: usize) -> Option<&[u8]> {
     image.get(SECTOR.checked_mul(at)?..)?.get(..SECTOR)
 }
 
+/// The CRC of polynomial 0x1021, start 0, high bit first.
+fn crc(bytes: &[u8]) -> u16 {
+    let shift = |crc: u16, _| if crc & 0x8000 != 0 { crc << 1 ^ 0x1021 } else { crc << 1 };
+    bytes.iter().fold(0, |crc, &b| (0..8).fold(crc ^ u16::from(b) << 8, shift))
+}
+
 /// The identifier of a descriptor's tag, if checksum, CRC and location are right.
 fn identifier(descriptor: &[u8], at: usize) -> Option<u16> {
     let sum = descriptor[..16].iter().fold(0u8, |sum, &b| sum.wrapping_add(b)).wrapping_sub(descriptor[4]);
     let covered = descriptor.get(16..16 + usize::from(u16_at(descriptor, 10)))?;
-    let fits = sum == descriptor[4] && u32_at(descriptor, 12) as usize == at && plain::crc(covered) == u16_at(descriptor, 8);
+    let fits = sum == descriptor[4] && u32_at(descriptor, 12) as usize == at && crc(covered) == u16_at(descriptor, 8);
     fits.then(|| u16_at(descriptor, 0))
 }
 
@@ -99,7 +109,7 @@ fn read_sequence(image: &[u8], from: usize, count: usize) -> Result<Volume, Stri
     }
     let logical = logical.ok_or("the volume descriptor sequence has no logical volume descriptor")?;
     if u32_at(logical, BLOCK_SIZE_AT) as usize != SECTOR {
-        return Err(format!("the logical volume has blocks of {} bytes, not 2,048", u32_at(logical, BLOCK_SIZE_AT)));
+        return Err(format!("the logical volume has blocks of {} bytes, not 2,048", grouped(u32_at(logical, BLOCK_SIZE_AT))));
     }
     let length = u32_at(logical, MAP_LENGTH_AT) as usize;
     let maps = logical[MAPS_AT..].get(..length).ok_or("the map list does not fit its logical volume descriptor")?;
@@ -157,7 +167,7 @@ fn put_tag(sector: &mut [u8; SECTOR], identifier: u16, at: usize) {
     const COVERED: usize = 496;
     put(sector, 0, &identifier.to_le_bytes());
     sector[2] = 2;
-    let crc = plain::crc(&sector[16..16 + COVERED]);
+    let crc = crc(&sector[16..16 + COVERED]);
     put(sector, 8, &crc.to_le_bytes());
     put(sector, 10, &(COVERED as u16).to_le_bytes());
     put(sector, 12, &(at as u32).to_le_bytes());

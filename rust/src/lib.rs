@@ -1,37 +1,45 @@
 //! The proved block layer of CD UDF discs, from Rust.
 //!
-//! [`Disc`] is a lent disc, [`Open`] an open one: its calls are those of document 01, "The CD UDF block layer", with types for record,
-//! cut and refusal. [`calls`] has the same calls over plain slices and numbers, as they stand in `include/tuormik.h`. [`plain`] is a
-//! second implementation of document 01, to hold the first against.
+//! [`Disc`] is a lent disc, [`Open`] an open one ([`DiscRef`] and [`OpenRef`] where it is only read): its calls are those of document 01, "The CD UDF block layer", with types for record,
+//! cut and refusal. [`calls`] has the same calls over plain slices and numbers, as they stand in `include/tuormik.h`. [`image`] has discs
+//! in image files, with their marks.
 //!
 //! ```
-//! use tuormik::{write_maps, Cut, Disc, Maps};
+//! use tuormik::{write_maps, Disc, DiscRef, Maps};
 //!
 //! let maps = write_maps(&Maps::WriteOnce { partition: 0 })?;
 //! let (mut bytes, mut marks) = (vec![0; 2048 * 100], vec![0; 100]);
 //! let mut disc = Disc { bytes: &mut bytes, marks: &mut marks, maps: &maps, start: 0, length: 100 };
 //! disc.make(&[])?;
 //! let mut open = disc.open()?;
-//! open.save_virtual(0, &[7; 2048], Cut::NONE)?;
-//! open.commit(Cut::NONE)?;
+//! open.save_virtual(0, &[7; 2048])?;
+//! open.commit()?;
+//! assert_eq!(open.read(0)?, [7; 2048]);
+//!
+//! // who only reads lends nothing to be written
+//! let open = DiscRef { bytes: &bytes, marks: &marks, maps: &maps, start: 0, length: 100 }.open()?;
 //! assert_eq!(open.read(0)?, [7; 2048]);
 //! # Ok::<(), tuormik::Error>(())
 //! ```
+#![deny(missing_docs)]
 
 pub mod calls;
-pub mod compare;
 pub mod descriptors;
 mod ffi;
-pub mod layer;
+pub mod image;
 mod marks;
+pub mod numbers;
 mod open;
-pub mod plain;
+mod passed;
 mod refusal;
+
+// the functions of `ffi`, where the proved library is not linked
 #[cfg(feature = "stand-in")]
-pub mod stand_in;
+extern crate tuormik_plain as _;
 
 pub use marks::marks_by_rule;
-pub use open::{look_up, read_maps, write_maps, Call, Disc, Maps, Open, Ran};
+pub use open::{look_up, read_maps, write_maps, Call, Disc, DiscRef, Maps, Open, OpenRef, Ran};
+pub use passed::possible_icbs;
 pub use refusal::{Error, Refusal};
 
 /// Bytes of a sector, and of a block.
@@ -57,6 +65,7 @@ pub const UNREADABLE: u8 = 2;
 /// What an opening hands back, and each accepted call after it.
 #[derive(Clone, Copy, Debug, PartialEq, Eq)]
 pub struct Record {
+    /// What it holds of the disc.
     pub held: Held,
     /// How many sectors the opening passed over.
     pub passed_over: u32,
@@ -65,10 +74,22 @@ pub struct Record {
 /// What a record holds of a disc of each kind.
 #[derive(Clone, Copy, Debug, PartialEq, Eq)]
 pub enum Held {
-    /// N, NWA and the last ICB's logical block.
-    WriteOnce { entries: u32, next: u32, last: u32 },
-    /// R and the sequence.
-    Rewritable { entries: u32, sequence: u32 },
+    /// Of a write-once disc.
+    WriteOnce {
+        /// N, the number of entries of the VAT.
+        entries: u32,
+        /// NWA, the logical block that is written next.
+        next: u32,
+        /// The logical block of the last VAT ICB.
+        last: u32,
+    },
+    /// Of a rewritable disc.
+    Rewritable {
+        /// R, the number of entries of the sparing table.
+        entries: u32,
+        /// The sequence of the sparing table.
+        sequence: u32,
+    },
 }
 
 impl Record {
@@ -112,7 +133,9 @@ pub enum Effect {
 /// The sector write at which the power fails in a call, counted from 1; 0, or a number past the last write, is no cut.
 #[derive(Clone, Copy, Debug, PartialEq, Eq)]
 pub struct Cut {
+    /// The number of the sector write.
     pub at: u32,
+    /// What becomes of it.
     pub effect: Effect,
 }
 

@@ -1,17 +1,58 @@
 //! The calls of document 01 on a lent disc, with types.
 
-use crate::{calls, Cut, Error, Held, Record, MOST_ENTRIES, SECTOR};
+use crate::{calls, possible_icbs, Cut, Error, Held, Record, MOST_ENTRIES, SECTOR};
 
-/// A lent disc: 2,048 bytes and a mark byte a sector, the map list, and the partition's first sector and number of sectors.
-pub struct Disc<'a> {
-    pub bytes: &'a mut [u8],
-    pub marks: &'a mut [u8],
+/// A disc that is lent to be read: 2,048 bytes and a mark byte a sector, the map list, and the partition's first sector and number of
+/// sectors.
+#[derive(Clone, Copy)]
+pub struct DiscRef<'a> {
+    /// The bytes, 2,048 a sector.
+    pub bytes: &'a [u8],
+    /// The marks, one a sector: [`BLANK`](crate::BLANK), [`RECORDED`](crate::RECORDED) or [`UNREADABLE`](crate::UNREADABLE).
+    pub marks: &'a [u8],
+    /// The map list.
     pub maps: &'a [u8],
+    /// S, the partition's first sector.
     pub start: u32,
+    /// L, its number of sectors.
+    pub length: u32,
+}
+
+impl<'a> DiscRef<'a> {
+    /// Opens the disc to read it.
+    pub fn open(self) -> Result<OpenRef<'a>, Error> {
+        let mut table = vec![0; MOST_ENTRIES];
+        let record = self.open_into(&mut table)?;
+        Ok(OpenRef { disc: self, found: Found { table, record } })
+    }
+
+    fn open_into(self, table: &mut [u32]) -> Result<Record, Error> {
+        let mut record = [0; 5];
+        Error::check(calls::open(self.bytes, self.marks, self.maps, self.start, self.length, table, &mut record))?;
+        Ok(Record::from_numbers(record))
+    }
+}
+
+/// A lent disc: what [`DiscRef`] has, to be written too.
+pub struct Disc<'a> {
+    /// The bytes, 2,048 a sector.
+    pub bytes: &'a mut [u8],
+    /// The marks, one a sector: [`BLANK`](crate::BLANK), [`RECORDED`](crate::RECORDED) or [`UNREADABLE`](crate::UNREADABLE).
+    pub marks: &'a mut [u8],
+    /// The map list.
+    pub maps: &'a [u8],
+    /// S, the partition's first sector.
+    pub start: u32,
+    /// L, its number of sectors.
     pub length: u32,
 }
 
 impl<'a> Disc<'a> {
+    /// The disc, to be read.
+    pub fn to_read(&self) -> DiscRef<'_> {
+        DiscRef { bytes: self.bytes, marks: self.marks, maps: self.maps, start: self.start, length: self.length }
+    }
+
     /// Makes a disc: an empty VAT in a blank write-once partition; packets of zeros, spares that begin at the named sectors, and tables
     /// of sequence 0 on a rewritable one.
     pub fn make(&mut self, spares: &[u32]) -> Result<(), Error> {
@@ -22,8 +63,8 @@ impl<'a> Disc<'a> {
     /// Opens the disc.
     pub fn open(self) -> Result<Open<'a>, Error> {
         let mut table = vec![0; MOST_ENTRIES];
-        let record = open_into(&self, &mut table)?;
-        Ok(Open { disc: self, table, record, is_down: false })
+        let record = self.to_read().open_into(&mut table)?;
+        Ok(Open { disc: self, found: Found { table, record }, is_down: false })
     }
 
     /// Opens the disc and carries out a list of calls. After a cut the next call is taken as an opening.
@@ -53,21 +94,56 @@ impl<'a> Disc<'a> {
     }
 }
 
-fn open_into(disc: &Disc, table: &mut [u32]) -> Result<Record, Error> {
-    let mut record = [0; 5];
-    Error::check(calls::open(disc.bytes, disc.marks, disc.maps, disc.start, disc.length, table, &mut record))?;
-    Ok(Record::from_numbers(record))
-}
-
 /// A call of a list.
 #[derive(Clone, Copy, Debug)]
 pub enum Call<'b> {
-    SaveVirtual { v: u32, block: &'b [u8], cut: Cut },
-    FreeVirtual { v: u32 },
-    Commit { cut: Cut },
-    SaveBlock { b: u32, block: &'b [u8], cut: Cut },
-    SavePacket { b: u32, packet: &'b [u8], cut: Cut },
-    SparePacket { b: u32, packet: &'b [u8], cut: Cut },
+    /// [`Open::save_virtual_cut`].
+    SaveVirtual {
+        /// The virtual block.
+        v: u32,
+        /// Its 2,048 bytes.
+        block: &'b [u8],
+        /// Where the power fails.
+        cut: Cut,
+    },
+    /// [`Open::free_virtual`].
+    FreeVirtual {
+        /// The virtual block.
+        v: u32,
+    },
+    /// [`Open::commit_cut`].
+    Commit {
+        /// Where the power fails.
+        cut: Cut,
+    },
+    /// [`Open::save_block_cut`].
+    SaveBlock {
+        /// The logical block.
+        b: u32,
+        /// Its 2,048 bytes.
+        block: &'b [u8],
+        /// Where the power fails.
+        cut: Cut,
+    },
+    /// [`Open::save_packet_cut`].
+    SavePacket {
+        /// The packet's first logical block.
+        b: u32,
+        /// Its 65,536 bytes.
+        packet: &'b [u8],
+        /// Where the power fails.
+        cut: Cut,
+    },
+    /// [`Open::spare_packet_cut`].
+    SparePacket {
+        /// The packet's first logical block.
+        b: u32,
+        /// Its 65,536 bytes.
+        packet: &'b [u8],
+        /// Where the power fails.
+        cut: Cut,
+    },
+    /// [`Open::open_again`].
     Open,
 }
 
@@ -103,11 +179,85 @@ pub struct Ran {
     pub replies: Vec<Result<(), Error>>,
 }
 
-/// An open disc: the lent disc, its table and its record.
-pub struct Open<'a> {
-    disc: Disc<'a>,
+/// What an opening found: the lent table, and the record that goes with it.
+struct Found {
     table: Vec<u32>,
     record: Record,
+}
+
+impl Found {
+    fn entries(&self) -> &[u32] {
+        let count = self.record.entries() as usize;
+        let places = match self.record.held {
+            Held::WriteOnce { .. } => count,
+            Held::Rewritable { .. } => count.saturating_mul(2),
+        };
+        // a resumed record may name more than there are
+        self.table.get(..places).unwrap_or(&self.table)
+    }
+
+    fn read(&self, disc: DiscRef, number: u32) -> Result<[u8; SECTOR], Error> {
+        let mut out = [0; SECTOR];
+        let record = self.record.numbers();
+        let DiscRef { bytes, marks, maps, start, length } = disc;
+        Error::check(calls::read(bytes, marks, maps, start, length, &self.table, &record, number, &mut out))?;
+        Ok(out)
+    }
+
+    fn fullness(&self, disc: DiscRef) -> Result<u32, Error> {
+        let mut result = [0];
+        let record = self.record.numbers();
+        let DiscRef { bytes, marks, maps, start, length } = disc;
+        Error::check(calls::fullness(bytes, marks, maps, start, length, &self.table, &record, &mut result))?;
+        Ok(result[0])
+    }
+}
+
+/// A disc that was opened to be read: the lent disc, its table and its record.
+pub struct OpenRef<'a> {
+    disc: DiscRef<'a>,
+    found: Found,
+}
+
+impl<'a> OpenRef<'a> {
+    /// The record that the opening handed back.
+    pub fn record(&self) -> Record {
+        self.found.record
+    }
+
+    /// The entries of the VAT, or original and mapped by turns of the sparing table.
+    pub fn table(&self) -> &[u32] {
+        self.found.entries()
+    }
+
+    /// The disc.
+    pub fn disc(&self) -> DiscRef<'a> {
+        self.disc
+    }
+
+    /// Reads a block: a virtual one of a write-once disc, a logical one of a rewritable disc.
+    pub fn read(&self, number: u32) -> Result<[u8; SECTOR], Error> {
+        self.found.read(self.disc, number)
+    }
+
+    /// How full a write-once disc is, per mille.
+    pub fn fullness(&self) -> Result<u32, Error> {
+        self.found.fullness(self.disc)
+    }
+
+    /// The logical blocks that were passed over and may be a newer VAT than the one that was found, as [`possible_icbs`] finds them.
+    pub fn possible_icbs(&self) -> Vec<u32> {
+        possible_icbs(self.disc.bytes, self.disc.marks, self.disc.start, self.found.record)
+    }
+}
+
+/// An open disc: the lent disc, its table and its record.
+///
+/// A call that writes can be run with a cut, a power failure at one of its sector writes, by its name that ends in `_cut`; after one the
+/// disc has to be opened again.
+pub struct Open<'a> {
+    disc: Disc<'a>,
+    found: Found,
     is_down: bool,
 }
 
@@ -117,23 +267,17 @@ impl<'a> Open<'a> {
     pub fn resume(disc: Disc<'a>, table: &[u32], record: Record) -> Open<'a> {
         let mut places = table.to_vec();
         places.resize(table.len().max(MOST_ENTRIES), 0);
-        Open { disc, table: places, record, is_down: false }
+        Open { disc, found: Found { table: places, record }, is_down: false }
     }
 
     /// The record last handed back.
     pub fn record(&self) -> Record {
-        self.record
+        self.found.record
     }
 
     /// The entries of the VAT, or original and mapped by turns of the sparing table.
     pub fn table(&self) -> &[u32] {
-        let count = self.record.entries() as usize;
-        let places = match self.record.held {
-            Held::WriteOnce { .. } => count,
-            Held::Rewritable { .. } => count.saturating_mul(2),
-        };
-        // a resumed record may name more than there are
-        self.table.get(..places).unwrap_or(&self.table)
+        self.found.entries()
     }
 
     /// The disc.
@@ -148,7 +292,7 @@ impl<'a> Open<'a> {
 
     /// Opens the disc again: what was saved on a write-once disc and not committed is gone.
     pub fn open_again(&mut self) -> Result<(), Error> {
-        self.record = open_into(&self.disc, &mut self.table)?;
+        self.found.record = self.disc.to_read().open_into(&mut self.found.table)?;
         self.is_down = false;
         Ok(())
     }
@@ -163,7 +307,7 @@ impl<'a> Open<'a> {
 
     /// The result of a writing call, and the record that it handed back.
     fn settle(&mut self, number: u32, record: [u32; 5]) -> Result<(), Error> {
-        self.record = Record::from_numbers(record);
+        self.found.record = Record::from_numbers(record);
         let answer = Error::check(number);
         self.is_down = answer == Err(Error::Cut);
         answer
@@ -172,25 +316,24 @@ impl<'a> Open<'a> {
     /// Reads a block: a virtual one of a write-once disc, a logical one of a rewritable disc.
     pub fn read(&self, number: u32) -> Result<[u8; SECTOR], Error> {
         self.need_power()?;
-        let mut out = [0; SECTOR];
-        Error::check(calls::read(
-            self.disc.bytes,
-            self.disc.marks,
-            self.disc.maps,
-            self.disc.start,
-            self.disc.length,
-            &self.table,
-            &self.record.numbers(),
-            number,
-            &mut out,
-        ))?;
-        Ok(out)
+        self.found.read(self.disc.to_read(), number)
+    }
+
+    /// How full a write-once disc is, per mille.
+    pub fn fullness(&self) -> Result<u32, Error> {
+        self.need_power()?;
+        self.found.fullness(self.disc.to_read())
     }
 
     /// Saves a virtual block; the number N adds one.
-    pub fn save_virtual(&mut self, v: u32, block: &[u8], cut: Cut) -> Result<(), Error> {
+    pub fn save_virtual(&mut self, v: u32, block: &[u8]) -> Result<(), Error> {
+        self.save_virtual_cut(v, block, Cut::NONE)
+    }
+
+    /// [`Open::save_virtual`] with a cut.
+    pub fn save_virtual_cut(&mut self, v: u32, block: &[u8], cut: Cut) -> Result<(), Error> {
         self.need_power()?;
-        let mut record = self.record.numbers();
+        let mut record = self.found.record.numbers();
         let (at, effect) = cut.numbers();
         let number = calls::save_virtual(
             self.disc.bytes,
@@ -198,7 +341,7 @@ impl<'a> Open<'a> {
             self.disc.maps,
             self.disc.start,
             self.disc.length,
-            &mut self.table,
+            &mut self.found.table,
             &mut record,
             v,
             block,
@@ -211,14 +354,14 @@ impl<'a> Open<'a> {
     /// Frees a virtual block.
     pub fn free_virtual(&mut self, v: u32) -> Result<(), Error> {
         self.need_power()?;
-        let mut record = self.record.numbers();
+        let mut record = self.found.record.numbers();
         let number = calls::free_virtual(
             self.disc.bytes,
             self.disc.marks,
             self.disc.maps,
             self.disc.start,
             self.disc.length,
-            &mut self.table,
+            &mut self.found.table,
             &mut record,
             v,
         );
@@ -226,9 +369,14 @@ impl<'a> Open<'a> {
     }
 
     /// Commits what was saved and freed on a write-once disc.
-    pub fn commit(&mut self, cut: Cut) -> Result<(), Error> {
+    pub fn commit(&mut self) -> Result<(), Error> {
+        self.commit_cut(Cut::NONE)
+    }
+
+    /// [`Open::commit`] with a cut.
+    pub fn commit_cut(&mut self, cut: Cut) -> Result<(), Error> {
         self.need_power()?;
-        let mut record = self.record.numbers();
+        let mut record = self.found.record.numbers();
         let (at, effect) = cut.numbers();
         let number = calls::commit(
             self.disc.bytes,
@@ -236,7 +384,7 @@ impl<'a> Open<'a> {
             self.disc.maps,
             self.disc.start,
             self.disc.length,
-            &self.table,
+            &self.found.table,
             &mut record,
             at,
             effect,
@@ -245,9 +393,14 @@ impl<'a> Open<'a> {
     }
 
     /// Saves a logical block of a rewritable disc.
-    pub fn save_block(&mut self, b: u32, block: &[u8], cut: Cut) -> Result<(), Error> {
+    pub fn save_block(&mut self, b: u32, block: &[u8]) -> Result<(), Error> {
+        self.save_block_cut(b, block, Cut::NONE)
+    }
+
+    /// [`Open::save_block`] with a cut.
+    pub fn save_block_cut(&mut self, b: u32, block: &[u8], cut: Cut) -> Result<(), Error> {
         self.need_power()?;
-        let mut record = self.record.numbers();
+        let mut record = self.found.record.numbers();
         let (at, effect) = cut.numbers();
         let number = calls::save_block(
             self.disc.bytes,
@@ -255,7 +408,7 @@ impl<'a> Open<'a> {
             self.disc.maps,
             self.disc.start,
             self.disc.length,
-            &self.table,
+            &self.found.table,
             &mut record,
             b,
             block,
@@ -266,9 +419,14 @@ impl<'a> Open<'a> {
     }
 
     /// Saves the packet that begins at a logical block.
-    pub fn save_packet(&mut self, b: u32, packet: &[u8], cut: Cut) -> Result<(), Error> {
+    pub fn save_packet(&mut self, b: u32, packet: &[u8]) -> Result<(), Error> {
+        self.save_packet_cut(b, packet, Cut::NONE)
+    }
+
+    /// [`Open::save_packet`] with a cut.
+    pub fn save_packet_cut(&mut self, b: u32, packet: &[u8], cut: Cut) -> Result<(), Error> {
         self.need_power()?;
-        let mut record = self.record.numbers();
+        let mut record = self.found.record.numbers();
         let (at, effect) = cut.numbers();
         let number = calls::save_packet(
             self.disc.bytes,
@@ -276,7 +434,7 @@ impl<'a> Open<'a> {
             self.disc.maps,
             self.disc.start,
             self.disc.length,
-            &self.table,
+            &self.found.table,
             &mut record,
             b,
             packet,
@@ -287,9 +445,14 @@ impl<'a> Open<'a> {
     }
 
     /// Spares the packet that begins at a logical block: its bytes go to a free spare.
-    pub fn spare_packet(&mut self, b: u32, packet: &[u8], cut: Cut) -> Result<(), Error> {
+    pub fn spare_packet(&mut self, b: u32, packet: &[u8]) -> Result<(), Error> {
+        self.spare_packet_cut(b, packet, Cut::NONE)
+    }
+
+    /// [`Open::spare_packet`] with a cut.
+    pub fn spare_packet_cut(&mut self, b: u32, packet: &[u8], cut: Cut) -> Result<(), Error> {
         self.need_power()?;
-        let mut record = self.record.numbers();
+        let mut record = self.found.record.numbers();
         let (at, effect) = cut.numbers();
         let number = calls::spare_packet(
             self.disc.bytes,
@@ -297,7 +460,7 @@ impl<'a> Open<'a> {
             self.disc.maps,
             self.disc.start,
             self.disc.length,
-            &mut self.table,
+            &mut self.found.table,
             &mut record,
             b,
             packet,
@@ -306,30 +469,25 @@ impl<'a> Open<'a> {
         );
         self.settle(number, record)
     }
-
-    /// How full a write-once disc is, per mille.
-    pub fn fullness(&self) -> Result<u32, Error> {
-        self.need_power()?;
-        let mut result = [0];
-        Error::check(calls::fullness(
-            self.disc.bytes,
-            self.disc.marks,
-            self.disc.maps,
-            self.disc.start,
-            self.disc.length,
-            &self.table,
-            &self.record.numbers(),
-            &mut result,
-        ))?;
-        Ok(result[0])
-    }
 }
 
 /// What a map list tells of a volume.
 #[derive(Clone, Debug, PartialEq, Eq)]
 pub enum Maps {
-    WriteOnce { partition: u16 },
-    Rewritable { partition: u16, table_bytes: u32, tables: Vec<u32> },
+    /// A write-once volume.
+    WriteOnce {
+        /// The partition number.
+        partition: u16,
+    },
+    /// A rewritable volume.
+    Rewritable {
+        /// The partition number.
+        partition: u16,
+        /// The bytes of each sparing table.
+        table_bytes: u32,
+        /// The sectors of the sparing tables.
+        tables: Vec<u32>,
+    },
 }
 
 /// Reads a map list.

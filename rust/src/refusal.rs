@@ -5,26 +5,47 @@ use std::fmt;
 /// A line of document 01 by which a call is turned down.
 #[derive(Clone, Copy, Debug, PartialEq, Eq)]
 pub enum Refusal {
+    /// The lent disc has no shape of a disc.
     DiscShape,
+    /// The partition is empty or not on the disc.
     SpanOutside,
+    /// Something lent has the wrong length.
     LentLength,
+    /// A map is cut short.
     MapCut,
+    /// The map list is of neither kind of volume.
     NeitherKind,
+    /// A rewritable disc's partition, tables or spares do not lie in packets of their own.
     Misaligned,
+    /// The call is for the other kind of disc.
     OtherKind,
+    /// The disc has no VAT, or no sparing table.
     NoTable,
+    /// The VAT has too many entries.
     TooManyEntries,
+    /// The newest copies of the sparing table differ.
     CopiesDiffer,
+    /// The record does not go with the disc.
     StaleRecord,
+    /// There is no such block or packet.
     NumberOutside,
+    /// The block is unused.
     UnusedEntry,
+    /// A sector to be read is not recorded.
     NotRecorded,
+    /// The block would be taken for a VAT.
     PassesAsIcb,
+    /// The disc is full.
     NoRoom,
+    /// The disc has one sparing table only, which is not enough to spare.
     OneTable,
+    /// The packet is spared already.
     AlreadySpared,
+    /// No spare is free.
     NoSpare,
+    /// The sparing table cannot be written again.
     LastSequence,
+    /// The partition to be made is not blank.
     NotBlank,
 }
 

@@ -1,25 +1,43 @@
-//! The commands of the tool, and how they end: status 0, 1 where the layer turned a call down, 2 for a wrong command line or a file that
-//! cannot be read or written.
+//! The commands of the tool, and how they end: status 0, 1 where the layer turned a call down or the answer is no, 2 for a wrong command
+//! line or a file that cannot be read or written, 3 where the power was cut.
 
 mod args;
 mod commands;
+mod commits;
 mod demo;
-mod image;
+mod diff;
+mod export;
+mod found;
+mod info;
+mod json;
+mod media;
+mod passed;
 mod picture;
+mod progress;
+mod refused;
+mod report;
+mod room;
+mod states;
+mod summary;
+mod verify;
+mod words;
 
 use args::Args;
 use std::ffi::OsString;
 use std::io::{ErrorKind, Write};
 use std::path::Path;
-use std::time::Instant;
-use tuormik::Error;
+use tuormik::Refusal;
 
 /// Why a command did not come to its end.
 pub enum Failure {
-    /// The layer's answer.
-    Refused(Error),
+    /// The layer turned a call down: the case in a sentence, and the line of document 01.
+    Refused(String, Refusal),
+    /// The power failed in a call.
+    Cut(String),
     /// A wrong command line, or a file that cannot be read or written.
     Usage(String),
+    /// All is said, and this is the status.
+    Told(u8),
     /// Nobody reads the output any more.
     Closed,
 }
@@ -28,11 +46,52 @@ impl Failure {
     fn file(path: &Path, error: &std::io::Error) -> Failure {
         Failure::Usage(format!("{}: {error}", path.display()))
     }
+
+    /// The end of a command that has said all: done where the status is 0.
+    fn told(status: u8) -> Done {
+        if status == 0 {
+            Ok(())
+        } else {
+            Err(Failure::Told(status))
+        }
+    }
+
+    fn status(&self) -> u8 {
+        match self {
+            Failure::Closed => 0,
+            Failure::Refused(..) => 1,
+            Failure::Usage(_) => 2,
+            Failure::Cut(_) => 3,
+            Failure::Told(status) => *status,
+        }
+    }
+
+    /// In a line.
+    fn words(&self) -> String {
+        match self {
+            Failure::Refused(words, why) => format!("{words} (01, line {})", why.number()),
+            Failure::Usage(words) | Failure::Cut(words) => words.clone(),
+            Failure::Told(_) | Failure::Closed => String::new(),
+        }
+    }
+
+    /// Says it on the standard error, a refusal with its line of document 01, and gives the status.
+    fn tell(&self) -> u8 {
+        let words = match self {
+            Failure::Refused(words, why) => format!("{words}\nturned down: {why}"),
+            Failure::Told(_) | Failure::Closed => return self.status(),
+            Failure::Usage(_) | Failure::Cut(_) => self.words(),
+        };
+        // where nobody reads the messages there is nothing more to say
+        let _ = writeln!(std::io::stderr(), "tuormik: {words}");
+        self.status()
+    }
 }
 
-impl From<Error> for Failure {
-    fn from(error: Error) -> Failure {
-        Failure::Refused(error)
+impl From<tuormik::image::Error> for Failure {
+    fn from(error: tuormik::image::Error) -> Failure {
+        let hint = if matches!(error, tuormik::image::Error::Exists { .. }) { " (--force replaces it)" } else { "" };
+        Failure::Usage(format!("{error}{hint}"))
     }
 }
 
@@ -73,16 +132,29 @@ const CUT_HELP: &str = "
   --cut WRITE:EFFECT   the power fails at this sector write, counted from 1, which becomes old, unreadable or whole
 ";
 
-const ENTRIES: [Entry; 11] = [
+const ENTRIES: [Entry; 15] = [
     Entry {
         name: "info",
         line: "what kind of disc this is, and how full",
-        help: "tuormik info IMAGE
+        help: "tuormik info IMAGE.. [--json]
 
-Opens the disc and tells its kind, S, L, and the record: N, NWA, the last VAT ICB, how many sectors were passed over, and how full the
-disc is; of a rewritable disc R, the sequence, and the spares.
+Opens the disc of each image and tells its kind, how many blocks are used, how many more fit and how full it is, then in the letters of
+document 01 S, L, N, NWA, the last VAT ICB, how many sectors were passed over, and what they are; of a rewritable disc R, the sequence,
+and the spares.
+  --json               a JSON list with an object an image, its numbers without commas
 ",
-        run: commands::info,
+        run: info::info,
+    },
+    Entry {
+        name: "verify",
+        line: "whether images are clean",
+        help: "tuormik verify IMAGE..
+
+Opens the disc of each image and reads every block that is used. A line an image says that it is clean, or what is wrong: it does not open;
+opening passed over sectors above the last commit; blocks that are used cannot be read; a copy of the sparing table is not current. The
+last line counts them. The status is 1 where one is not clean.
+",
+        run: verify::verify,
     },
     Entry {
         name: "list",
@@ -90,17 +162,21 @@ disc is; of a rewritable disc R, the sequence, and the spares.
         help: "tuormik list IMAGE [--all]
 
 Lists the blocks. Write-once: a line for each virtual block, with its logical block and its sector. Rewritable: a line for each packet
-that is spared or has a sector that is not recorded, and with --all for every packet.
+that is spared or has a sector that is not recorded.
+  --all                a line for every packet
 ",
         run: commands::list,
     },
     Entry {
         name: "read",
         line: "the bytes of blocks",
-        help: "tuormik read IMAGE NUMBER [COUNT] [--output FILE] [--hex]
+        help: "tuormik read IMAGE NUMBER [COUNT] [--at ICB] [--output FILE] [--hex]
 
 Reads COUNT blocks (1) from NUMBER on: virtual blocks of a write-once disc, logical ones of a rewritable disc. Their bytes go to FILE or to
-the standard output; with --hex as text.
+the standard output.
+  --at ICB             as the commit left them whose VAT ICB is at this logical block ('tuormik history' lists them)
+  --output FILE, -o    where the bytes go
+  --hex                as text, sixteen bytes a line
 ",
         run: commands::read,
     },
@@ -110,9 +186,10 @@ the standard output; with --hex as text.
         help: "tuormik save IMAGE NUMBER FILE [--no-commit] [--packet]
 
 Saves the bytes of FILE ('-': the standard input) as blocks from NUMBER on; the last one is filled up with zeros. On a write-once disc
-NUMBER may be 'new', which adds blocks, and a commit follows; without it what was saved is not found again. On a rewritable disc --packet
-saves whole packets, and so heals unreadable ones.
+NUMBER may be 'new', which adds blocks, and a commit follows; without it what was saved is not found again.
   --no-commit          no commit after the saves
+  --packet             whole packets of a rewritable disc, all 32 blocks of each replaced: FILE has 65,536 bytes for each
+  --force              commits also where a sector that was passed over may be a newer VAT
 ",
         run: commands::save,
     },
@@ -122,6 +199,7 @@ saves whole packets, and so heals unreadable ones.
         help: "tuormik free IMAGE NUMBER [COUNT]
 
 Frees COUNT virtual blocks (1) of a write-once disc from NUMBER on, and commits.
+  --force              commits also where a sector that was passed over may be a newer VAT
 ",
         run: commands::free,
     },
@@ -131,6 +209,7 @@ Frees COUNT virtual blocks (1) of a write-once disc from NUMBER on, and commits.
         help: "tuormik commit IMAGE
 
 Opens a write-once disc and commits the table that was found: the disc then ends with its VAT ICB, and opening passes over nothing.
+  --force              commits also where a sector that was passed over may be a newer VAT
 ",
         run: commands::commit,
     },
@@ -148,19 +227,63 @@ from the disc.
     Entry {
         name: "make",
         line: "a new disc",
-        help: "tuormik make IMAGE --sectors N (--write-once | --tables T,..) [--start S] [--length L] [--spares M,..]
+        help: "tuormik make IMAGE --media cdr|cdrw [--sectors N]
+tuormik make IMAGE --sectors N (--write-once | --tables T,..) [--start S] [--length L] [--spares M,..]
 
 Makes a disc of N sectors and writes it to IMAGE, which must not be there yet. The partition starts at S (288) and has L sectors (to the
 end of the disc). Where sectors 256 to 259 are free, descriptors are put there that tell the volume, so that the other commands find it;
 they make no file system.
+  --sectors N          the number of sectors
+  --media cdr          a write-once disc of 333,000 sectors, or of N
+  --media cdrw         a rewritable disc of 273,216 sectors, or of N, with four sparing tables, two before the partition and two after it, and
+                       one packet in 128 a spare, half of them on either side
+  --write-once         a write-once disc
   --tables T,..        sparing tables of a rewritable disc, at these sectors
   --table-bytes N      the bytes of each table (2,048)
   --spares M,..        packets to which others can be spared, by their first sectors
+  --start S            the partition's first sector
+  --length L           its number of sectors
   --partition N        the partition number (0)
+  --maps FILE          the map list itself
+  --marks FILE         where the marks go, if they need a file (IMAGE.marks)
   --no-descriptors     no descriptors
-  --force              replaces IMAGE where it is there
+  --force              replaces IMAGE, and its marks file, where they are there
 ",
         run: commands::make,
+    },
+    Entry {
+        name: "export",
+        line: "all blocks, as files of a folder",
+        help: "tuormik export IMAGE FOLDER [--at ICB]
+
+Writes each block as a file into FOLDER, which must be empty or not there yet, and a list, list.csv, with each block's number, its logical
+block, its sector, its state and its file. Blocks that are unused or cannot be read are listed and skipped. The list is written last, so
+where it stands the export came to its end.
+  --at ICB             as the commit left them whose VAT ICB is at this logical block ('tuormik history' lists them)
+",
+        run: export::export,
+    },
+    Entry {
+        name: "diff",
+        line: "which blocks of two discs differ",
+        help: "tuormik diff A B
+
+Holds the blocks of two images against each other, by their numbers, and tells which differ, appeared (in B alone) or went (in A alone), and
+which cannot be read. A and B are images, or IMAGE@ICB for the disc as the commit left it whose VAT ICB is at that logical block. The
+status is 0 where all are alike and 1 where not. A volume given by hand is that of both; --marks does not go with two images.
+",
+        run: diff::diff,
+    },
+    Entry {
+        name: "report",
+        line: "a page about a disc",
+        help: "tuormik report IMAGE [--output FILE]
+
+Writes a page (HTML, whole in itself) to the standard output or to FILE: whether the disc is clean, what 'tuormik info' tells, its picture,
+its history and its blocks.
+  --output FILE, -o    where the page goes
+",
+        run: report::report,
     },
     Entry {
         name: "history",
@@ -177,7 +300,8 @@ before.
         line: "a picture of the disc",
         help: "tuormik map IMAGE PICTURE
 
-Draws the sectors of the disc: blank, recorded, unreadable, VAT ICBs, sparing tables, spares. PICTURE ends in .svg or .ppm.
+Draws the sectors of the disc, row by row: blank, recorded, live (a block of the current table), unreadable, VAT ICBs, sparing tables, spares,
+and a line around the partition. Where the disc is turned down it is drawn from its marks alone. PICTURE ends in .svg or .ppm.
 ",
         run: commands::map,
     },
@@ -186,12 +310,27 @@ Draws the sectors of the disc: blank, recorded, unreadable, VAT ICBs, sparing ta
         line: "the power cut at every write of a commit and of a sparing",
         help: "tuormik demo
 
-Makes discs in memory, cuts the power at every sector write of a commit and of a sparing in turn, with each effect, and shows after each
-that the blocks are found again.
+Makes discs in memory, cuts the power at every sector write of a commit and of a sparing in turn, with each effect, opens the disc again and
+reads every block. Writes that came to the same are told in one line.
 ",
         run: demo::demo,
     },
 ];
+
+const ENDING: &str = "
+'tuormik COMMAND --help' tells the rest, 'tuormik --version' which version this is. Numbers are taken as 4096, 4,096 or 0x1000; in lists,
+where commas stand between numbers, without commas in them.
+Status:
+  0  done
+  1  turned down (the message gives the line of document 01), or the answer is no: not clean, or different
+  2  a wrong command line, or a file that cannot be read or written
+  3  the power was cut, as --cut asked; the image was stored as the cut left it
+";
+
+fn version() -> String {
+    let layer = if cfg!(feature = "stand-in") { " (the plain implementation in the place of the proved library)" } else { "" };
+    format!("tuormik {}{layer}\n", env!("CARGO_PKG_VERSION"))
+}
 
 fn help() -> String {
     let mut text =
@@ -199,10 +338,7 @@ fn help() -> String {
     for entry in &ENTRIES {
         text.push_str(&format!("  {:<9}{}\n", entry.name, entry.line));
     }
-    text.push_str(
-        "\n'tuormik COMMAND --help' tells the rest. Status: 0 done, 1 turned down (the message gives the line of document 01), 2 a wrong \
-         command line or file.\n",
-    );
+    text.push_str(ENDING);
     text
 }
 
@@ -213,6 +349,10 @@ fn dispatch(mut words: impl Iterator<Item = OsString>, out: &mut dyn Write) -> D
     let name = name.to_string_lossy();
     if ["--help", "-h", "help"].contains(&name.as_ref()) {
         out.write_all(help().as_bytes())?;
+        return Ok(());
+    }
+    if name == "--version" {
+        out.write_all(version().as_bytes())?;
         return Ok(());
     }
     let Some(entry) = ENTRIES.iter().find(|entry| entry.name == name) else {
@@ -226,6 +366,7 @@ fn dispatch(mut words: impl Iterator<Item = OsString>, out: &mut dyn Write) -> D
         }
         if !["make", "demo"].contains(&entry.name) {
             out.write_all(VOLUME_HELP.as_bytes())?;
+            out.write_all(tuormik::image::MARKS_FORMAT.as_bytes())?;
         }
         return Ok(());
     }
@@ -240,45 +381,19 @@ fn dispatch(mut words: impl Iterator<Item = OsString>, out: &mut dyn Write) -> D
 pub fn run(words: impl Iterator<Item = OsString>) -> u8 {
     let mut out = std::io::BufWriter::new(std::io::stdout());
     let done = dispatch(words, &mut out).and_then(|()| out.flush().map_err(Failure::from));
-    let (words, status) = match done {
-        Ok(()) | Err(Failure::Closed) => return 0,
-        Err(Failure::Refused(error @ Error::Refused(_))) => (format!("turned down: {error}"), 1),
-        Err(Failure::Refused(error)) => (error.to_string(), 1),
-        Err(Failure::Usage(words)) => (words, 2),
-    };
     let _ = out.flush();
-    // where nobody reads the messages there is nothing more to say
-    let _ = writeln!(std::io::stderr(), "tuormik: {words}");
-    status
+    done.map_or_else(|failure| failure.tell(), |()| 0)
 }
 
-/// A line on the terminal for work that takes long.
-pub struct Progress {
-    what: &'static str,
-    shown: Instant,
-    is_shown: bool,
-}
+#[cfg(test)]
+mod tests {
+    use super::*;
 
-impl Progress {
-    pub fn new(what: &'static str) -> Progress {
-        Progress { what, shown: Instant::now(), is_shown: false }
-    }
-
-    pub fn tell(&mut self, done: usize, of: usize) {
-        use std::io::IsTerminal;
-        if self.shown.elapsed().as_millis() < 500 || !std::io::stderr().is_terminal() {
-            return;
-        }
-        self.shown = Instant::now();
-        self.is_shown = true;
-        let _ = write!(std::io::stderr(), "\r{}: {done} of {of} ", self.what);
-    }
-}
-
-impl Drop for Progress {
-    fn drop(&mut self) {
-        if self.is_shown {
-            let _ = write!(std::io::stderr(), "\r{:60}\r", "");
+    #[test]
+    fn every_option_has_help() {
+        let texts: Vec<&str> = ENTRIES.iter().map(|entry| entry.help).chain([VOLUME_HELP, CUT_HELP, ENDING]).collect();
+        for option in args::FLAGS.iter().chain(&args::VALUES) {
+            assert!(*option == "--help" || texts.iter().any(|text| text.contains(&format!("  {option} "))), "{option}");
         }
     }
 }

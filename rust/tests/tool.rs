@@ -1,81 +1,13 @@
 //! The tool, run as a program: what it prints, its status, and what becomes of the files.
 
-use std::path::{Path, PathBuf};
-use std::process::{Command, Output, Stdio};
+mod folder;
 
-/// A folder of one test.
-struct Folder(PathBuf);
+use folder::{has, Folder};
+use std::path::Path;
+use std::process::Stdio;
 
-impl Folder {
-    fn new(name: &str) -> Folder {
-        let path = std::env::temp_dir().join(format!("tuormik-{name}-{}", std::process::id()));
-        let _ = std::fs::remove_dir_all(&path);
-        std::fs::create_dir_all(&path).expect("a folder");
-        Folder(path)
-    }
-
-    fn command(&self, words: &[&str]) -> Command {
-        let mut command = Command::new(env!("CARGO_BIN_EXE_tuormik"));
-        command.args(words).current_dir(&self.0).stdin(Stdio::null());
-        command
-    }
-
-    fn run(&self, words: &[&str]) -> (i32, String, String) {
-        let Output { status, stdout, stderr } = self.command(words).output().expect("the tool runs");
-        let text = |bytes| String::from_utf8_lossy(bytes).into_owned();
-        let (out, err) = (text(&stdout), text(&stderr));
-        assert!(!err.contains("panicked"), "{words:?}: {err}");
-        (status.code().expect("a status"), out, err)
-    }
-
-    /// Runs it and expects status 0.
-    fn does(&self, words: &[&str]) -> String {
-        let (status, out, err) = self.run(words);
-        assert_eq!(status, 0, "{words:?}: {err}");
-        out
-    }
-
-    /// Runs it and expects a refusal by a line of 01.
-    fn refuses(&self, line: u32, words: &[&str]) {
-        let (status, _, err) = self.run(words);
-        assert_eq!(status, 1, "{words:?}: {err}");
-        assert!(err.contains(&format!("(01, line {line})")), "{words:?}: {err}");
-    }
-
-    fn usage(&self, words: &[&str]) {
-        let (status, out, err) = self.run(words);
-        assert_eq!((status, out.as_str()), (2, ""), "{words:?}");
-        assert!(err.starts_with("tuormik: "), "{words:?}: {err}");
-    }
-
-    fn write(&self, name: &str, bytes: &[u8]) {
-        std::fs::write(self.0.join(name), bytes).expect("a file");
-    }
-
-    fn bytes(&self, name: &str) -> Vec<u8> {
-        std::fs::read(self.0.join(name)).expect("a file")
-    }
-
-    fn names(&self) -> Vec<String> {
-        let entries = std::fs::read_dir(&self.0).expect("a folder");
-        let mut names: Vec<String> = entries.map(|e| e.expect("an entry").file_name().to_string_lossy().into_owned()).collect();
-        names.sort();
-        names
-    }
-}
-
-impl Drop for Folder {
-    fn drop(&mut self) {
-        let _ = std::fs::remove_dir_all(&self.0);
-    }
-}
-
-fn has(text: &str, line: &str) {
-    let squeezed = |l: &str| l.split_whitespace().collect::<Vec<_>>().join(" ");
-    assert!(text.lines().any(|l| squeezed(l) == line), "'{line}' is not in\n{text}");
-}
-
-const COMMANDS: [&str; 11] = ["info", "list", "read", "save", "free", "commit", "spare", "make", "history", "map", "demo"];
+const COMMANDS: [&str; 15] =
+    ["info", "verify", "list", "read", "save", "free", "commit", "spare", "make", "export", "diff", "report", "history", "map", "demo"];
 
 #[test]
 fn every_command_has_help() {
@@ -90,10 +22,13 @@ fn every_command_has_help() {
     folder.usage(&["dance"]);
     for command in COMMANDS {
         folder.usage(&[command, "--no-such-option"]);
-        folder.usage(&[command, "a", "b", "c", "d", "e"]);
+        if !["info", "verify"].contains(&command) {
+            folder.usage(&[command, "a", "b", "c", "d", "e"]);
+        }
         if command != "demo" {
             folder.usage(&[command]);
-            folder.usage(&[command, "no-such-image", "0", "no-such-file"]);
+            let (status, ..) = folder.run(&[command, "no-such-image", "0", "no-such-file"]);
+            assert_eq!(status, if command == "verify" { 1 } else { 2 }, "{command}");
         }
     }
 }
@@ -128,11 +63,12 @@ fn a_write_once_disc_lives() {
     folder.refuses(12, &["save", "d.img", "4", "text"]);
     folder.refuses(7, &["spare", "d.img", "0"]);
     folder.refuses(3, &["spare", "d.img", "0", "text"]);
-    folder.refuses(7, &["save", "d.img", "0", "text", "--packet"]);
+    folder.write("packet", &[7; 65_536]);
+    folder.refuses(7, &["save", "d.img", "0", "packet", "--packet"]);
     let history = folder.does(&["history", "d.img"]);
     assert_eq!(history.lines().count(), 5, "{history}");
     // everything is still told by the rule, so no marks file and nothing else is there
-    assert_eq!(folder.names(), ["d.img", "out", "text", "two"]);
+    assert_eq!(folder.names(), ["d.img", "out", "packet", "text", "two"]);
 }
 
 #[test]
@@ -147,8 +83,7 @@ fn what_is_not_committed_is_passed_over() {
     has(&folder.does(&["commit", "d.img"]), "committed: N 0, NWA 3, last ICB 2");
     assert!(!folder.does(&["info", "d.img"]).contains("warning"));
     // a commit that is cut: the image is the disc as the cut left it
-    let (status, _, err) = folder.run(&["save", "d.img", "new", "text", "--cut", "1:unreadable"]);
-    assert_eq!((status, err.as_str()), (1, "tuormik: The power failed in the call.\n"));
+    folder.is_cut(&["save", "d.img", "new", "text", "--cut", "1:unreadable"], "write 1 of the commit, which became unreadable");
     has(&folder.does(&["info", "d.img"]), "passed over 2");
     assert!(folder.names().contains(&"d.img.marks".to_string()));
 }
@@ -165,10 +100,7 @@ fn a_block_of_zeros_needs_a_marks_file() {
     folder.does(&["make", "e.img", "--sectors", "401", "--write-once"]);
     std::fs::copy(folder.0.join("d.img.marks"), folder.0.join("e.img.marks")).expect("a copy");
     folder.usage(&["info", "e.img"]);
-    // those of an image that came to its place before they did are
     folder.does(&["commit", "d.img"]);
-    std::fs::rename(folder.0.join("d.img.marks"), folder.0.join("d.img.marks.new")).expect("a rename");
-    folder.write("d.img.marks", b"tuormik marks\nimage 0\n");
     has(&folder.does(&["info", "d.img"]), "passed over 0");
 }
 
@@ -200,7 +132,7 @@ fn a_rewritable_disc_lives() {
     has(&folder.does(&["info", "d.img"]), "sequence 1");
     let list = folder.does(&["list", "d.img"]);
     has(&list, "32 to 63 96 to 127 spared, 32 recorded, 0 unreadable, 0 blank");
-    has(&list, "1 packets in place, recorded");
+    has(&list, "1 packet in place, recorded");
     folder.refuses(18, &["spare", "d.img", "32"]);
     folder.refuses(12, &["spare", "d.img", "64"]);
     folder.refuses(3, &["spare", "d.img", "0", "text"]);
@@ -208,14 +140,15 @@ fn a_rewritable_disc_lives() {
     folder.refuses(7, &["history", "d.img"]);
     folder.does(&["spare", "d.img", "0"]);
     // a cut save leaves a sector unreadable; saving the packet heals it
-    assert_eq!(folder.run(&["save", "d.img", "3", "text", "--cut", "9:unreadable"]).0, 1);
+    folder.is_cut(&["save", "d.img", "3", "text", "--cut", "9:unreadable"], "write 9 of the save of block 3, which became unreadable");
     folder.refuses(14, &["read", "d.img", "8"]);
     folder.refuses(14, &["save", "d.img", "3", "text"]);
-    folder.does(&["save", "d.img", "0", "text", "--packet"]);
-    assert!(folder.does(&["read", "d.img", "0"]).starts_with("a block"));
+    folder.write("packet", &[b'p'; 65_536]);
+    folder.does(&["save", "d.img", "0", "packet", "--packet"]);
+    assert!(folder.does(&["read", "d.img", "8"]).starts_with("pp"));
     for picture in ["p.svg", "p.ppm"] {
         let words = folder.does(&["map", "d.img", picture]);
-        assert!(words.contains("3 sparing table, 64 used spare"), "{words}");
+        assert!(words.contains("64 used spare, 3 sparing table"), "{words}");
     }
     assert!(folder.bytes("p.svg").starts_with(b"<svg"));
     assert!(folder.bytes("p.ppm").starts_with(b"P6\n"));
@@ -241,9 +174,9 @@ fn volumes_by_hand() {
     folder.write("maps", &[1, 0]);
     folder.refuses(4, &["info", "d.img", "--start", "0", "--length", "20", "--maps", "maps"]);
     folder.write("odd", &[1; 2049]);
-    folder.refuses(1, &["info", "odd", "--start", "0", "--length", "1", "--write-once"]);
+    folder.usage(&["info", "odd", "--start", "0", "--length", "1", "--write-once"]);
     folder.write("empty", &[]);
-    folder.refuses(8, &["info", "empty", "--start", "0", "--length", "1", "--write-once"]);
+    folder.usage(&["info", "empty", "--start", "0", "--length", "1", "--write-once"]);
     folder.refuses(2, &["info", "d.img", "--start", "4294967295", "--length", "4294967295", "--write-once"]);
     assert!(!Path::new(&folder.0.join("e.img")).exists());
 }
@@ -255,13 +188,13 @@ fn an_image_is_replaced_whole_or_not_at_all() {
     folder.does(&["make", "d.img", "--sectors", "400", "--write-once"]);
     folder.write("text", b"one");
     let before = folder.bytes("d.img");
-    // a folder stands where the new image is to be written
-    std::fs::create_dir(folder.0.join("d.img.new")).expect("a folder");
+    // a folder stands where the store is to be told of
+    std::fs::create_dir(folder.0.join("d.img.tuormik-store")).expect("a folder");
     folder.usage(&["save", "d.img", "new", "text"]);
     assert_eq!(folder.bytes("d.img"), before);
-    std::fs::remove_dir(folder.0.join("d.img.new")).expect("a folder");
-    // a half of one that a crash left is written over
-    folder.write("d.img.new", &[9; 100]);
+    std::fs::remove_dir(folder.0.join("d.img.tuormik-store")).expect("a folder");
+    // a half of one that a crash left is removed
+    folder.write("d.img.tuormik-new-7", &[9; 100]);
     folder.does(&["save", "d.img", "new", "text"]);
     assert_eq!(folder.names(), ["d.img", "text"]);
     // a refused call leaves the file alone

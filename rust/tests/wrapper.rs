@@ -1,7 +1,8 @@
 //! The safe wrapper: records, cuts, refusals, lists of calls.
 
 use tuormik::{
-    look_up, read_maps, write_maps, Call, Cut, Disc, Effect, Error, Held, Maps, Open, Record, Refusal, BLANK, NONE, PACKET_BYTES, SECTOR,
+    look_up, read_maps, write_maps, Call, Cut, Disc, DiscRef, Effect, Error, Held, Maps, Open, Record, Refusal, BLANK, NONE, PACKET_BYTES,
+    SECTOR,
 };
 
 struct Memory {
@@ -47,19 +48,19 @@ fn a_write_once_disc() {
     let mut memory = Memory::once();
     let mut open = memory.disc().open().expect("it opens");
     assert_eq!(open.record(), once(0, 1, 0, 0));
-    assert_eq!(open.save_virtual(0, &[1; SECTOR], Cut::NONE), Ok(()));
-    assert_eq!(open.save_virtual(1, &[2; SECTOR], Cut::NONE), Ok(()));
-    assert_eq!(open.save_virtual(3, &[2; SECTOR], Cut::NONE), Err(refused(Refusal::NumberOutside)));
-    assert_eq!(open.save_virtual(2, &[2; 7], Cut::NONE), Err(refused(Refusal::LentLength)));
+    assert_eq!(open.save_virtual(0, &[1; SECTOR]), Ok(()));
+    assert_eq!(open.save_virtual(1, &[2; SECTOR]), Ok(()));
+    assert_eq!(open.save_virtual(3, &[2; SECTOR]), Err(refused(Refusal::NumberOutside)));
+    assert_eq!(open.save_virtual(2, &[2; 7]), Err(refused(Refusal::LentLength)));
     assert_eq!(open.free_virtual(0), Ok(()));
     assert_eq!(open.table(), [NONE, 2]);
     assert_eq!(open.read(0), Err(refused(Refusal::UnusedEntry)));
-    assert_eq!(open.commit(Cut::NONE), Ok(()));
+    assert_eq!(open.commit(), Ok(()));
     assert_eq!(open.record(), once(2, 4, 3, 0));
     assert_eq!(open.fullness(), Ok(80));
-    assert_eq!(open.spare_packet(0, &[0; PACKET_BYTES], Cut::NONE), Err(refused(Refusal::OtherKind)));
-    assert_eq!(open.save_packet(0, &[0; PACKET_BYTES], Cut::NONE), Err(refused(Refusal::OtherKind)));
-    assert_eq!(open.save_block(0, &[0; SECTOR], Cut::NONE), Err(refused(Refusal::OtherKind)));
+    assert_eq!(open.spare_packet(0, &[0; PACKET_BYTES]), Err(refused(Refusal::OtherKind)));
+    assert_eq!(open.save_packet(0, &[0; PACKET_BYTES]), Err(refused(Refusal::OtherKind)));
+    assert_eq!(open.save_block(0, &[0; SECTOR]), Err(refused(Refusal::OtherKind)));
     assert_eq!(open.record(), once(2, 4, 3, 0));
 }
 
@@ -67,17 +68,17 @@ fn a_write_once_disc() {
 fn after_a_cut_the_disc_is_opened_again() {
     let mut memory = Memory::once();
     let mut open = memory.disc().open().expect("it opens");
-    assert_eq!(open.save_virtual(0, &[1; SECTOR], Cut::NONE), Ok(()));
-    assert_eq!(open.commit(Cut::NONE), Ok(()));
-    assert_eq!(open.save_virtual(0, &[2; SECTOR], Cut::at(1, Effect::Unreadable)), Err(Error::Cut));
+    assert_eq!(open.save_virtual(0, &[1; SECTOR]), Ok(()));
+    assert_eq!(open.commit(), Ok(()));
+    assert_eq!(open.save_virtual_cut(0, &[2; SECTOR], Cut::at(1, Effect::Unreadable)), Err(Error::Cut));
     assert_eq!(open.read(0), Err(Error::PowerOff));
-    assert_eq!(open.commit(Cut::NONE), Err(Error::PowerOff));
+    assert_eq!(open.commit(), Err(Error::PowerOff));
     assert_eq!(open.fullness(), Err(Error::PowerOff));
     assert_eq!(open.open_again(), Ok(()));
     assert_eq!(open.record(), once(1, 4, 2, 1));
     assert_eq!(open.read(0), Ok([1; SECTOR]));
     // a cut past the last write is none
-    assert_eq!(open.commit(Cut::at(2, Effect::Old)), Ok(()));
+    assert_eq!(open.commit_cut(Cut::at(2, Effect::Old)), Ok(()));
 }
 
 #[test]
@@ -87,16 +88,16 @@ fn a_rewritable_disc() {
     let record = |sequence| Record { held: Held::Rewritable { entries: 2, sequence }, passed_over: 0 };
     assert_eq!(open.record(), record(0));
     assert_eq!(open.table(), [NONE, 64, NONE, 192]);
-    assert_eq!(open.save_block(33, &[5; SECTOR], Cut::NONE), Ok(()));
-    assert_eq!(open.spare_packet(32, &[6; PACKET_BYTES], Cut::NONE), Ok(()));
+    assert_eq!(open.save_block(33, &[5; SECTOR]), Ok(()));
+    assert_eq!(open.spare_packet(32, &[6; PACKET_BYTES]), Ok(()));
     assert_eq!((open.record(), open.table()), (record(1), [32, 64, NONE, 192].as_slice()));
     assert_eq!(open.read(33), Ok([6; SECTOR]));
-    assert_eq!(open.save_packet(32, &[7; PACKET_BYTES], Cut::at(2, Effect::Whole)), Err(Error::Cut));
+    assert_eq!(open.save_packet_cut(32, &[7; PACKET_BYTES], Cut::at(2, Effect::Whole)), Err(Error::Cut));
     assert_eq!(open.open_again(), Ok(()));
     assert_eq!((open.read(32), open.read(33), open.read(34)), (Ok([7; SECTOR]), Ok([7; SECTOR]), Ok([6; SECTOR])));
-    assert_eq!(open.save_virtual(0, &[0; SECTOR], Cut::NONE), Err(refused(Refusal::OtherKind)));
+    assert_eq!(open.save_virtual(0, &[0; SECTOR]), Err(refused(Refusal::OtherKind)));
     assert_eq!(open.free_virtual(0), Err(refused(Refusal::OtherKind)));
-    assert_eq!(open.commit(Cut::NONE), Err(refused(Refusal::OtherKind)));
+    assert_eq!(open.commit(), Err(refused(Refusal::OtherKind)));
     assert_eq!(open.fullness(), Err(refused(Refusal::OtherKind)));
 }
 
@@ -124,13 +125,30 @@ fn a_list_of_calls() {
     assert_eq!(disc.run(&calls).err(), Some(refused(Refusal::NoTable)));
 }
 
+/// Reading lends nothing to be written: several readers hold one disc at once.
+#[test]
+fn reading_needs_only_shared_slices() {
+    let mut memory = Memory::once();
+    let mut open = memory.disc().open().expect("it opens");
+    assert_eq!(open.save_virtual(0, &[1; SECTOR]), Ok(()));
+    assert_eq!(open.commit(), Ok(()));
+    assert_eq!(open.disc().to_read().open().expect("it opens").read(0), Ok([1; SECTOR]));
+    let Memory { bytes, marks, maps, start, length } = &memory;
+    let disc = DiscRef { bytes, marks, maps, start: *start, length: *length };
+    let (one, other) = (disc.open().expect("it opens"), disc.open().expect("it opens"));
+    assert_eq!(one.record(), once(1, 3, 2, 0));
+    assert_eq!((one.table(), one.read(0), other.read(1)), ([1].as_slice(), Ok([1; SECTOR]), Err(refused(Refusal::NumberOutside))));
+    assert_eq!((one.fullness(), one.possible_icbs()), (Ok(60), vec![]));
+    assert_eq!(DiscRef { length: 0, ..one.disc() }.open().err(), Some(refused(Refusal::SpanOutside)));
+}
+
 #[test]
 fn a_stale_record_is_refused() {
     let mut memory = Memory::once();
     let mut open = Open::resume(memory.disc(), &[], once(0, 9, 0, 0));
-    assert_eq!(open.commit(Cut::NONE), Err(refused(Refusal::StaleRecord)));
+    assert_eq!(open.commit(), Err(refused(Refusal::StaleRecord)));
     let mut open = Open::resume(memory.disc(), &[], once(u32::MAX, 1, 0, 0));
-    assert_eq!(open.commit(Cut::NONE), Err(refused(Refusal::StaleRecord)));
+    assert_eq!(open.commit(), Err(refused(Refusal::StaleRecord)));
     assert_eq!(open.table().len(), 4096);
 }
 

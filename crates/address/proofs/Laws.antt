@@ -9,6 +9,7 @@ use Rattle.refusal.specs.declared.Refusal.{Refusal}
 use Rattle.refusal.specs.declared.Refusal.the-variants.{NumberOutside, UnusedEntry}
 use Rattle.refusal.specs.declared.Verdict.{Verdict}
 use Rattle.refusal.specs.declared.Verdict.the-variants.{Go, Stop}
+use Rattle.refusal.specs.Number.{verdictNumber}
 use Rattle.refusal.specs.Tests.{first, andThen}
 use Rattle.refusal.proofs.Laws.{goes, stops, ne, eq, passed, first-append, stops-all, goes-all, both-go}
 use Rattle.address.specs.declared.VirtualAddress.{VirtualAddress}
@@ -17,7 +18,8 @@ use Rattle.address.specs.declared.PhysicalAddress.{PhysicalAddress}
 use Rattle.address.specs.declared.Span.{Span}
 use Rattle.address.specs.declared.ToLogical.{ToLogical}
 use Rattle.address.specs.declared.ToPhysical.{ToPhysical}
-use Rattle.address.specs.Translation.{none, mostSectors, unlessLogical, unlessPhysical, spanTests, entryTests, blockTests, entryOf, sectorOf, entryNames, logicalOf, physicalOf, physicalOfVirtual}
+use Rattle.address.specs.Translation.{none, mostSectors, unlessLogical, unlessPhysical, spanTests, entryTests, blockTests, entryOf, sectorOf, entryNames, logicalOf, physicalOf, physicalOfVirtual, logicalVerdict, physicalVerdict, virtualVerdict}
+use Rattle.address.specs.Told.{logicalNumber, physicalNumber}
 
 -- equal verdicts make equal answers
 asLogical : {x y : Verdict} (a : LogicalAddress) → x ≡ y → unlessLogical x a ≡ unlessLogical y a
@@ -30,6 +32,29 @@ asPhysical a q = ap (λ (x : Verdict). unlessPhysical x a) q
 given : (x : Verdict) {a p : PhysicalAddress} → unlessPhysical x a ≡ ToPhysical.At p → (x ≡ Go) × (a ≡ p)
 given Go q = (refl, cc)
 given (Stop why) q = let z : _≡_ {A = ℕ} 0 1 = cc in absurd (omega arith)
+
+-- ---- what a caller is told: the number of the first line that applies
+
+logical-number : (x : Verdict) (a : LogicalAddress) → logicalNumber (unlessLogical x a) ≡ verdictNumber x
+logical-number Go a = refl
+logical-number (Stop why) a = refl
+
+physical-number : (x : Verdict) (a : PhysicalAddress) → physicalNumber (unlessPhysical x a) ≡ verdictNumber x
+physical-number Go a = refl
+physical-number (Stop why) a = refl
+
+-- an answer with its number
+pub told-logical : (entries : List ℕ) (v : VirtualAddress) {r : ToLogical} → r ≡ logicalOf entries v → (r ≡ logicalOf entries v) × (logicalNumber r ≡ verdictNumber (logicalVerdict entries v))
+unfolding logicalOf
+told-logical entries v q = (q, ap logicalNumber q ∙ logical-number (logicalVerdict entries v) _)
+
+pub told-physical : (s : Span) (b : LogicalAddress) {r : ToPhysical} → r ≡ physicalOf s b → (r ≡ physicalOf s b) × (physicalNumber r ≡ verdictNumber (physicalVerdict s b))
+unfolding physicalOf
+told-physical s b q = (q, ap physicalNumber q ∙ physical-number (physicalVerdict s b) _)
+
+pub told-virtual : (s : Span) (entries : List ℕ) (v : VirtualAddress) {r : ToPhysical} → r ≡ physicalOfVirtual s entries v → (r ≡ physicalOfVirtual s entries v) × (physicalNumber r ≡ verdictNumber (virtualVerdict s entries v))
+unfolding physicalOfVirtual
+told-virtual s entries v q = (q, ap physicalNumber q ∙ physical-number (virtualVerdict s entries v) _)
 
 -- ---- an entry: the two answers
 

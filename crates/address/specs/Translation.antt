@@ -82,13 +82,21 @@ aboveAt p i = upFrom (record { 0 = p }) i .0
 unfoldable pub entryNames : ℕ → ToLogical
 entryNames x = unlessLogical (first (usedTests x)) (record { 0 = x })
 
+-- why a virtual address is turned down (01, "Why a call is turned down")
+abbrev pub logicalVerdict : List ℕ → VirtualAddress → Verdict
+logicalVerdict entries v = first (entryTests (length entries) entries v)
+
 -- a virtual address, by the entries of a VAT (01, "The disc and its addresses")
 unfoldable pub logicalOf : List ℕ → VirtualAddress → ToLogical
-logicalOf entries v = unlessLogical (first (entryTests (length entries) entries v)) (entryOf entries v)
+logicalOf entries v = unlessLogical (logicalVerdict entries v) (entryOf entries v)
+
+-- why a logical address is turned down (01, "Why a call is turned down")
+abbrev pub physicalVerdict : Span → LogicalAddress → Verdict
+physicalVerdict s b = first (spanTests s ++ blockTests s b)
 
 -- a logical address, on the disc (01, "The disc and its addresses")
 unfoldable pub physicalOf : Span → LogicalAddress → ToPhysical
-physicalOf s b = unlessPhysical (first (spanTests s ++ blockTests s b)) (sectorOf (s .start) b)
+physicalOf s b = unlessPhysical (physicalVerdict s b) (sectorOf (s .start) b)
 
 -- a media block address, on the disc: lent bytes are mapped by no device (01, "The disc and its addresses")
 abbrev pub physicalOfMedia : MediaBlockAddress → PhysicalAddress
@@ -98,9 +106,11 @@ physicalOfMedia m = record { 0 = m .0 }
 abbrev pub physicalOfMapped : ℕ → PhysicalAddress
 physicalOfMapped m = record { 0 = m }
 
+-- why a virtual address is turned down on the way to the disc (01, "Why a call is turned down")
+abbrev pub virtualVerdict : Span → List ℕ → VirtualAddress → Verdict
+virtualVerdict s entries v = first (spanTests s ++ entryTests (length entries) entries v ++ blockTests s (entryOf entries v))
+
 -- a virtual address, on the disc: by the VAT, then by the partition (01, "The disc and its addresses")
 unfoldable pub physicalOfVirtual : Span → List ℕ → VirtualAddress → ToPhysical
 physicalOfVirtual s entries v =
-    unlessPhysical
-    (first (spanTests s ++ entryTests (length entries) entries v ++ blockTests s (entryOf entries v)))
-    (sectorOf (s .start) (entryOf entries v))
+    unlessPhysical (virtualVerdict s entries v) (sectorOf (s .start) (entryOf entries v))

@@ -3,8 +3,10 @@
 // The layers above may count on an answer for every argument: the address, or the first refusal that applies.
 ghost use mathlib.Core.Path.{_≡_};
 ghost use Prim.Native.Nat.{_+_, _<_, _^_};
+ghost use Rattle.refusal.specs.Number.{verdictNumber};
 ghost use Rattle.refusal.specs.Tests.{first};
-ghost use Rattle.address.specs.Translation.{spanTests, sectorOf, upFrom, entryNames, logicalOf, physicalOf, physicalOfMapped, physicalOfMedia, physicalOfVirtual};
+ghost use Rattle.address.specs.Translation.{spanTests, sectorOf, upFrom, entryNames, logicalOf, physicalOf, physicalOfMapped, physicalOfMedia, physicalOfVirtual, logicalVerdict, physicalVerdict, virtualVerdict};
+ghost use Rattle.address.specs.Told.{logicalNumber, physicalNumber};
 use refusal::Refusal;
 use refusal::Verdict;
 
@@ -71,6 +73,7 @@ pub fn entry_to_logical(entry: u32) -> ToLogical
 // The logical address of a virtual one; `entries` are the N entries of the VAT.
 pub fn virtual_to_logical(entries: &[u32], v: VirtualAddress) -> ToLogical
     ensures { λ r. ⌜ r ≡ logicalOf (now (entries .entry)) v ⌝ }
+    ensures { λ r. ⌜ logicalNumber r ≡ verdictNumber (logicalVerdict (now (entries .entry)) v) ⌝ }
 {
     let i = v.0 as usize;
     if entries.len() <= i {
@@ -82,6 +85,7 @@ pub fn virtual_to_logical(entries: &[u32], v: VirtualAddress) -> ToLogical
 // The physical address of a logical one: S + b.
 pub fn logical_to_physical(span: Span, b: LogicalAddress) -> ToPhysical
     ensures { λ r. ⌜ r ≡ physicalOf span b ⌝ }
+    ensures { λ r. ⌜ physicalNumber r ≡ verdictNumber (physicalVerdict span b) ⌝ }
 {
     match judge_span(span) {
         Verdict::Stop(why) => ToPhysical::Refused(why),
@@ -132,6 +136,7 @@ pub fn up_from(first: PhysicalAddress, i: u32) -> PhysicalAddress
 // The span is judged before the entry is looked up, as line 2 stands before lines 12 and 13.
 pub fn virtual_to_physical(span: Span, entries: &[u32], v: VirtualAddress) -> ToPhysical
     ensures { λ r. ⌜ r ≡ physicalOfVirtual span (now (entries .entry)) v ⌝ }
+    ensures { λ r. ⌜ physicalNumber r ≡ verdictNumber (virtualVerdict span (now (entries .entry)) v) ⌝ }
 {
     let verdict = judge_span(span);
     match verdict {

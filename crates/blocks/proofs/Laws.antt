@@ -1,12 +1,14 @@
 -- The calls of both kinds are those of the kind that the map list tells (document 01, "Calls and their sector writes"). Assumes nothing.
 use Prim.Native.Nat.{ℕ, _*_}
 use mathlib.Core.Bool.{Bool, true, false, cond, not}
-use mathlib.Core.Path.{_≡_, sym, ap, ap₂, _∙_}
+use mathlib.Core.Path.{_≡_, refl, sym, ap, ap₂, _∙_}
 use mathlib.Core.List.{List, [], _∷_, _++_}
 use lib.Dec.{eqb}
 use lib.ListN.{replicate}
 use Rattle.refusal.specs.declared.Refusal.the-variants.{OtherKind, Misaligned, StaleRecord, NotRecorded, NotBlank}
 use Rattle.refusal.specs.declared.Verdict.{Verdict}
+use Rattle.refusal.specs.declared.Verdict.the-variants.{Go, Stop}
+use Rattle.refusal.specs.Number.{verdictNumber}
 use Rattle.refusal.specs.Tests.{Test, test, first, need, andThen}
 use Rattle.maps.specs.declared.Kind.the-variants.{WriteOnce, Rewritable}
 use Rattle.maps.specs.declared.MapsRead.{MapsRead}
@@ -14,19 +16,39 @@ use Rattle.maps.specs.Kinds.{readMaps}
 use Rattle.model.specs.declared.Record.{Record}
 use Rattle.model.specs.declared.Opened.{Opened}
 use Rattle.model.specs.declared.Given.{Given}
+use Rattle.model.specs.Told.{openedNumber, givenNumber}
+use Rattle.model.specs.Lent.{Opens, Reads, Makes}
 use Rattle.model.specs.Disc.{Disc, sector, recorded}
 use Rattle.model.specs.Writes.{Write, upward}
 use Rattle.model.specs.Vat.{none, entriesOf}
 use Rattle.model.specs.VatWritten.{writtenIcb}
 use Rattle.model.specs.Sparing.{flat, entriesFit, writtenTable}
 use Rattle.model.specs.Examine.{Setting, volume, isOnce, writeOnce, geometry, examined, lentTable}
-use Rattle.model.specs.Once.{nextOn, newestFile, openOnceTests, foundRecord, passedOver}
+use Rattle.model.specs.Once.{nextOn, newestFile, openOnceTests, foundRecord, passedOver, fullnessVerdict}
 use Rattle.model.specs.Rewrite.{tableOn, copyTests, currentRecord, heldCurrent, rewritableVerdict, placeOf, blockTest, copiesTo}
 use Rattle.model.specs.Both.{openVerdict, recordOn, numbersOn, passedOn, openedBy, filledBy, opening, openedTable, entrySector, blockSector, readOnceTests, readRewritableTests, readLent, readVerdict, givenBy, blockBy, reading, readBytes, spareEntries, makeTests, makeVerdict, makeWrites, madeBy, made}
-use Rattle.write_once.specs.Calls.{openOnceVerdict, openingOnce, openedOnce, readOnceVerdict, readingOnce, readOnceBytes}
+use Rattle.write_once.specs.declared.Measured.{Measured}
+use Rattle.write_once.specs.Calls.{measuredBy, measuredNumber, fullnessOf, Measures, openOnceVerdict, openingOnce, openedOnce, readOnceVerdict, readingOnce, readOnceBytes}
 use Rattle.making.specs.WriteOnce.{makeOnceVerdict, madeOnce}
 use Rattle.rewritable.specs.Calls.{openRewritableVerdict, openingRewritable, openedRewritable, readBlockVerdict, readingBlock, readBlockBytes}
 use Rattle.making.specs.Rewritable.{makeRewritableVerdict, rewritableWrites, madeRewritable}
+
+-- ---- the number that is told is the verdict's
+
+opened-number : (v : Verdict) (r : Record) (n : ℕ) → openedNumber (openedBy v r n) ≡ verdictNumber v
+unfolding openedBy
+opened-number Go r n = refl
+opened-number (Stop why) r n = refl
+
+given-number : (v : Verdict) → givenNumber (givenBy v) ≡ verdictNumber v
+unfolding givenBy
+given-number Go = refl
+given-number (Stop why) = refl
+
+measured-number : (v : Verdict) (n : ℕ) → measuredNumber (measuredBy v n) ≡ verdictNumber v
+unfolding measuredBy
+measured-number Go n = refl
+measured-number (Stop why) n = refl
 
 -- ---- which kind it is; r is what reading the map list gave
 
@@ -180,3 +202,28 @@ module _ (e : Setting) (d : Disc) (w : writeOnce e ≡ false) where
     -- making is turned down the same, and leaves the same disc
     pub makes-again : {x : Verdict} {y : Disc} → (x ≡ makeRewritableVerdict e d spares) × (y ≡ madeRewritable e d spares) → (x ≡ makeVerdict e d spares) × (y ≡ made e d spares)
     makes-again h = (h .0 ∙ make-again, h .1 ∙ made-again)
+
+-- ---- the promises: an answer, its number, and what is left
+
+module _ (e : Setting) (d : Disc) where
+  -- of opening
+  pub opened-so : {t t′ : List ℕ} {r : Opened} → (r ≡ opening e d t) × (t′ ≡ openedTable e d t) → Opens (record { setting = e; disc = d }) t r t′
+  unfolding opening
+  opened-so {t} h =
+      record { answer = h .0; number = ap openedNumber (h .0) ∙ opened-number (openVerdict e d t) _ _; table = h .1 }
+
+  -- of reading
+  pub read-so : {t out out′ : List ℕ} {held : Record} {v : ℕ} {r : Given} → (r ≡ reading e d t held v out) × (out′ ≡ readBytes e d t held v out) → Reads (record { setting = e; disc = d }) t held v out r out′
+  unfolding reading
+  read-so {t} {out} {_} {held} {v} h =
+      record { answer = h .0; number = ap givenNumber (h .0) ∙ given-number (readVerdict e d t held v out); bytes = h .1 }
+
+  -- of making
+  pub made-so : {spares : List ℕ} {r : Verdict} {d′ : Disc} → (r ≡ makeVerdict e d spares) × (d′ ≡ made e d spares) → Makes (record { setting = e; disc = d }) spares r d′
+  made-so h = record { answer = h .0; disc = h .1 }
+
+  -- of fullness
+  pub measured-so : {t : List ℕ} {held : Record} {r : Measured} → r ≡ fullnessOf e d t held → Measures (record { setting = e; disc = d }) t held r
+  unfolding fullnessOf
+  measured-so {t} {held} h =
+      record { answer = h; number = ap measuredNumber h ∙ measured-number (fullnessVerdict e d t held) _ }

@@ -13,13 +13,9 @@ use write_once::Measured;
 ghost use mathlib.Core.Path.{_≡_};
 ghost use Prim.Native.Nat.{ℕ};
 ghost use Rattle.model.specs.Disc.{disc as discOf};
-ghost use Rattle.model.specs.Writes.{noCut};
-ghost use Rattle.model.specs.Plan.{Meets};
 ghost use Rattle.model.specs.Examine.{setting, writeOnce};
-ghost use Rattle.model.specs.Once.{savePlan, freePlan, commitPlan};
-ghost use Rattle.model.specs.Rewrite.{saveBlockPlan, savePacketPlan, sparePlan};
-ghost use Rattle.model.specs.Both.{opening, openedTable, reading, readBytes, makeVerdict, made};
-ghost use Rattle.write_once.specs.Calls.{fullnessOf};
+ghost use Rattle.model.specs.Lent.{lent, Opens, Reads, Makes, Saves, Frees, Commits, SavesBlock, SavesPacket, Spares};
+ghost use Rattle.write_once.specs.Calls.{Measures};
 
 // The bytes of a rewritable volume's map list.
 const REWRITABLE: usize = 64;
@@ -49,8 +45,8 @@ fn is_write_once(maps: &[u8]) -> bool
 
 // Opens the volume: finds the table on the disc, and fills the lent one with it.
 pub fn open(disc: &[u8], marks: &[u8], maps: &[u8], s: u32, l: u32, table: &mut [u32]) -> Opened
-    ensures { λ r. ⌜ r ≡ opening (setting (now (maps .entry)) s l) (discOf (now (disc .entry)) (now (marks .entry))) (now (table .entry)) ⌝ }
-    ensures { λ _. ⌜ now (table .exit) ≡ openedTable (setting (now (maps .entry)) s l) (discOf (now (disc .entry)) (now (marks .entry))) (now (table .entry)) ⌝ }
+    ensures { λ r. ⌜ Opens (lent (now (disc .entry)) (now (marks .entry)) (now (maps .entry)) s l)
+        (now (table .entry)) r (now (table .exit)) ⌝ }
 {
     if is_write_once(maps) {
         return write_once::open_write_once(disc, marks, maps, s, l, table);
@@ -70,8 +66,8 @@ pub fn read(
     v: u32,
     out: &mut [u8],
 ) -> Given
-    ensures { λ r. ⌜ r ≡ reading (setting (now (maps .entry)) s l) (discOf (now (disc .entry)) (now (marks .entry))) (now (table .entry)) held v (now (out .entry)) ⌝ }
-    ensures { λ _. ⌜ now (out .exit) ≡ readBytes (setting (now (maps .entry)) s l) (discOf (now (disc .entry)) (now (marks .entry))) (now (table .entry)) held v (now (out .entry)) ⌝ }
+    ensures { λ r. ⌜ Reads (lent (now (disc .entry)) (now (marks .entry)) (now (maps .entry)) s l)
+        (now (table .entry)) held v (now (out .entry)) r (now (out .exit)) ⌝ }
 {
     if is_write_once(maps) {
         return write_once::read_virtual(disc, marks, maps, s, l, table, held, v, out);
@@ -89,8 +85,8 @@ pub fn make(
     l: u32,
     spares: &[u32],
 ) -> Verdict
-    ensures { λ r. ⌜ r ≡ makeVerdict (setting (now (maps .entry)) s l) (discOf (now (disc .entry)) (now (marks .entry))) (now (spares .entry)) ⌝ }
-    ensures { λ _. ⌜ (discOf (now (disc .exit)) (now (marks .exit))) ≡ made (setting (now (maps .entry)) s l) (discOf (now (disc .entry)) (now (marks .entry))) (now (spares .entry)) ⌝ }
+    ensures { λ r. ⌜ Makes (lent (now (disc .entry)) (now (marks .entry)) (now (maps .entry)) s l)
+        (now (spares .entry)) r (discOf (now (disc .exit)) (now (marks .exit))) ⌝ }
 {
     if is_write_once(maps) {
         return making::make_write_once(disc, marks, maps, s, l);
@@ -113,7 +109,9 @@ pub fn save_virtual(
     block: &[u8],
     cut: Cut,
 ) -> Reply
-    ensures { λ r. ⌜ Meets (savePlan (setting (now (maps .entry)) s l) (discOf (now (disc .entry)) (now (marks .entry))) (now (table .entry)) held v (now (block .entry))) cut (discOf (now (disc .entry)) (now (marks .entry))) (now (table .entry)) r (discOf (now (disc .exit)) (now (marks .exit))) (now (table .exit)) ⌝ }
+    ensures { λ r. ⌜ Saves (lent (now (disc .entry)) (now (marks .entry)) (now (maps .entry)) s l)
+        (now (table .entry)) held v (now (block .entry)) cut
+        r (discOf (now (disc .exit)) (now (marks .exit))) (now (table .exit)) ⌝ }
 {
     recording::save_virtual(disc, marks, maps, s, l, table, held, v, block, cut)
 }
@@ -129,7 +127,8 @@ pub fn free_virtual(
     held: Record,
     v: u32,
 ) -> Reply
-    ensures { λ r. ⌜ Meets (freePlan (setting (now (maps .entry)) s l) (discOf (now (disc .entry)) (now (marks .entry))) (now (table .entry)) held v) noCut (discOf (now (disc .entry)) (now (marks .entry))) (now (table .entry)) r (discOf (now (disc .entry)) (now (marks .entry))) (now (table .exit)) ⌝ }
+    ensures { λ r. ⌜ Frees (lent (now (disc .entry)) (now (marks .entry)) (now (maps .entry)) s l)
+        (now (table .entry)) held v r (now (table .exit)) ⌝ }
 {
     write_once::free_virtual(disc, marks, maps, s, l, table, held, v)
 }
@@ -145,7 +144,8 @@ pub fn commit(
     held: Record,
     cut: Cut,
 ) -> Reply
-    ensures { λ r. ⌜ Meets (commitPlan (setting (now (maps .entry)) s l) (discOf (now (disc .entry)) (now (marks .entry))) (now (table .entry)) held) cut (discOf (now (disc .entry)) (now (marks .entry))) (now (table .entry)) r (discOf (now (disc .exit)) (now (marks .exit))) (now (table .entry)) ⌝ }
+    ensures { λ r. ⌜ Commits (lent (now (disc .entry)) (now (marks .entry)) (now (maps .entry)) s l)
+        (now (table .entry)) held cut r (discOf (now (disc .exit)) (now (marks .exit))) ⌝ }
 {
     committing::commit(disc, marks, maps, s, l, table, held, cut)
 }
@@ -160,7 +160,8 @@ pub fn fullness(
     table: &[u32],
     held: Record,
 ) -> Measured
-    ensures { λ r. ⌜ r ≡ fullnessOf (setting (now (maps .entry)) s l) (discOf (now (disc .entry)) (now (marks .entry))) (now (table .entry)) held ⌝ }
+    ensures { λ r. ⌜ Measures (lent (now (disc .entry)) (now (marks .entry)) (now (maps .entry)) s l)
+        (now (table .entry)) held r ⌝ }
 {
     write_once::fullness(disc, marks, maps, s, l, table, held)
 }
@@ -180,7 +181,8 @@ pub fn save_block(
     block: &[u8],
     cut: Cut,
 ) -> Reply
-    ensures { λ r. ⌜ Meets (saveBlockPlan (setting (now (maps .entry)) s l) (discOf (now (disc .entry)) (now (marks .entry))) (now (table .entry)) held b (now (block .entry))) cut (discOf (now (disc .entry)) (now (marks .entry))) (now (table .entry)) r (discOf (now (disc .exit)) (now (marks .exit))) (now (table .entry)) ⌝ }
+    ensures { λ r. ⌜ SavesBlock (lent (now (disc .entry)) (now (marks .entry)) (now (maps .entry)) s l)
+        (now (table .entry)) held b (now (block .entry)) cut r (discOf (now (disc .exit)) (now (marks .exit))) ⌝ }
 {
     rewriting::save_block(disc, marks, maps, s, l, table, held, b, block, cut)
 }
@@ -198,7 +200,8 @@ pub fn save_packet(
     packet: &[u8],
     cut: Cut,
 ) -> Reply
-    ensures { λ r. ⌜ Meets (savePacketPlan (setting (now (maps .entry)) s l) (discOf (now (disc .entry)) (now (marks .entry))) (now (table .entry)) held b (now (packet .entry))) cut (discOf (now (disc .entry)) (now (marks .entry))) (now (table .entry)) r (discOf (now (disc .exit)) (now (marks .exit))) (now (table .entry)) ⌝ }
+    ensures { λ r. ⌜ SavesPacket (lent (now (disc .entry)) (now (marks .entry)) (now (maps .entry)) s l)
+        (now (table .entry)) held b (now (packet .entry)) cut r (discOf (now (disc .exit)) (now (marks .exit))) ⌝ }
 {
     rewriting::save_packet(disc, marks, maps, s, l, table, held, b, packet, cut)
 }
@@ -216,7 +219,9 @@ pub fn spare_packet(
     packet: &[u8],
     cut: Cut,
 ) -> Reply
-    ensures { λ r. ⌜ Meets (sparePlan (setting (now (maps .entry)) s l) (discOf (now (disc .entry)) (now (marks .entry))) (now (table .entry)) held b (now (packet .entry))) cut (discOf (now (disc .entry)) (now (marks .entry))) (now (table .entry)) r (discOf (now (disc .exit)) (now (marks .exit))) (now (table .exit)) ⌝ }
+    ensures { λ r. ⌜ Spares (lent (now (disc .entry)) (now (marks .entry)) (now (maps .entry)) s l)
+        (now (table .entry)) held b (now (packet .entry)) cut
+        r (discOf (now (disc .exit)) (now (marks .exit))) (now (table .exit)) ⌝ }
 {
     spare::spare_packet(disc, marks, maps, s, l, table, held, b, packet, cut)
 }

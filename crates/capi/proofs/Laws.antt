@@ -17,9 +17,10 @@ use Rattle.model.specs.Examine.{Setting}
 use Rattle.model.specs.Plan.{Plan, refuse, replyOf, discAfter, tableAfter, Meets}
 use Rattle.model.specs.Both.{opening, openedTable, reading, readBytes}
 use Rattle.write_once.specs.declared.Measured.{Measured}
-use Rattle.write_once.specs.Calls.{fullnessOf}
-use Rattle.numbers.specs.Numbers.{recordOf, recordAfter, recordOpened, replyNumber, openedNumber, givenNumber, lengthRefusal}
-use Rattle.capi.specs.Calls.{lentPlan, Seen, lentOpening, lentOpenedTable, lentReading, lentReadBytes, lentFullness, measuredNumber, measuredAfter}
+use Rattle.write_once.specs.Calls.{fullnessOf, measuredNumber}
+use Rattle.model.specs.Told.{replyNumber, openedNumber, givenNumber}
+use Rattle.numbers.specs.Numbers.{recordOf, recordAfter, recordOpened, lengthRefusal}
+use Rattle.capi.specs.Calls.{lentPlan, Seen, lentOpening, lentOpenedTable, lentReading, lentReadBytes, lentFullness, measuredAfter}
 
 -- one number, set
 pub one-set : (l : List ℕ) (x : ℕ) → length l ≡ 1 → set l 0 x ≡ x ∷ []

@@ -11,7 +11,7 @@ use Rattle.refusal.specs.declared.Refusal.{Refusal}
 use Rattle.refusal.specs.declared.Refusal.the-variants.{LentLength, NeitherKind}
 use Rattle.refusal.specs.declared.Verdict.{Verdict}
 use Rattle.refusal.specs.declared.Verdict.the-variants.{Go, Stop}
-use Rattle.refusal.specs.Number.{numberOf}
+use Rattle.refusal.specs.Number.{numberOf, verdictNumber}
 use Rattle.refusal.specs.Tests.{need, first}
 use Rattle.address.specs.declared.LogicalAddress.{LogicalAddress}
 use Rattle.address.specs.declared.ToLogical.{ToLogical}
@@ -24,9 +24,10 @@ use Rattle.maps.specs.Written.{kindInRange}
 use Rattle.maps_written.specs.Writing.{writeTests, writeVerdict, writtenOr, mapBytes}
 use Rattle.model.proofs.Basics.{cond-elim}
 use Rattle.vat_file.specs.File.{lookedUp}
-use Rattle.numbers.specs.Numbers.{verdictNumber}
+use Rattle.maps.specs.Numbers.{fourOf, kindNumbers, volumeNumbers}
+use Rattle.address.specs.Told.{logicalNumber}
 use Rattle.capi.proofs.Laws.{one-set}
-use Rattle.capi.specs.Lists.{fourOf, kindNumbers, volumeNumbers, mapsVerdict, volumeAfter, volumeFor, lentVerdict, logicalNumber, logicalAfter, lentLookUp}
+use Rattle.capi.specs.Lists.{mapsVerdict, volumeAfter, volumeFor, lentVerdict, logicalAfter, lentLookUp}
 
 -- ---- a map list read
 

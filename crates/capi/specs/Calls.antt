@@ -7,17 +7,21 @@ use mathlib.Core.Bool.{Bool, cond, _&&_}
 use mathlib.Core.List.{List, [], _∷_}
 use lib.ListN.{length}
 use lib.Dec.{eqb}
-use Rattle.refusal.specs.Number.{numberOf}
 use Rattle.model.specs.declared.Cut.{Cut}
 use Rattle.model.specs.declared.Opened.{Opened}
 use Rattle.model.specs.declared.Given.{Given}
 use Rattle.model.specs.Disc.{Disc}
 use Rattle.model.specs.Examine.{Setting}
 use Rattle.model.specs.Plan.{Plan, refuse, replyOf, discAfter, tableAfter}
+use Rattle.model.specs.Told.{replyNumber}
+use Rattle.model.specs.Writes.{noCut}
+use Rattle.model.specs.Lent.{Lent}
+use Rattle.model.specs.Once.{savePlan, freePlan, commitPlan}
+use Rattle.model.specs.Rewrite.{saveBlockPlan, savePacketPlan, sparePlan}
 use Rattle.model.specs.Both.{opening, openedTable, reading, readBytes}
 use Rattle.write_once.specs.declared.Measured.{Measured}
 use Rattle.write_once.specs.Calls.{fullnessOf}
-use Rattle.numbers.specs.Numbers.{recordOf, recordAfter, replyNumber, lengthRefusal}
+use Rattle.numbers.specs.Numbers.{recordOf, recordAfter, lengthRefusal}
 
 -- whether a lent record has its length
 abbrev pub isRecord : List ℕ → Bool
@@ -35,6 +39,38 @@ pub record Seen (p : Plan) (c : Cut) (d₀ : Disc) (t₀ k₀ : List ℕ) (n : �
   pub disc : d ≡ discAfter p c d₀
   pub table : t ≡ tableAfter p c t₀
   pub kept : k ≡ recordAfter (replyOf p c) k₀
+
+-- over the lent lists: the call, lent the table t and the record k, returns n and leaves the disc d, the table t′ and the record k′
+
+-- saving the block as virtual block v
+abbrev pub SeenSave : Lent → List ℕ → List ℕ → ℕ → List ℕ → Cut → ℕ → Disc → List ℕ → List ℕ → Type 0
+SeenSave x t k v block c n d t′ k′ =
+    Seen (lentPlan (x .setting) (x .disc) k (savePlan (x .setting) (x .disc) t (recordOf k) v block)) c (x .disc) t k n d t′ k′
+
+-- freeing virtual block v, which leaves the disc as it came
+abbrev pub SeenFree : Lent → List ℕ → List ℕ → ℕ → ℕ → List ℕ → List ℕ → Type 0
+SeenFree x t k v n t′ k′ =
+    Seen (lentPlan (x .setting) (x .disc) k (freePlan (x .setting) (x .disc) t (recordOf k) v)) noCut (x .disc) t k n (x .disc) t′ k′
+
+-- committing, which leaves the table as it came
+abbrev pub SeenCommit : Lent → List ℕ → List ℕ → Cut → ℕ → Disc → List ℕ → Type 0
+SeenCommit x t k c n d k′ =
+    Seen (lentPlan (x .setting) (x .disc) k (commitPlan (x .setting) (x .disc) t (recordOf k))) c (x .disc) t k n d t k′
+
+-- saving the block as block b, which leaves the table as it came
+abbrev pub SeenSaveBlock : Lent → List ℕ → List ℕ → ℕ → List ℕ → Cut → ℕ → Disc → List ℕ → Type 0
+SeenSaveBlock x t k b block c n d k′ =
+    Seen (lentPlan (x .setting) (x .disc) k (saveBlockPlan (x .setting) (x .disc) t (recordOf k) b block)) c (x .disc) t k n d t k′
+
+-- saving the packet that begins at block b, which leaves the table as it came
+abbrev pub SeenSavePacket : Lent → List ℕ → List ℕ → ℕ → List ℕ → Cut → ℕ → Disc → List ℕ → Type 0
+SeenSavePacket x t k b packet c n d k′ =
+    Seen (lentPlan (x .setting) (x .disc) k (savePacketPlan (x .setting) (x .disc) t (recordOf k) b packet)) c (x .disc) t k n d t k′
+
+-- sparing the packet that begins at block b
+abbrev pub SeenSpare : Lent → List ℕ → List ℕ → ℕ → List ℕ → Cut → ℕ → Disc → List ℕ → List ℕ → Type 0
+SeenSpare x t k b packet c n d t′ k′ =
+    Seen (lentPlan (x .setting) (x .disc) k (sparePlan (x .setting) (x .disc) t (recordOf k) b packet)) c (x .disc) t k n d t′ k′
 
 -- ---- opening
 
@@ -57,11 +93,6 @@ unfoldable pub lentReadBytes : Setting → Disc → List ℕ → List ℕ → �
 lentReadBytes e d t k v out = cond (isRecord k) (readBytes e d t (recordOf k) v out) out
 
 -- ---- fullness: one number
-
--- the number of its answer
-abbrev pub measuredNumber : Measured → ℕ
-measuredNumber (Measured.PerMille n) = 0
-measuredNumber (Measured.Refused why) = numberOf why
 
 -- the lent result after it
 abbrev pub measuredAfter : Measured → List ℕ → List ℕ

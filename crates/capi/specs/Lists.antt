@@ -8,30 +8,16 @@ use lib.Dec.{eqb, leb}
 use Rattle.refusal.specs.declared.Refusal.the-variants.{LentLength, NeitherKind}
 use Rattle.refusal.specs.declared.Verdict.{Verdict}
 use Rattle.refusal.specs.declared.Verdict.the-variants.{Go, Stop}
-use Rattle.refusal.specs.Number.{numberOf}
 use Rattle.refusal.specs.Tests.{test, first, andThen}
 use Rattle.address.specs.declared.ToLogical.{ToLogical}
-use Rattle.maps.specs.declared.Kind.{Kind}
 use Rattle.maps.specs.declared.Kind.the-variants.{WriteOnce, Rewritable}
 use Rattle.maps.specs.declared.Volume.{Volume}
 use Rattle.maps.specs.Kinds.{readMaps, volumeWith}
+use Rattle.maps.specs.Numbers.{fourOf, volumeNumbers}
 use Rattle.maps_written.specs.Writing.{writeVerdict}
 use Rattle.vat_file.specs.File.{lookedUp}
 
--- ---- a map list read: kind (0 write-once, 1 rewritable), partition number, number of tables, bytes of each, four table sectors
-
--- the first four of a list of numbers, 0 where there is none
-abbrev pub fourOf : List ℕ → List ℕ
-fourOf t = getD t 0 0 ∷ getD t 1 0 ∷ getD t 2 0 ∷ getD t 3 0 ∷ []
-
--- the numbers of a kind, 0 where it has none
-abbrev pub kindNumbers : Kind → List ℕ
-kindNumbers (WriteOnce p) = 0 ∷ p ∷ 0 ∷ 0 ∷ []
-kindNumbers (Rewritable p n size) = 1 ∷ p ∷ n ∷ size ∷ []
-
--- the eight numbers of a volume
-abbrev pub volumeNumbers : Volume → List ℕ
-volumeNumbers v = kindNumbers (v .kind) ++ fourOf (v .tables)
+-- ---- a map list read: the eight numbers of a volume
 
 -- lines 3 to 6 of reading the map list m into the lent result
 unfoldable pub mapsVerdict : List ℕ → List ℕ → Verdict
@@ -58,11 +44,6 @@ lentVerdict kind p size tables out =
     cond (leb kind 1) (writeVerdict (volumeFor kind p size tables) out) (Stop NeitherKind)
 
 -- ---- an entry looked up: one number
-
--- the number of its answer
-abbrev pub logicalNumber : ToLogical → ℕ
-logicalNumber (ToLogical.At b) = 0
-logicalNumber (ToLogical.Refused why) = numberOf why
 
 -- the lent result after it
 abbrev pub logicalAfter : ToLogical → List ℕ → List ℕ

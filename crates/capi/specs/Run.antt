@@ -4,18 +4,14 @@ use Prim.Native.Nat.{ℕ}
 use mathlib.Core.Path.{_≡_}
 use mathlib.Core.Bool.{cond}
 use mathlib.Core.List.{List}
-use Rattle.refusal.specs.Number.{numberOf}
 use Rattle.model.specs.Disc.{Disc}
 use Rattle.model.specs.Examine.{Setting}
 use Rattle.store.specs.declared.Ran.{Ran}
-use Rattle.store.specs.Outcome.{Outcome, outcome, ran}
+use Rattle.model.specs.Lent.{Lent}
+use Rattle.store.specs.Promise.{DemandMet}
+use Rattle.store.specs.Outcome.{Outcome, outcome, ran, ranNumber}
 use Rattle.numbers.specs.Numbers.{numbersOf, lengthRefusal}
 use Rattle.capi.specs.Calls.{isRecord}
-
--- the number of its answer
-abbrev pub ranNumber : Ran → ℕ
-ranNumber (Ran.Ended held passed) = 0
-ranNumber (Ran.Refused why) = numberOf why
 
 -- the lent record after it: the record in force, with passed over of the last opening that was accepted
 abbrev pub ranRecord : Ran → List ℕ → List ℕ
@@ -34,3 +30,14 @@ pub record SeenRun (o : Outcome) (k₀ : List ℕ) (n : ℕ) (d : Disc) (t told 
   pub table : t ≡ o .table
   pub replies : told ≡ o .replies
   pub kept : k ≡ ranRecord (o .result) k₀
+
+-- over the lent lists: a run that is lent the table t, the record k, calls as numbers with a pool of bytes, and a place for replies returns n and
+-- leaves the disc d, the table t′, the replies told and the record k′
+abbrev pub SeenRuns : Lent → List ℕ → List ℕ → List ℕ → List ℕ → List ℕ → ℕ → Disc → List ℕ → List ℕ → List ℕ → Type 0
+SeenRuns x t k calls pool replies n d t′ told k′ =
+    SeenRun (lentRan (x .setting) (x .disc) t k calls pool replies) k n d t′ told k′
+
+-- and demand 3 holds of the disc d and the table t′ that it leaves
+abbrev pub SeenDemand : Lent → List ℕ → List ℕ → List ℕ → List ℕ → List ℕ → Disc → List ℕ → Type 0
+SeenDemand x t k calls pool replies d t′ =
+    DemandMet (x .setting) (x .disc) t calls pool (lentRan (x .setting) (x .disc) t k calls pool replies .result) d t′

@@ -22,15 +22,17 @@ ghost use Rattle.maps.specs.Kinds.{readMaps};
 ghost use Rattle.maps_written.specs.Writing.{writtenOr};
 ghost use Rattle.model.specs.Disc.{disc as discOf};
 ghost use Rattle.model.specs.Examine.{setting};
-ghost use Rattle.model.specs.Once.{savePlan, freePlan, commitPlan};
-ghost use Rattle.model.specs.Rewrite.{saveBlockPlan, savePacketPlan, sparePlan};
 ghost use Rattle.model.specs.Both.{makeVerdict, made};
-ghost use Rattle.model.specs.Writes.{noCut};
-ghost use Rattle.numbers.specs.Numbers.{cutOf, recordOf, recordOpened, verdictNumber, openedNumber, givenNumber};
-ghost use Rattle.store.specs.Promise.{DemandMet};
-ghost use Rattle.capi.specs.Calls.{lentPlan, Seen, lentOpening, lentOpenedTable, lentReading, lentReadBytes, lentFullness, measuredNumber, measuredAfter};
-ghost use Rattle.capi.specs.Lists.{volumeNumbers, mapsVerdict, volumeAfter, volumeFor, lentVerdict, lentLookUp, logicalNumber, logicalAfter};
-ghost use Rattle.capi.specs.Run.{lentRan, SeenRun};
+ghost use Rattle.model.specs.Lent.{lent};
+ghost use Rattle.model.specs.Told.{openedNumber, givenNumber};
+ghost use Rattle.refusal.specs.Number.{verdictNumber};
+ghost use Rattle.maps.specs.Numbers.{volumeNumbers};
+ghost use Rattle.address.specs.Told.{logicalNumber};
+ghost use Rattle.write_once.specs.Calls.{measuredNumber};
+ghost use Rattle.numbers.specs.Numbers.{cutOf, recordOpened};
+ghost use Rattle.capi.specs.Calls.{SeenSave, SeenFree, SeenCommit, SeenSaveBlock, SeenSavePacket, SeenSpare, lentOpening, lentOpenedTable, lentReading, lentReadBytes, lentFullness, measuredAfter};
+ghost use Rattle.capi.specs.Lists.{mapsVerdict, volumeAfter, volumeFor, lentVerdict, lentLookUp, logicalAfter};
+ghost use Rattle.capi.specs.Run.{SeenRuns, SeenDemand};
 
 // The lengths of the lent results: of fullness and look-up, and of a map list.
 const ONE: usize = 1;
@@ -53,9 +55,12 @@ pub extern "C" fn tuormik_open(
     table: &mut [u32],
     kept: &mut [u32],
 ) -> u32
-    ensures { λ r. ⌜ r ≡ openedNumber (lentOpening (setting (now (maps .entry)) s l) (discOf (now (disc .entry)) (now (marks .entry))) (now (table .entry)) (now (kept .entry))) ⌝ }
-    ensures { λ _. ⌜ now (table .exit) ≡ lentOpenedTable (setting (now (maps .entry)) s l) (discOf (now (disc .entry)) (now (marks .entry))) (now (table .entry)) (now (kept .entry)) ⌝ }
-    ensures { λ _. ⌜ now (kept .exit) ≡ recordOpened (lentOpening (setting (now (maps .entry)) s l) (discOf (now (disc .entry)) (now (marks .entry))) (now (table .entry)) (now (kept .entry))) (now (kept .entry)) ⌝ }
+    ensures { λ r. ⌜ r ≡ openedNumber (lentOpening (setting (now (maps .entry)) s l)
+        (discOf (now (disc .entry)) (now (marks .entry))) (now (table .entry)) (now (kept .entry))) ⌝ }
+    ensures { λ _. ⌜ now (table .exit) ≡ lentOpenedTable (setting (now (maps .entry)) s l)
+        (discOf (now (disc .entry)) (now (marks .entry))) (now (table .entry)) (now (kept .entry)) ⌝ }
+    ensures { λ _. ⌜ now (kept .exit) ≡ recordOpened (lentOpening (setting (now (maps .entry)) s l)
+        (discOf (now (disc .entry)) (now (marks .entry))) (now (table .entry)) (now (kept .entry))) (now (kept .entry)) ⌝ }
 {
     if kept.len() != numbers::RECORD {
         return numbers::number_of_lengths(disc, marks, maps, s, l);
@@ -78,8 +83,10 @@ pub extern "C" fn tuormik_read(
     v: u32,
     out: &mut [u8],
 ) -> u32
-    ensures { λ r. ⌜ r ≡ givenNumber (lentReading (setting (now (maps .entry)) s l) (discOf (now (disc .entry)) (now (marks .entry))) (now (table .entry)) (now (kept .entry)) v (now (out .entry))) ⌝ }
-    ensures { λ _. ⌜ now (out .exit) ≡ lentReadBytes (setting (now (maps .entry)) s l) (discOf (now (disc .entry)) (now (marks .entry))) (now (table .entry)) (now (kept .entry)) v (now (out .entry)) ⌝ }
+    ensures { λ r. ⌜ r ≡ givenNumber (lentReading (setting (now (maps .entry)) s l)
+        (discOf (now (disc .entry)) (now (marks .entry))) (now (table .entry)) (now (kept .entry)) v (now (out .entry))) ⌝ }
+    ensures { λ _. ⌜ now (out .exit) ≡ lentReadBytes (setting (now (maps .entry)) s l)
+        (discOf (now (disc .entry)) (now (marks .entry))) (now (table .entry)) (now (kept .entry)) v (now (out .entry)) ⌝ }
 {
     if kept.len() != numbers::RECORD {
         return numbers::number_of_lengths(disc, marks, maps, s, l);
@@ -100,7 +107,8 @@ pub extern "C" fn tuormik_make(
     spares: &[u32],
 ) -> u32
     ensures { λ r. ⌜ r ≡ verdictNumber (makeVerdict (setting (now (maps .entry)) s l) (discOf (now (disc .entry)) (now (marks .entry))) (now (spares .entry))) ⌝ }
-    ensures { λ _. ⌜ discOf (now (disc .exit)) (now (marks .exit)) ≡ made (setting (now (maps .entry)) s l) (discOf (now (disc .entry)) (now (marks .entry))) (now (spares .entry)) ⌝ }
+    ensures { λ _. ⌜ discOf (now (disc .exit)) (now (marks .exit)) ≡ made (setting (now (maps .entry)) s l)
+        (discOf (now (disc .entry)) (now (marks .entry))) (now (spares .entry)) ⌝ }
 {
     let verdict = blocks::make(disc, marks, maps, s, l, spares);
     numbers::number_of_verdict(verdict)
@@ -123,7 +131,9 @@ pub extern "C" fn tuormik_save_virtual(
     at: u32,
     effect: u32,
 ) -> u32
-    ensures { λ r. ⌜ Seen (lentPlan (setting (now (maps .entry)) s l) (discOf (now (disc .entry)) (now (marks .entry))) (now (kept .entry)) (savePlan (setting (now (maps .entry)) s l) (discOf (now (disc .entry)) (now (marks .entry))) (now (table .entry)) (recordOf (now (kept .entry))) v (now (block .entry)))) (cutOf at effect) (discOf (now (disc .entry)) (now (marks .entry))) (now (table .entry)) (now (kept .entry)) r (discOf (now (disc .exit)) (now (marks .exit))) (now (table .exit)) (now (kept .exit)) ⌝ }
+    ensures { λ r. ⌜ SeenSave (lent (now (disc .entry)) (now (marks .entry)) (now (maps .entry)) s l)
+        (now (table .entry)) (now (kept .entry)) v (now (block .entry)) (cutOf at effect)
+        r (discOf (now (disc .exit)) (now (marks .exit))) (now (table .exit)) (now (kept .exit)) ⌝ }
 {
     if kept.len() != numbers::RECORD {
         return numbers::number_of_lengths(disc, marks, maps, s, l);
@@ -147,7 +157,8 @@ pub extern "C" fn tuormik_free_virtual(
     kept: &mut [u32],
     v: u32,
 ) -> u32
-    ensures { λ r. ⌜ Seen (lentPlan (setting (now (maps .entry)) s l) (discOf (now (disc .entry)) (now (marks .entry))) (now (kept .entry)) (freePlan (setting (now (maps .entry)) s l) (discOf (now (disc .entry)) (now (marks .entry))) (now (table .entry)) (recordOf (now (kept .entry))) v)) noCut (discOf (now (disc .entry)) (now (marks .entry))) (now (table .entry)) (now (kept .entry)) r (discOf (now (disc .entry)) (now (marks .entry))) (now (table .exit)) (now (kept .exit)) ⌝ }
+    ensures { λ r. ⌜ SeenFree (lent (now (disc .entry)) (now (marks .entry)) (now (maps .entry)) s l)
+        (now (table .entry)) (now (kept .entry)) v r (now (table .exit)) (now (kept .exit)) ⌝ }
 {
     if kept.len() != numbers::RECORD {
         return numbers::number_of_lengths(disc, marks, maps, s, l);
@@ -171,7 +182,8 @@ pub extern "C" fn tuormik_commit(
     at: u32,
     effect: u32,
 ) -> u32
-    ensures { λ r. ⌜ Seen (lentPlan (setting (now (maps .entry)) s l) (discOf (now (disc .entry)) (now (marks .entry))) (now (kept .entry)) (commitPlan (setting (now (maps .entry)) s l) (discOf (now (disc .entry)) (now (marks .entry))) (now (table .entry)) (recordOf (now (kept .entry))))) (cutOf at effect) (discOf (now (disc .entry)) (now (marks .entry))) (now (table .entry)) (now (kept .entry)) r (discOf (now (disc .exit)) (now (marks .exit))) (now (table .entry)) (now (kept .exit)) ⌝ }
+    ensures { λ r. ⌜ SeenCommit (lent (now (disc .entry)) (now (marks .entry)) (now (maps .entry)) s l)
+        (now (table .entry)) (now (kept .entry)) (cutOf at effect) r (discOf (now (disc .exit)) (now (marks .exit))) (now (kept .exit)) ⌝ }
 {
     if kept.len() != numbers::RECORD {
         return numbers::number_of_lengths(disc, marks, maps, s, l);
@@ -195,8 +207,10 @@ pub extern "C" fn tuormik_fullness(
     kept: &[u32],
     result: &mut [u32],
 ) -> u32
-    ensures { λ r. ⌜ r ≡ measuredNumber (lentFullness (setting (now (maps .entry)) s l) (discOf (now (disc .entry)) (now (marks .entry))) (now (table .entry)) (now (kept .entry)) (now (result .entry))) ⌝ }
-    ensures { λ _. ⌜ now (result .exit) ≡ measuredAfter (lentFullness (setting (now (maps .entry)) s l) (discOf (now (disc .entry)) (now (marks .entry))) (now (table .entry)) (now (kept .entry)) (now (result .entry))) (now (result .entry)) ⌝ }
+    ensures { λ r. ⌜ r ≡ measuredNumber (lentFullness (setting (now (maps .entry)) s l)
+        (discOf (now (disc .entry)) (now (marks .entry))) (now (table .entry)) (now (kept .entry)) (now (result .entry))) ⌝ }
+    ensures { λ _. ⌜ now (result .exit) ≡ measuredAfter (lentFullness (setting (now (maps .entry)) s l)
+        (discOf (now (disc .entry)) (now (marks .entry))) (now (table .entry)) (now (kept .entry)) (now (result .entry))) (now (result .entry)) ⌝ }
 {
     if kept.len() != numbers::RECORD {
         return numbers::number_of_lengths(disc, marks, maps, s, l);
@@ -232,7 +246,9 @@ pub extern "C" fn tuormik_save_block(
     at: u32,
     effect: u32,
 ) -> u32
-    ensures { λ r. ⌜ Seen (lentPlan (setting (now (maps .entry)) s l) (discOf (now (disc .entry)) (now (marks .entry))) (now (kept .entry)) (saveBlockPlan (setting (now (maps .entry)) s l) (discOf (now (disc .entry)) (now (marks .entry))) (now (table .entry)) (recordOf (now (kept .entry))) b (now (block .entry)))) (cutOf at effect) (discOf (now (disc .entry)) (now (marks .entry))) (now (table .entry)) (now (kept .entry)) r (discOf (now (disc .exit)) (now (marks .exit))) (now (table .entry)) (now (kept .exit)) ⌝ }
+    ensures { λ r. ⌜ SeenSaveBlock (lent (now (disc .entry)) (now (marks .entry)) (now (maps .entry)) s l)
+        (now (table .entry)) (now (kept .entry)) b (now (block .entry)) (cutOf at effect)
+        r (discOf (now (disc .exit)) (now (marks .exit))) (now (kept .exit)) ⌝ }
 {
     if kept.len() != numbers::RECORD {
         return numbers::number_of_lengths(disc, marks, maps, s, l);
@@ -259,7 +275,9 @@ pub extern "C" fn tuormik_save_packet(
     at: u32,
     effect: u32,
 ) -> u32
-    ensures { λ r. ⌜ Seen (lentPlan (setting (now (maps .entry)) s l) (discOf (now (disc .entry)) (now (marks .entry))) (now (kept .entry)) (savePacketPlan (setting (now (maps .entry)) s l) (discOf (now (disc .entry)) (now (marks .entry))) (now (table .entry)) (recordOf (now (kept .entry))) b (now (packet .entry)))) (cutOf at effect) (discOf (now (disc .entry)) (now (marks .entry))) (now (table .entry)) (now (kept .entry)) r (discOf (now (disc .exit)) (now (marks .exit))) (now (table .entry)) (now (kept .exit)) ⌝ }
+    ensures { λ r. ⌜ SeenSavePacket (lent (now (disc .entry)) (now (marks .entry)) (now (maps .entry)) s l)
+        (now (table .entry)) (now (kept .entry)) b (now (packet .entry)) (cutOf at effect)
+        r (discOf (now (disc .exit)) (now (marks .exit))) (now (kept .exit)) ⌝ }
 {
     if kept.len() != numbers::RECORD {
         return numbers::number_of_lengths(disc, marks, maps, s, l);
@@ -286,7 +304,9 @@ pub extern "C" fn tuormik_spare_packet(
     at: u32,
     effect: u32,
 ) -> u32
-    ensures { λ r. ⌜ Seen (lentPlan (setting (now (maps .entry)) s l) (discOf (now (disc .entry)) (now (marks .entry))) (now (kept .entry)) (sparePlan (setting (now (maps .entry)) s l) (discOf (now (disc .entry)) (now (marks .entry))) (now (table .entry)) (recordOf (now (kept .entry))) b (now (packet .entry)))) (cutOf at effect) (discOf (now (disc .entry)) (now (marks .entry))) (now (table .entry)) (now (kept .entry)) r (discOf (now (disc .exit)) (now (marks .exit))) (now (table .exit)) (now (kept .exit)) ⌝ }
+    ensures { λ r. ⌜ SeenSpare (lent (now (disc .entry)) (now (marks .entry)) (now (maps .entry)) s l)
+        (now (table .entry)) (now (kept .entry)) b (now (packet .entry)) (cutOf at effect)
+        r (discOf (now (disc .exit)) (now (marks .exit))) (now (table .exit)) (now (kept .exit)) ⌝ }
 {
     if kept.len() != numbers::RECORD {
         return numbers::number_of_lengths(disc, marks, maps, s, l);
@@ -336,7 +356,8 @@ fn put_volume(result: &mut [u32], volume: Volume)
 #[no_mangle]
 pub extern "C" fn tuormik_read_maps(maps: &[u8], result: &mut [u32]) -> u32
     ensures { λ r. ⌜ r ≡ verdictNumber (mapsVerdict (now (maps .entry)) (now (result .entry))) ⌝ }
-    ensures { λ _. ⌜ now (result .exit) ≡ volumeAfter (mapsVerdict (now (maps .entry)) (now (result .entry))) (readMaps (now (maps .entry)) .volume) (now (result .entry)) ⌝ }
+    ensures { λ _. ⌜ now (result .exit) ≡ volumeAfter (mapsVerdict (now (maps .entry)) (now (result .entry)))
+        (readMaps (now (maps .entry)) .volume) (now (result .entry)) ⌝ }
 {
     if result.len() != VOLUME {
         return refusal::number(Refusal::LentLength);
@@ -377,7 +398,8 @@ fn table_count(tables: &[u32]) -> u8
 // Writes the map list of a rewritable volume.
 fn write_rewritable(partition: u16, size: u32, tables: &[u32], out: &mut [u8]) -> u32
     ensures { λ r. ⌜ r ≡ verdictNumber (lentVerdict 1 partition size (now (tables .entry)) (now (out .entry))) ⌝ }
-    ensures { λ _. ⌜ now (out .exit) ≡ writtenOr (lentVerdict 1 partition size (now (tables .entry)) (now (out .entry))) (volumeFor 1 partition size (now (tables .entry))) (now (out .entry)) ⌝ }
+    ensures { λ _. ⌜ now (out .exit) ≡ writtenOr (lentVerdict 1 partition size (now (tables .entry)) (now (out .entry)))
+        (volumeFor 1 partition size (now (tables .entry))) (now (out .entry)) ⌝ }
 {
     let count = table_count(tables);
     let a = number_at(tables, 0);
@@ -402,7 +424,8 @@ fn write_rewritable(partition: u16, size: u32, tables: &[u32], out: &mut [u8]) -
 // Writes the map list of a write-once volume.
 fn write_once_maps(partition: u16, out: &mut [u8]) -> u32
     ensures { λ r. ⌜ ((size : ℕ) (tables : List ℕ) → r ≡ verdictNumber (lentVerdict 0 partition size tables (now (out .entry)))) ⌝ }
-    ensures { λ _. ⌜ ((size : ℕ) (tables : List ℕ) → now (out .exit) ≡ writtenOr (lentVerdict 0 partition size tables (now (out .entry))) (volumeFor 0 partition size tables) (now (out .entry))) ⌝ }
+    ensures { λ _. ⌜ ((size : ℕ) (tables : List ℕ) → now (out .exit)
+        ≡ writtenOr (lentVerdict 0 partition size tables (now (out .entry))) (volumeFor 0 partition size tables) (now (out .entry))) ⌝ }
 {
     let volume = Volume {
         span: Span {
@@ -425,7 +448,8 @@ pub extern "C" fn tuormik_write_maps(
     out: &mut [u8],
 ) -> u32
     ensures { λ r. ⌜ r ≡ verdictNumber (lentVerdict kind partition size (now (tables .entry)) (now (out .entry))) ⌝ }
-    ensures { λ _. ⌜ now (out .exit) ≡ writtenOr (lentVerdict kind partition size (now (tables .entry)) (now (out .entry))) (volumeFor kind partition size (now (tables .entry))) (now (out .entry)) ⌝ }
+    ensures { λ _. ⌜ now (out .exit) ≡ writtenOr (lentVerdict kind partition size (now (tables .entry)) (now (out .entry)))
+        (volumeFor kind partition size (now (tables .entry))) (now (out .entry)) ⌝ }
 {
     if kind == numbers::WRITE_ONCE {
         return write_once_maps(partition, out);
@@ -471,8 +495,12 @@ pub extern "C" fn tuormik_run(
     bytes: &[u8],
     replies: &mut [u32],
 ) -> u32
-    ensures { λ r. ⌜ SeenRun (lentRan (setting (now (maps .entry)) s l) (discOf (now (disc .entry)) (now (marks .entry))) (now (table .entry)) (now (kept .entry)) (now (calls .entry)) (now (bytes .entry)) (now (replies .entry))) (now (kept .entry)) r (discOf (now (disc .exit)) (now (marks .exit))) (now (table .exit)) (now (replies .exit)) (now (kept .exit)) ⌝ }
-    ensures { λ _. ⌜ DemandMet (setting (now (maps .entry)) s l) (discOf (now (disc .entry)) (now (marks .entry))) (now (table .entry)) (now (calls .entry)) (now (bytes .entry)) (lentRan (setting (now (maps .entry)) s l) (discOf (now (disc .entry)) (now (marks .entry))) (now (table .entry)) (now (kept .entry)) (now (calls .entry)) (now (bytes .entry)) (now (replies .entry)) .result) (discOf (now (disc .exit)) (now (marks .exit))) (now (table .exit)) ⌝ }
+    ensures { λ r. ⌜ SeenRuns (lent (now (disc .entry)) (now (marks .entry)) (now (maps .entry)) s l)
+        (now (table .entry)) (now (kept .entry)) (now (calls .entry)) (now (bytes .entry)) (now (replies .entry))
+        r (discOf (now (disc .exit)) (now (marks .exit))) (now (table .exit)) (now (replies .exit)) (now (kept .exit)) ⌝ }
+    ensures { λ _. ⌜ SeenDemand (lent (now (disc .entry)) (now (marks .entry)) (now (maps .entry)) s l)
+        (now (table .entry)) (now (kept .entry)) (now (calls .entry)) (now (bytes .entry)) (now (replies .entry))
+        (discOf (now (disc .exit)) (now (marks .exit))) (now (table .exit)) ⌝ }
 {
     if kept.len() != numbers::RECORD {
         return numbers::number_of_lengths(disc, marks, maps, s, l);

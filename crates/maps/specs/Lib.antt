@@ -2,3 +2,4 @@ pub mod Walk
 pub mod Kinds
 pub mod Written
 pub mod Told
+pub mod Numbers

@@ -25,8 +25,8 @@ use Rattle.maps.specs.declared.Kind.the-variants.{WriteOnce, Rewritable}
 use Rattle.maps.specs.declared.Volume.{Volume}
 use Rattle.maps.specs.Kinds.{virtualName, sparableName, tablesInRange, used, tablesApart, tablesIn, tablesOf}
 use Rattle.maps.specs.Written.{typeOneMap, typeTwoMap, mapsOf, kindInRange}
+use Rattle.maps.proofs.Places.{four, few}
 use Rattle.maps_written.specs.Writing.{writtenMaps, mapBytes, writeTests, writeVerdict, writtenOr}
-use Rattle.maps_written.proofs.Places.{four, few}
 
 -- ---- what is written, one piece at a time
 

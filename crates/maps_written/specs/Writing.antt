@@ -2,7 +2,7 @@
 -- disc and its addresses"; "Why a call is turned down", lines 3, 5 and 6).
 use Prim.Native.Nat.{ℕ}
 use mathlib.Core.List.{List, [], _∷_}
-use lib.ListN.{length, replicate}
+use lib.ListN.{length}
 use lib.Dec.{eqb}
 use Rattle.refusal.specs.declared.Refusal.the-variants.{LentLength, NeitherKind, Misaligned}
 use Rattle.refusal.specs.declared.Verdict.{Verdict}
@@ -11,8 +11,8 @@ use Rattle.refusal.specs.Tests.{Test, test, first}
 use Rattle.maps.specs.declared.Kind.{Kind}
 use Rattle.maps.specs.declared.Kind.the-variants.{WriteOnce, Rewritable}
 use Rattle.maps.specs.declared.Volume.{Volume}
-use Rattle.maps.specs.Kinds.{used, volumeWith, tablesApart, tablesOf}
-use Rattle.maps.specs.Written.{mapsOf, kindInRange}
+use Rattle.maps.specs.Kinds.{volumeWith, tablesApart, tablesOf}
+use Rattle.maps.specs.Written.{mapsOf, kindInRange, placesOf}
 
 -- the map list of a volume
 unfoldable pub writtenMaps : Volume → List ℕ
@@ -39,11 +39,6 @@ writeVerdict v out = first (writeTests v (length out))
 unfoldable pub writtenOr : Verdict → Volume → List ℕ → List ℕ
 writtenOr Go v out = writtenMaps v
 writtenOr (Stop why) v out = out
-
--- the four places of table sectors, with 0 in those that a kind does not use
-unfoldable pub placesOf : Kind → List ℕ → List ℕ
-placesOf (WriteOnce p) t = replicate 4 0
-placesOf (Rewritable p n size) t = used n t
 
 -- what the list of a volume tells of it: all but its span, and 0 in the places that are not used
 unfoldable pub toldOf : Volume → Volume

@@ -11,6 +11,11 @@ pub cond-elim {ℓ κ} : {A : Type ℓ} (P : A → Type κ) (b : Bool) {x y : A}
 cond-elim P true f g = f refl
 cond-elim P false f g = g refl
 
+-- two choices by one test, whose cases agree
+pub cond-both {ℓ κ} : {A : Type ℓ} {B : Type κ} (f : A → B) (a b : Bool) {x y : A} {u v : B} → a ≡ b → f x ≡ u → f y ≡ v → f (cond a x y) ≡ cond b u v
+cond-both f a true e p q = rw e p
+cond-both f a false e p q = rw e q
+
 -- by a test that holds or not
 pub by-bool {ℓ} : {P : Type ℓ} (b : Bool) → (b ≡ true → P) → (b ≡ false → P) → P
 by-bool true f g = f refl

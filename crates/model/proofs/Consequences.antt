@@ -24,10 +24,11 @@ use Rattle.model.specs.Examine.{Setting, writeOnce, examined}
 use Rattle.model.specs.Once.{entriesHeld, heldFits, onceVerdict, saveTests, savePlan, entryTests, freePlan}
 use Rattle.model.specs.Rewrite.{copyTests, heldCurrent, rewritableVerdict, blockTest, saveBlockTests, saveBlockPlan, packetTests, savePacketPlan, spareTests, sparePlan}
 use Rattle.model.specs.Calls.{Call, saveVirtual, freeVirtual, commit, saveBlock, savePacket, sparePacket, openDisc, Answer, done, cut, refused, opened, State, step, carried, answerOf, answers, final, accepted, isCut, isOpened, Proper, endsCut}
-use Rattle.model.specs.Store.{holds, unused, Store, Shape, store, start, shapeOf, cutIn, writesIn, wasCut, wholeAt, blocksIn, packetWith, taken, next, Seen, bytes, turned, seenAs, look}
+use Rattle.model.specs.Store.{holds, unused, Store, Shape, store, start, shapeOf, cutIn, writesIn, wasCut, blocksIn, packetWith, taken, next, Seen, bytes, turned, seenAs, look}
 use Rattle.model.specs.Demand.{Demand3, afterOpening, followed}
 use Rattle.model.specs.Consequences.{Follows, answerAfter, storeAfter, shownAfter, CarriedOut, CutShort, CutExactly, RefusalsChangeNothing, OnceEffect, LastCommit, laysIcb, CopyByCommit, FullEffect, SpareAllOrNothing, seenLanded, SaveOwnPacket}
-use Rattle.model.proofs.Basics.{by-bool, and-true, differ}
+use Rattle.model.proofs.Basics.{cond-both, by-bool, and-true, differ}
+use Rattle.model.proofs.Cuts.{whole-same, spared-cut}
 use Rattle.model.proofs.Verdicts.{by-verdict, then-go}
 use Rattle.model.proofs.Steps.{Told, told-opening}
 use Rattle.model.proofs.OnceSave.{once-tells}
@@ -285,21 +286,26 @@ last-commit e d t cs one f v out long =
     ∙ ap (next (shapeOf e) (storeAfter e d t cs) openDisc) (opening-accepted e d t cs [] f)
     ∙ opening-returns (shapeOf e) one (storeAfter e d t cs))
 
+-- a sparing that was cut has a write at which it was
+spare-at : (h : Shape) (σ : Store) (b : ℕ) (x : List ℕ) (c : Cut) → wasCut h σ (sparePacket b x c) ≡ true → 1 ≤ c .at
+unfolding wasCut cutIn struck
+spare-at h σ b x c q = leb-true _ _ (and-true (leb 1 (c .at)) _ q .0)
+
 -- the copy after a call
 copy-next : (h : Shape) (σ : Store) (c : Call) (b : Bool) → next h σ c b .copy ≡ cond (b && laysIcb h σ c) (σ .blocks) (σ .copy)
-unfolding next taken laysIcb
+unfolding next taken laysIcb writesIn
 copy-next h σ c false = refl
 copy-next h σ (saveVirtual v b c) true = by-bool (wasCut h σ (saveVirtual v b c)) (λ q. rw q) (λ q. rw q)
 copy-next h σ (freeVirtual v) true = by-bool (wasCut h σ (freeVirtual v)) (λ q. rw q) (λ q. rw q)
 copy-next h σ (commit c) true =
     by-bool (wasCut h σ (commit c))
-    (λ q. by-bool (wholeAt (writesIn h σ (commit c)) c) (λ w. rw (q, w)) (λ w. rw (q, w)))
+    (λ q. rw q (cond-both (λ (τ : Store). τ .copy) _ _ (whole-same _ _ c (omega arith)) refl refl))
     (λ q. rw q)
 copy-next h σ (saveBlock b x c) true = by-bool (wasCut h σ (saveBlock b x c)) (λ q. rw q) (λ q. rw q)
 copy-next h σ (savePacket b x c) true = by-bool (wasCut h σ (savePacket b x c)) (λ q. rw q) (λ q. rw q)
 copy-next h σ (sparePacket b x c) true =
     by-bool (wasCut h σ (sparePacket b x c))
-    (λ q. by-bool (wholeAt 33 c) (λ w. rw (q, w)) (λ w. rw (q, w)))
+    (λ q. rw q (spared-cut h σ b x c (λ (τ : Store). τ .copy ≡ σ .copy) (spare-at h σ b x c q) (λ w. refl) (λ w. refl)))
     (λ q. rw q)
 copy-next h σ openDisc true =
     by-bool (wasCut h σ openDisc)
@@ -389,9 +395,10 @@ spare-all-or-nothing e d t cs b x c k v out long =
       accepts = u .0;
       uncut = u .1;
     } in
-    by-bool (wholeAt 33 c)
-    (λ z. rw z (rw z at w ∙ sym (carried-reads e d t cs (sparePacket b x noCut) o v out long)))
-    (λ z. rw z (rw z at w ∙ sym (before e d t cs (sparePacket b x c) (openDisc ∷ []) n (k .follows) v out long)))
+    w
+    ∙ cond-both (λ (σ : Store). look σ v) _ _ (whole-same _ _ c (omega arith))
+    (sym (carried-reads e d t cs (sparePacket b x noCut) o v out long))
+    (sym (before e d t cs (sparePacket b x c) (openDisc ∷ []) n (k .follows) v out long))
 
 -- a save that was cut touches its own packet alone, each sector by how its write landed
 pub save-own-packet : SaveOwnPacket

@@ -15,6 +15,12 @@ module _ (e : Setting) where
   answer-at [] c ds st = refl
   answer-at (x ∷ cs) c ds st = answer-at cs c ds (step e st x .state)
 
+  -- the state after both
+  pub final-append : (cs ds : List Call) (st : State) → final e st (cs ++ ds) ≡ final e (final e st cs) ds
+  unfolding final
+  final-append [] ds st = refl
+  final-append (x ∷ cs) ds st = final-append cs ds (step e st x .state)
+
   -- the plain store after both
   pub followed-append : (h : Shape) (cs ds : List Call) (st : State) (σ : Store)
       → followed h σ (cs ++ ds) (answers e st (cs ++ ds)) ≡ followed h (followed h σ cs (answers e st cs)) ds (answers e (final e st cs) ds)

@@ -45,3 +45,5 @@ pub mod ConsequencesLooks
 pub mod Consequences
 pub mod RunSteps
 pub mod Run
+pub mod ReadBack
+pub mod ReadBackMet

@@ -1,6 +1,6 @@
 -- A commit on a write-once disc keeps the invariant, wherever it is cut: its VAT is found again exactly if its ICB is whole. Assumes nothing.
 use Prim.Native.Nat.{ℕ, _+_, _-_, _*_, _≤_, _<_}
-use mathlib.Core.Bool.{true, false}
+use mathlib.Core.Bool.{true, false, cond, not}
 use mathlib.Core.Logic.{_≢_}
 use mathlib.Core.Path.{_≡_, refl, sym, ap, _∙_, subst}
 use mathlib.Core.List.{List, [], _∷_, _++_}
@@ -8,7 +8,7 @@ use native.Mathlib.Omega.{arith}
 use lib.Dec.{leb, eqb}
 use lib.ListN.{length, take, length-append}
 use lib.Seq.{length-take-le}
-use borrow.Author.Tests.{leb-true, lt-ltb}
+use borrow.Author.Tests.{leb-true, lt-ltb, not-true}
 use Rattle.refusal.specs.declared.Verdict.the-variants.{Go}
 use Rattle.fields.proofs.Laws.{part-all}
 use Rattle.model.specs.declared.Cut.{Cut}
@@ -21,8 +21,9 @@ use Rattle.model.specs.VatWritten.{dataSectors, writtenFile, writtenData
 use Rattle.model.specs.Examine.{Setting, lentTable}
 use Rattle.model.specs.Once.{nextOn, entriesHeld, nextHeld, lastHeld, onceVerdict, roomToCommit, commitTests, icbBlock, commitWrites, commitPlan}
 use Rattle.model.specs.Calls.{commit, State, step}
-use Rattle.model.specs.Store.{Slot, entrySlots, Store, Shape, cutIn, writesIn, wholeAt, taken}
-use Rattle.model.proofs.Basics.{by-bool, by-lt, and-true, both, or-right}
+use Rattle.model.specs.Store.{Slot, entrySlots, Store, store, Shape, cutIn, writesIn, wasCut, wholeAt, taken}
+use Rattle.model.specs.Consequences.{laysIcb}
+use Rattle.model.proofs.Basics.{cond-elim, by-lt, and-true, both, or-cases, or-right}
 use Rattle.model.proofs.Agree.{Agree, agree-less, agree-trans}
 use Rattle.model.proofs.Scan.{below-mono, not-recorded, slots-agree}
 use Rattle.model.proofs.Sectors.{Made, shapely-made, shapely-most, inside-fits, landed-shapely, landed-inside, sector-done, mark-done, recorded-done, writes-append, writes-one, landing-uncut, landing-done-before, nwa-is}
@@ -30,7 +31,7 @@ use Rattle.model.proofs.SectorsRuns.{joined-agree, recordedRun-agree, l
 use Rattle.model.proofs.WrittenVat.{length-data, length-icb, file-count, file-entries, file-previous, icb-file, icb-passes, data-never}
 use Rattle.model.proofs.Once.{Kept, BlankFrom, Ran, on-disc, agree-landed, blank-landed, kept-write, kept-run}
 use Rattle.model.proofs.OnceRead.{onceHeld, Live, live-blank, live-last, live-length}
-use Rattle.model.proofs.Cuts.{whole-lands, broken-lands}
+use Rattle.model.proofs.Cuts.{whole-lands, broken-lands, choice-same}
 use Rattle.model.proofs.OnceSave.{OnceOk, once-tells}
 use Rattle.model.proofs.Steps.{Told, told-plan, Sound, sound-plan, sound-carried}
 
@@ -175,24 +176,70 @@ module _ (s l : ℕ) (d : Disc) (c : Cut) (t : List ℕ) (i₀ last : ℕ) {a : 
     pub whole-previous : previousOf (vatFile d₂ s k) ≡ last
     whole-previous = rw is-whole (ap previousOf file ∙ file-previous t last k before-k small)
 
--- the writes of a commit, by the number of the entries
-commit-writes : (e : Setting) (t : List ℕ) (held : Record) → entriesHeld held ≡ length t
-    → commitWrites e t held
-    ≡ upward (dataSectors (length t)) (e .start + nextHeld held) (writtenData t (lastHeld held)) 0
-    ++ (record { place = e .start + (nextHeld held + dataSectors (length t)); bytes = writtenIcb (nextHeld held + dataSectors (length t)) t (lastHeld held) } ∷ [])
-unfolding commitWrites icbBlock
-commit-writes e t held q = rw q
+-- ---- the writes of a commit, by what they do
 
--- the disc after them
-commit-disc : (c : Cut) (D p : ℕ) (body : List ℕ) (w : Write) (d : Disc)
-    → writes 1 c (upward D p body 0 ++ (w ∷ [])) d ≡ landed (landing (1 + D) c) (w .place) (w .bytes) (writes 1 c (upward D p body 0) d)
-commit-disc c D p body w d =
-    writes-append 1 c (upward D p body 0) (w ∷ []) d
-    ∙ ap (λ (n : ℕ). writes (1 + n) c (w ∷ []) (writes 1 c (upward D p body 0) d)) (length-upward D p body 0)
-    ∙ writes-one (1 + D) c (w .place) (w .bytes) (writes 1 c (upward D p body 0) d)
+-- an ICB of the same numbers
+same-icb : (j k : ℕ) (t u : List ℕ) (a b : ℕ) → j ≡ k → t ≡ u → a ≡ b → writtenIcb j t a ≡ writtenIcb k u b
+same-icb j k t u a b p q r = λ i. writtenIcb (p i) (q i) (r i)
+
+-- the same write, landed alike
+same-landed : (lg : Landing) (p q : ℕ) (a b : List ℕ) (d d′ : Disc) → p ≡ q → a ≡ b → d ≡ d′ → landed lg p a d ≡ landed lg q b d′
+same-landed lg p q a b d d′ u v w = λ i. landed lg (u i) (v i) (w i)
+
+-- the same run of writes
+same-run : (c : Cut) (j k p q : ℕ) (a b : List ℕ) (at : ℕ) (d : Disc) → j ≡ k → p ≡ q → a ≡ b → writes 1 c (upward j p a at) d ≡ writes 1 c (upward k q b at) d
+same-run c j k p q a b at d u v w = λ i. writes 1 c (upward (u i) (v i) (w i) at) d
+
+-- the last of m + 1 writes
+last-write : (c : Cut) (ws : List Write) (w : Write) (d : Disc) (m : ℕ) → length (ws ++ (w ∷ [])) ≡ m + 1
+    → writes 1 c (ws ++ (w ∷ [])) d ≡ landed (landing (1 + m) c) (w .place) (w .bytes) (writes 1 c ws d)
+last-write c ws w d m q =
+    let n : length ws ≡ m = omega (arith, length-append ws (w ∷ [])) in
+    writes-append 1 c ws (w ∷ []) d
+    ∙ ap (λ (x : ℕ). writes (1 + x) c (w ∷ []) (writes 1 c ws d)) n
+    ∙ writes-one (1 + m) c (w .place) (w .bytes) (writes 1 c ws d)
+
+-- a run of none before others
+no-run : (k p : ℕ) (b : List ℕ) (at : ℕ) (ws : List Write) → k ≡ 0 → upward k p b at ++ ws ≡ ws
+unfolding upward
+no-run k p b at ws q = ap (λ (x : ℕ). upward x p b at ++ ws) q
+
+-- one write alone
+same-one : (p q : ℕ) (a b : List ℕ) → p ≡ q → a ≡ b → _≡_ {A = List Write} (record { place = p; bytes = a } ∷ []) (record { place = q; bytes = b } ∷ [])
+same-one p q a b u v = λ i. record { place = u i; bytes = v i } ∷ []
+
+module _ (e : Setting) (t : List ℕ) (held : Record) (count : entriesHeld held ≡ length t) where
+  -- they are one for each data sector, and the ICB's
+  pub commit-number : length (commitWrites e t held) ≡ dataSectors (length t) + 1
+  unfolding commitWrites
+  commit-number = simp (length-append, length-upward) (omega (arith, ap dataSectors count))
+
+  -- the data upward from NWA, then the ICB above them
+  pub commit-disc : (c : Cut) (d : Disc)
+      → writes 1 c (commitWrites e t held) d
+      ≡ landed (landing (1 + dataSectors (length t)) c)
+      (e .start + (nextHeld held + dataSectors (length t)))
+      (writtenIcb (nextHeld held + dataSectors (length t)) t (lastHeld held))
+      (writes 1 c (upward (dataSectors (length t)) (e .start + nextHeld held) (writtenData t (lastHeld held)) 0) d)
+  unfolding commitWrites icbBlock
+  commit-disc c d =
+      let m = commit-number in
+      let s : dataSectors (entriesHeld held) ≡ dataSectors (length t) = ap dataSectors count in
+      last-write c _ _ d (dataSectors (length t)) m
+      ∙ same-landed _ _ _ _ _ _ _ (omega arith) (same-icb _ _ _ _ _ _ (omega arith) (cc) (omega arith))
+      (same-run c _ _ _ _ _ _ 0 d (omega arith) (omega arith) (cc))
+
+  -- with no data it is the ICB alone
+  pub commit-one : dataSectors (length t) ≡ 0
+      → commitWrites e t held ≡ record { place = e .start + nextHeld held; bytes = writtenIcb (nextHeld held) t (lastHeld held) } ∷ []
+  unfolding commitWrites icbBlock
+  commit-one none =
+      let m = commit-number in
+      let s : dataSectors (entriesHeld held) ≡ 0 = ap dataSectors count ∙ none in
+      no-run _ _ _ _ _ (omega arith) ∙ same-one _ _ _ _ (omega arith) (same-icb _ _ _ _ _ _ (omega arith) (cc) (omega arith))
 
 module _ (e : Setting) (h : Shape) (st : State) (σ : Store) (i : Live e st σ) (c : Cut)
-    (g : onceVerdict e (st .disc) (st .table) (lentTable (st .table)) (st .held) (commitTests e (st .held)) ≡ Go) where
+    (goes : onceVerdict e (st .disc) (st .table) (lentTable (st .table)) (st .held) (commitTests e (st .held)) ≡ Go) where
   abbrev t′ : List ℕ
   t′ = take (entriesHeld (st .held)) (st .table)
 
@@ -208,7 +255,7 @@ module _ (e : Setting) (h : Shape) (st : State) (σ : Store) (i : Live e st σ) 
   space : nextHeld (st .held) + D′ + 1 ≤ e .span
   unfolding commitTests roomToCommit
   space =
-      let p = once-tells e (st .disc) (st .table) _ (st .held) (commitTests e (st .held)) g in
+      let p = once-tells e (st .disc) (st .table) _ (st .held) (commitTests e (st .held)) goes in
       let r : nextHeld (st .held) + dataSectors (entriesHeld (st .held)) + 1 ≤ e .span = leb-true _ _ (p .1 .0) in
       omega (arith, ap dataSectors count)
 
@@ -216,15 +263,10 @@ module _ (e : Setting) (h : Shape) (st : State) (σ : Store) (i : Live e st σ) 
   few′ = omega (arith, count, i .few)
 
   is-disc : writes 1 c ws (st .disc) ≡ d₂ (e .start) (e .span) (st .disc) c t′ (nextHeld (st .held)) (lastHeld (st .held)) (i .kept) (live-blank e st σ i) few′ (i .fresh) (live-last e st σ i) space
-  is-disc =
-      ap (λ (x : List Write). writes 1 c x (st .disc)) (commit-writes e t′ (st .held) (sym count))
-      ∙ commit-disc c D′ (e .start + nextHeld (st .held)) (writtenData t′ (lastHeld (st .held))) _ (st .disc)
+  is-disc = commit-disc e t′ (st .held) (sym count) c (st .disc)
 
   number : length ws ≡ D′ + 1
-  number =
-      ap length (commit-writes e t′ (st .held) (sym count))
-      ∙ length-append (upward D′ (e .start + nextHeld (st .held)) (writtenData t′ (lastHeld (st .held))) 0) _
-      ∙ ap (λ (n : ℕ). n + 1) (length-upward D′ (e .start + nextHeld (st .held)) (writtenData t′ (lastHeld (st .held))) 0)
+  number = commit-number e t′ (st .held) (sym count)
 
   told : writesIn h σ (commit c) ≡ D′ + 1
   unfolding writesIn
@@ -244,18 +286,47 @@ module _ (e : Setting) (h : Shape) (st : State) (σ : Store) (i : Live e st σ) 
       rw is-disc
       (torn-kept (e .start) (e .span) (st .disc) c t′ (nextHeld (st .held)) (lastHeld (st .held)) (i .kept) (live-blank e st σ i) few′ (i .fresh) (live-last e st σ i) space q)
 
+  -- a commit whose ICB is whole
+  pub laid : laysIcb h σ (commit c) ≡ true → landing (1 + D′) c ≡ Landing.Done
+  unfolding laysIcb wasCut cutIn
+  laid q =
+      let m : 1 + D′ ≡ writesIn h σ (commit c) = omega (arith, told) in
+      rw m
+      (or-cases (not (struck c (writesIn h σ (commit c)))) _ q
+      (λ w. landing-uncut _ _ c (not-true _ w) (omega (arith, told)) (omega arith))
+      (λ w. whole-lands _ c (omega (arith, told)) w))
+
+  -- its VAT is the topmost, and names the one before it
+  pub laid-kept : laysIcb h σ (commit c) ≡ true → Kept (e .start) (e .span) (writes 1 c ws (st .disc)) (nextHeld (st .held) + D′) (σ .blocks)
+  laid-kept q = whole-commit (laid q)
+
+  pub laid-previous : laysIcb h σ (commit c) ≡ true → previousOf (vatFile (writes 1 c ws (st .disc)) (e .start) (nextHeld (st .held) + D′)) ≡ lastHeld (st .held)
+  laid-previous q =
+      rw is-disc
+      (whole-previous (e .start) (e .span) (st .disc) c t′ (nextHeld (st .held)) (lastHeld (st .held)) (i .kept) (live-blank e st σ i) few′ (i .fresh) (live-last e st σ i) space (laid q))
+
+  -- the last write of a cut commit, its ICB, decides
+  commit-choice : taken h σ (commit c) true ≡ cond (wholeAt (1 + D′) c) (store (σ .blocks) (σ .blocks)) σ
+  unfolding taken writesIn
+  commit-choice =
+      let m : writesIn h σ (commit c) ≡ D′ + 1 = told in
+      choice-same _ _ c _ _ (omega arith)
+
+  -- it has copied exactly if its ICB is whole
+  copied : (P : Store → Type 0) → 1 ≤ c .at → (landing (1 + D′) c ≡ Landing.Done → P (store (σ .blocks) (σ .blocks))) → (landing (1 + D′) c ≢ Landing.Done → P σ)
+      → P (taken h σ (commit c) true)
+  copied P cut f g =
+      rw commit-choice
+      (cond-elim P (wholeAt (1 + D′) c) (λ w. f (whole-lands (1 + D′) c (omega arith) w)) (λ w. g (broken-lands (1 + D′) c (omega arith) cut w)))
+
   cut-commit : struck c (length ws) ≡ true
       → OnceOk e true (record { disc = writes 1 c ws (st .disc); table = st .table; held = st .held }) (taken h σ (commit c) true)
-  unfolding OnceOk taken struck
+  unfolding OnceOk struck
   cut-commit q =
       let p = and-true (leb 1 (c .at)) _ q in
-      by-bool (wholeAt (D′ + 1) c)
-      (λ w.
-      let v : 1 + D′ ≡ D′ + 1 = omega arith in
-      rw (told, w) (nextHeld (st .held) + D′, whole-commit (rw v (whole-lands (D′ + 1) c (omega arith) w)), i .lent))
-      (λ w.
-      let v : 1 + D′ ≡ D′ + 1 = omega arith in
-      rw (told, w) (lastHeld (st .held), torn-commit (rw v (broken-lands (D′ + 1) c (omega arith) (leb-true _ _ (p .0)) w)), i .lent))
+      copied (OnceOk e true (record { disc = writes 1 c ws (st .disc); table = st .table; held = st .held })) (leb-true _ _ (p .0))
+      (λ w. (nextHeld (st .held) + D′, whole-commit w, i .lent))
+      (λ w. (lastHeld (st .held), torn-commit w, i .lent))
 
   done-commit : struck c (length ws) ≡ false
       → Live e (record { disc = writes 1 c ws (st .disc); table = st .table; held = Record.WriteOnce (entriesHeld (st .held)) (icbBlock (st .held) + 1) (icbBlock (st .held)) })
@@ -266,7 +337,7 @@ module _ (e : Setting) (h : Shape) (st : State) (σ : Store) (i : Live e st σ) 
       let n = nextHeld (st .held) in
       let a = whole-agree (e .start) (e .span) (st .disc) c t′ n (lastHeld (st .held)) (i .kept) (live-blank e st σ i) few′ (i .fresh) (live-last e st σ i) space w in
       let m = whole-next (e .start) (e .span) (st .disc) c t′ n (lastHeld (st .held)) (i .kept) (live-blank e st σ i) few′ (i .fresh) (live-last e st σ i) space w in
-      let k′ : n + D′ ≡ n + dataSectors (entriesHeld (st .held)) = ap (λ (x : ℕ). n + dataSectors x) count in
+      let k′ : n + D′ ≡ icbBlock (st .held) = omega (arith, ap dataSectors count) in
       record {
         once = refl;
         kept = subst (λ (x : ℕ). Kept (e .start) (e .span) (writes 1 c ws (st .disc)) x (σ .blocks)) k′ (whole-commit w);

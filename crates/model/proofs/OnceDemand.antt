@@ -101,11 +101,11 @@ module _ (e : Setting) (one : writeOnce e ≡ true) (maps-go : readMaps (e .maps
   unfolding OnceOk
   once-answers d t g cs p = list-told (OnceOk e) h e sound-any told-any cs (afterOpening e d t) (start e d) (first-live e one maps-go d t g) p
 
-  once-count : (d : Disc) (t : List ℕ) → openVerdict e d t ≡ Go → (cs : List Call) → Proper false cs (answers e (afterOpening e d t) cs)
+  once-ends : (d : Disc) (t : List ℕ) → openVerdict e d t ≡ Go → (cs : List Call) → Proper false cs (answers e (afterOpening e d t) cs)
       → endsCut false (answers e (afterOpening e d t) cs) ≡ false
-      → length (followed h (start e d) cs (answers e (afterOpening e d t) cs) .blocks) ≡ entriesHeld (final e (afterOpening e d t) cs .held)
+      → Live e (final e (afterOpening e d t) cs) (followed h (start e d) cs (answers e (afterOpening e d t) cs))
   unfolding OnceOk
-  once-count d t g cs p q = live-length e _ _ (list-ends (OnceOk e) h e sound-any opens-any cs (afterOpening e d t) (start e d) (first-live e one maps-go d t g) p q)
+  once-ends d t g cs p q = list-ends (OnceOk e) h e sound-any opens-any cs (afterOpening e d t) (start e d) (first-live e one maps-go d t g) p q
 
 -- on a write-once disc that opening accepts
 pub once-demand : (e : Setting) (d : Disc) (t : List ℕ) → writeOnce e ≡ true → isOpened (answerOfOpening (opening e d t)) ≡ true
@@ -126,12 +126,18 @@ once-told e d t one a cs p =
     let m = examined-tells e d _ (then-go (examined e d _) _ g .0) .maps in
     once-answers e one m d t g cs p
 
--- the plain store has N blocks after a list that does not end in a cut
+-- what holds between calls holds after a list that does not end in a cut
+pub once-live : (e : Setting) (d : Disc) (t : List ℕ) → writeOnce e ≡ true → isOpened (answerOfOpening (opening e d t)) ≡ true
+    → (cs : List Call) → Proper false cs (answers e (afterOpening e d t) cs) → endsCut false (answers e (afterOpening e d t) cs) ≡ false
+    → Live e (final e (afterOpening e d t) cs) (followed (shapeOf e) (start e d) cs (answers e (afterOpening e d t) cs))
+unfolding openVerdict
+once-live e d t one a cs p =
+    let g = accepted-goes e d t a in
+    let m = examined-tells e d _ (then-go (examined e d _) _ g .0) .maps in
+    once-ends e one m d t g cs p
+
+-- the plain store has N blocks after it
 pub once-blocks : (e : Setting) (d : Disc) (t : List ℕ) → writeOnce e ≡ true → isOpened (answerOfOpening (opening e d t)) ≡ true
     → (cs : List Call) → Proper false cs (answers e (afterOpening e d t) cs) → endsCut false (answers e (afterOpening e d t) cs) ≡ false
     → length (followed (shapeOf e) (start e d) cs (answers e (afterOpening e d t) cs) .blocks) ≡ entriesHeld (final e (afterOpening e d t) cs .held)
-unfolding openVerdict
-once-blocks e d t one a cs p =
-    let g = accepted-goes e d t a in
-    let m = examined-tells e d _ (then-go (examined e d _) _ g .0) .maps in
-    once-count e one m d t g cs p
+once-blocks e d t one a cs p q = live-length e _ _ (once-live e d t one a cs p q)

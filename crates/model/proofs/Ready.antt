@@ -4,6 +4,7 @@ use Prim.Native.Nat.{ℕ, _*_, _≤_, _<_}
 use mathlib.Core.Bool.{Bool, true, false}
 use mathlib.Core.Path.{_≡_, sym, ap, ap₂, _∙_}
 use mathlib.Core.List.{List, [], _∷_}
+use native.Mathlib.Omega.{arith}
 use lib.Dec.{ltb}
 use lib.ListN.{length, getD, take}
 use borrow.Author.Tests.{lt-ltb, le-ltb, le-leb, eq-eqb}
@@ -115,17 +116,22 @@ module _ (e : Setting) (g : Geometry) (again : writeOnce e ≡ false) (γ : Grou
     abbrev at-block : ℕ
     at-block = locate (g .start) (entries l) b
 
+    -- a block is read where the table leads
+    there : blockSector e (st .disc) (st .table) b ≡ at-block
+    unfolding blockSector placeOf
+    there = rw again (omega (arith, ready-place γ (i .ready) b))
+
     read-tests : readVerdict e (st .disc) (st .table) (st .held) b out
         ≡ first (test (ltb b (g .span)) NumberOutside ∷ test (recorded (st .disc) at-block) NotRecorded ∷ [])
-    unfolding readVerdict readRewritableTests blockTest blockSector readLent lentTable need copyTests tableOn
+    unfolding readVerdict readRewritableTests blockTest readLent lentTable need copyTests tableOn
     read-tests =
         go-then _ (examined-again (st .disc) _ (i .ready) (both (le-leb _ _ (i .lent)) (eq-eqb _ _ long)))
-        ∙ rw (again, i .ready .geo, settled-some (st .disc) g n l (i .ready .settled), settled-table (st .disc) g n l (i .ready .settled), settled-agree (st .disc) g n l (i .ready .settled), held-current st i, ready-place γ (i .ready) b, γ .span-is)
+        ∙ rw (again, i .ready .geo, settled-some (st .disc) g n l (i .ready .settled), settled-table (st .disc) g n l (i .ready .settled), settled-agree (st .disc) g n l (i .ready .settled), held-current st i, there, γ .span-is)
 
     shown : (w : Verdict) → readVerdict e (st .disc) (st .table) (st .held) b out ≡ w
         → seen e st b out ≡ seenBy w (blockBy w (sector (st .disc) at-block) out)
-    unfolding seen readBytes blockSector
-    shown w h = rw (h, again, ready-place γ (i .ready) b)
+    unfolding seen readBytes
+    shown w h = rw (h, there)
 
     -- reading shows what the plain store does
     pub read-again : seen e st b out ≡ look σ b

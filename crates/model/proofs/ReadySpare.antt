@@ -20,12 +20,12 @@ use Rattle.model.specs.Examine.{Setting, geometry, lentTable}
 use Rattle.model.specs.Once.{filledFrom}
 use Rattle.model.specs.Rewrite.{isNone, noEntry, isSpared, entriesOn, stale, copiesTo, copyOrder, packetWrites, packetTests, packetLent, spareTests, sparedTable, spareWrites, sparePlan}
 use Rattle.model.specs.Calls.{sparePacket, State, step}
-use Rattle.model.specs.Store.{Slot, holds, slotAt, slotAfter, puts, blocksIn, wholeAt, Store, Shape, cutIn, writesIn, taken}
-use Rattle.model.proofs.Basics.{by-bool, by-eq, and-true}
+use Rattle.model.specs.Store.{Slot, holds, slotAt, slotAfter, puts, blocksIn, Store, Shape, cutIn, writesIn, taken}
+use Rattle.model.proofs.Basics.{by-eq, and-true}
 use Rattle.model.proofs.Sectors.{Made, Placed, Elsewhere, shapely-made, landed-made, landed-marks-length, sector-other, mark-other, sector-done, mark-done, mark-unreadable, sector-unreadable, writes-marks-length, writes-shapely, writes-inside, writes-made, writes-other, writes-append, landing-uncut, landing-done-before, landing-lost}
 use Rattle.model.proofs.SectorsRuns.{length-upward, placed-upward, elsewhere-upward, upward-sector, upward-mark}
-use Rattle.model.proofs.SparingLaws.{In, Distinct, entries-flat, tables-distinct, length-written, written-sequence, written-table, written-fits, resorted-length, resorted-fits, packet-rest, packet-inside, table-outside, locate-not-table, locate-not-free, free-not-table, free-on, locate-spared, locate-unspared, current-some, current-table, current-counting, current-sequence, current-distinct, counting-counts, stale-in, order-length, order-in, order-distinct, length-copies, SameAt, counts-agree, sequence-agree, counts-recorded, fits-counts, Settled, settled-some, settled-sequence}
-use Rattle.model.proofs.Cuts.{whole-lands, broken-lands}
+use Rattle.model.proofs.SparingLaws.{In, Distinct, entries-flat, tables-distinct, length-written, written-sequence, written-table, written-fits, resorted-length, resorted-fits, packet-rest, packet-inside, table-outside, locate-not-table, locate-not-free, free-not-table, free-on, locate-spared, locate-unspared, current-some, current-table, current-counting, current-sequence, current-distinct, counting-counts, stale-in, copy-order-length, copy-order-in, copy-order-distinct, length-copies, SameAt, counts-agree, sequence-agree, counts-recorded, fits-counts, Settled, settled-some, settled-sequence}
+use Rattle.model.proofs.Cuts.{spared-cut}
 use Rattle.model.proofs.Ground.{Ground, geometry-same}
 use Rattle.model.proofs.Ready.{Ready, Holds, LiveAgain, ready-fits, ready-entries, ready-count, ready-sequence, table-length}
 use Rattle.model.proofs.ReadyOpen.{AgainOk}
@@ -107,10 +107,12 @@ other-of (y ∷ a) (z ∷ b) t ts apart two some n q =
     let yt : y ≡ t = cc in
     (z, inl refl, λ zt. n y (inl refl) (inl (yt ∙ sym zt)))
 
-other-current : (d : Disc) (g : Geometry) (t : ℕ) (ts : List ℕ) → Distinct (g .tables) → 2 ≤ length (g .tables) → isNone (counting d g) ≡ false
-    → stale (current d g) (g .tables) ++ current d g ≡ t ∷ ts → (y : ℕ) × In y (current d g) × (y ≢ t)
-other-current d g t ts apart two some eq =
-    other-of (stale (current d g) (g .tables)) (current d g) t ts (current-distinct d g apart) (omega (arith, order-length d g)) (current-some d g some)
+other-current : (e : Setting) (d : Disc) (t : ℕ) (ts : List ℕ) → Distinct (geometry e d .tables) → 2 ≤ length (geometry e d .tables) → isNone (counting d (geometry e d)) ≡ false
+    → copyOrder e d ≡ t ∷ ts → (y : ℕ) × In y (current d (geometry e d)) × (y ≢ t)
+unfolding copyOrder
+other-current e d t ts apart two some eq =
+    let g : Geometry = geometry e d in
+    other-of (stale (current d g) (g .tables)) (current d g) t ts (current-distinct d g apart) (omega (arith, copy-order-length e d)) (current-some d g some)
     (λ z i. stale-in (current d g) (g .tables) z i .1) eq
 
 -- ---- a copy whose sector and mark are the same on two discs
@@ -148,7 +150,7 @@ module _ (e : Setting) (g : Geometry) (γ : Ground e g) (d : Disc) (n : ℕ) (l 
 
   -- the copies in the order in which they are written
   abbrev order : List ℕ
-  order = stale (current d g) (g .tables) ++ current d g
+  order = copyOrder e d
 
   -- the disc once the packet is written, and then the copies
   abbrev d₁ : Disc
@@ -212,7 +214,13 @@ module _ (e : Setting) (g : Geometry) (γ : Ground e g) (d : Disc) (n : ℕ) (l 
   long-copy = length-written g es′ (n + 1) fits′ (γ .size) (γ .sectors) span-small small′
 
   order-table : (t : ℕ) → In t order → In t (g .tables)
-  order-table t i = order-in d g t .0 i
+  order-table t i = rw (r .geo) at (copy-order-in e d t .0 i)
+
+  order-many : length order ≡ length (g .tables)
+  order-many = rw (r .geo) at (copy-order-length e d)
+
+  order-apart : Distinct order
+  order-apart = copy-order-distinct e d (rw (r .geo) (γ .apart))
 
   on-table : (t : ℕ) → In t (g .tables) → t < length (d₁ .marks)
   on-table t i = omega (arith, marks₁, sectors, table-outside g (g .tables) t (γ .outside) i .on)
@@ -251,7 +259,9 @@ module _ (e : Setting) (g : Geometry) (γ : Ground e g) (d : Disc) (n : ℕ) (l 
     -- the first copy to be written, and another that is current
     module _ (t : ℕ) (ts : List ℕ) (eq : order ≡ t ∷ ts) where
       another : (y : ℕ) × In y (current d g) × (y ≢ t)
-      another = other-current d g t ts (tables-distinct (g .tables) (γ .apart)) two (settled-some d g n l (r .settled)) eq
+      another =
+          rw (r .geo) at
+          (other-current e d t ts (rw (r .geo) (tables-distinct (g .tables) (γ .apart))) (rw (r .geo) two) (rw (r .geo) (settled-some d g n l (r .settled))) eq)
 
       one-write : d₂ ≡ landed (landing 33 c) t copy d₁
       unfolding writes write copiesTo
@@ -287,7 +297,7 @@ module _ (e : Setting) (g : Geometry) (γ : Ground e g) (d : Disc) (n : ℕ) (l 
           }
 
     settled-torn : (o : List ℕ) → order ≡ o → Settled d₂ g n l
-    settled-torn [] q = absurd (omega (arith, ap length q, order-length d g))
+    settled-torn [] q = absurd (omega (arith, ap length q, order-many))
     settled-torn (t ∷ ts) q = rw (one-write t ts q) (torn t ts q (landing 33 c) broken)
 
     pub spare-torn : Ready e g d₂ n l bs
@@ -308,12 +318,12 @@ module _ (e : Setting) (g : Geometry) (γ : Ground e g) (d : Disc) (n : ℕ) (l 
     -- the first copy is there
     first-copy : (o : List ℕ) → order ≡ o → (t : ℕ) × In t (g .tables) × (sector d₂ t ≡ copy) × (mark d₂ t ≡ 1)
     unfolding writes write copiesTo landed
-    first-copy [] q = absurd (omega (arith, ap length q, order-length d g))
+    first-copy [] q = absurd (omega (arith, ap length q, order-many))
     first-copy (t ∷ ts) q =
         let it : In t (g .tables) = order-table t (rw q (inl refl)) in
         let h : t < length (d₁ .marks) = on-table t it in
         let d₃ : Disc = landed Landing.Done t copy d₁ in
-        let apart : Distinct (t ∷ ts) = rw q at (order-distinct d g (tables-distinct (g .tables) (γ .apart))) in
+        let apart : Distinct (t ∷ ts) = rw q at order-apart in
         let run : d₂ ≡ writes (33 + 1) c (copiesTo ts copy) d₃ =
         ap (λ (o : List ℕ). writes 33 c (copiesTo o copy) d₁) q
         ∙ ap (λ (lg : Landing). writes (33 + 1) c (copiesTo ts copy) (landed lg t copy d₁)) whole in
@@ -417,24 +427,31 @@ unfolding isSpared
 not-spared (mappedTo m) h = absurd (false≢true (sym h))
 not-spared inPlace h = refl
 
+-- a packet to the same place and the same copies in the same order
+same-spare : (p q : ℕ) (x : List ℕ) (o o′ : List ℕ) (m n : ℕ) (l l′ : List ℕ) → p ≡ q → o ≡ o′ → m ≡ n → l ≡ l′
+    → upward 32 p x 0 ++ copiesTo o (writtenTable m l) ≡ upward 32 q x 0 ++ copiesTo o′ (writtenTable n l′)
+same-spare p q x o o′ m n l l′ a b c d = λ i. upward 32 (a i) x 0 ++ copiesTo (b i) (writtenTable (c i) (d i))
+
 -- the writes of a sparing, by the table on the disc
 spare-writes : (e : Setting) (g : Geometry) (d : Disc) (n : ℕ) (l : List ℕ) (bs : List Slot) (b : ℕ) (x : List ℕ) → Ready e g d n l bs
     → spareWrites e d b x
     ≡ upward 32 (firstFree (freeOf (entries l))) x 0
-    ++ copiesTo (stale (current d g) (g .tables) ++ current d g) (writtenTable (n + 1) (flat (resorted (entries l) b)))
+    ++ copiesTo (copyOrder e d) (writtenTable (n + 1) (flat (resorted (entries l) b)))
 unfolding spareWrites packetWrites copyOrder sparedTable
-spare-writes e g d n l bs b x r = rw (ready-entries r, ready-sequence r, r .geo)
+spare-writes e g d n l bs b x r =
+    let m = ready-sequence r in
+    same-spare _ _ x _ _ _ _ _ _ (ap (λ (es : List Entry). firstFree (freeOf es)) (ready-entries r)) (cc) (omega arith) (ap (λ (es : List Entry). flat (resorted es b)) (ready-entries r))
 
 -- they are 32, and one for each table
 spare-count : (e : Setting) (g : Geometry) (d : Disc) (n : ℕ) (l : List ℕ) (bs : List Slot) (b : ℕ) (x : List ℕ) → Ready e g d n l bs
     → length (spareWrites e d b x) ≡ 32 + length (g .tables)
 spare-count e g d n l bs b x r =
-    let o : List ℕ = stale (current d g) (g .tables) ++ current d g in
+    let o : List ℕ = copyOrder e d in
     let tb : List ℕ = writtenTable (n + 1) (flat (resorted (entries l) b)) in
     let up : List Write = upward 32 (firstFree (freeOf (entries l))) x 0 in
     ap length (spare-writes e g d n l bs b x r)
     ∙ length-append up (copiesTo o tb)
-    ∙ ap₂ (λ (y z : ℕ). y + z) (length-upward 32 (firstFree (freeOf (entries l))) x 0) (length-copies o tb ∙ order-length d g)
+    ∙ ap₂ (λ (y z : ℕ). y + z) (length-upward 32 (firstFree (freeOf (entries l))) x 0) (length-copies o tb ∙ rw (r .geo) at (copy-order-length e d))
 
 module _ (e : Setting) (g : Geometry) (γ : Ground e g) (h : Shape) (copies : h .tables ≡ length (g .tables)) (st : State) (σ : Store) (n : ℕ) (l : List ℕ) (i : LiveAgain e g st n l σ) (b : ℕ) (x : List ℕ) (c : Cut) where
   -- a sparing, refused, cut or carried out
@@ -455,7 +472,7 @@ module _ (e : Setting) (g : Geometry) (γ : Ground e g) (h : Shape) (copies : h 
       let some : noEntry (freeOf (entries l)) ≡ false = not-true _ (rw (ready-entries r) at (p .1 .1 .1 .1 .0)) in
       let more : n ≢ 4294967295 = eqb-false _ _ (not-true _ (rw (ready-sequence r) at (p .1 .1 .1 .1 .1 .0))) in
       let ws : List Write = spareWrites e d b x in
-      let o : List ℕ = stale (current d g) (g .tables) ++ current d g in
+      let o : List ℕ = copyOrder e d in
       let tb : List ℕ = writtenTable (n + 1) (flat (resorted (entries l) b)) in
       let up : List Write = upward 32 (firstFree (freeOf (entries l))) x 0 in
       let e₁ : ws ≡ up ++ copiesTo o tb = spare-writes e g d n l (σ .blocks) b x r in
@@ -469,17 +486,15 @@ module _ (e : Setting) (g : Geometry) (γ : Ground e g) (h : Shape) (copies : h 
       sound-carried (AgainOk e g) h σ (sparePacket b x c) c st _ _ _ refl (ap (λ (y : ℕ). 32 + y) copies ∙ sym ln)
       (λ k.
       let at-least : 1 ≤ c .at = leb-true _ _ (and-true (leb 1 (c .at)) _ k .0) in
-      by-bool (wholeAt 33 c)
+      spared-cut h σ b x c (AgainOk e g true (record { disc = writes 1 c ws d; table = st .table; held = st .held })) at-least
       (λ w.
-      rw (w, e₂) (
+      rw e₂ (
         n + 1,
         flat (resorted (entries l) b),
-        spare-done e g γ d n l (σ .blocks) r b x c multiple below long two unspared some more (whole-lands 33 c (omega arith) w),
+        spare-done e g γ d n l (σ .blocks) r b x c multiple below long two unspared some more w,
         i .lent,
       ))
-      (λ w.
-      rw (w, e₂)
-      (n, l, spare-torn e g γ d n l (σ .blocks) r b x c multiple below long two unspared some more (broken-lands 33 c (omega arith) at-least w), i .lent)))
+      (λ w. rw e₂ (n, l, spare-torn e g γ d n l (σ .blocks) r b x c multiple below long two unspared some more w, i .lent)))
       (λ k.
       let w : landing 33 c ≡ Landing.Done = landing-uncut 33 (length ws) c k (omega arith) (omega (arith, ln)) in
       let l′ : List ℕ = flat (resorted (entries l) b) in

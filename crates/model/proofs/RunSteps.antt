@@ -39,7 +39,7 @@ use Rattle.model.proofs.Once.{Kept, BlankFrom, on-disc, blank-landed, k
 use Rattle.model.proofs.OnceRead.{Live, live-held, live-blank, live-last, live-block, live-length, examined-once}
 use Rattle.model.proofs.OnceSave.{OnceOk, sound-save, sound-free}
 use Rattle.model.proofs.OnceOpen.{length-entries, kept-newest, open-goes, reopened}
-use Rattle.model.proofs.OnceCommit.{sound-commit, whole-kept}
+use Rattle.model.proofs.OnceCommit.{commit-one, sound-commit, whole-kept}
 
 -- NWA after a write at NWA w, however it landed
 unfoldable pub nextAfter : ℕ → Landing → ℕ
@@ -287,12 +287,12 @@ module _ {e : Setting} {st : State} {σ : Store} {n w a : ℕ} (t : Between e st
     there-is-room = rw (embedded, le-leb (w + 0 + 1) (e .span) (omega arith))
 
     one-write : commitWrites e entries (Record.WriteOnce n w a) ≡ record { place = e .start + w; bytes = icb } ∷ []
-    unfolding commitWrites icbBlock nextHeld entriesHeld lastHeld upward
-    one-write = rw (embedded, add-zero)
+    unfolding nextHeld entriesHeld lastHeld
+    one-write = commit-one e entries (Record.WriteOnce n w a) (sym count) no-data
 
     its-block : icbBlock (Record.WriteOnce n w a) ≡ w
     unfolding icbBlock nextHeld entriesHeld
-    its-block = rw (embedded, add-zero)
+    its-block = omega arith
 
     -- what it is planned to do
     commit-step : (c : Cut) → step e st (commit c) ≡ carried (onePlan Go (e .start + w) icb (st .table) (Record.WriteOnce n (w + 1) w)) c st

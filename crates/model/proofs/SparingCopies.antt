@@ -259,7 +259,7 @@ not-current d g t i = go (isCurrent d g t) refl
         (λ j. true≢false (sym (kept-in (isCurrent d g) (g .tables) t (rw (current-kept d g) at j) .1) ∙ q))
 
 -- the stale ones and the current ones are as many as the tables
-pub order-length : (d : Disc) (g : Geometry) → length (stale (current d g) (g .tables) ++ current d g) ≡ length (g .tables)
+order-length : (d : Disc) (g : Geometry) → length (stale (current d g) (g .tables) ++ current d g) ≡ length (g .tables)
 order-length d g =
     let a : stale (current d g) (g .tables) ≡ kept (λ t. not (isCurrent d g t)) (g .tables) =
     stale-kept (current d g) (g .tables) ∙ kept-agree (notIn (current d g)) (λ t. not (isCurrent d g t)) (g .tables) (not-current d g) in
@@ -268,14 +268,14 @@ order-length d g =
     ∙ kept-length (isCurrent d g) (g .tables)
 
 -- they are the tables
-pub order-in : (d : Disc) (g : Geometry) (t : ℕ) → In t (stale (current d g) (g .tables) ++ current d g) ↔ In t (g .tables)
+order-in : (d : Disc) (g : Geometry) (t : ℕ) → In t (stale (current d g) (g .tables) ++ current d g) ↔ In t (g .tables)
 order-in d g t = (
   λ i. ⊎-elim (λ a. stale-in (current d g) (g .tables) t a .0) (λ b. current-table d g t b) (in-either t (stale (current d g) (g .tables)) (current d g) i),
   λ i. ⊎-elim (in-left t (stale (current d g) (g .tables)) (current d g)) (in-right t (stale (current d g) (g .tables)) (current d g)) (stale-or-current d g t i),
 )
 
 -- each once
-pub order-distinct : (d : Disc) (g : Geometry) → Distinct (g .tables) → Distinct (stale (current d g) (g .tables) ++ current d g)
+order-distinct : (d : Disc) (g : Geometry) → Distinct (g .tables) → Distinct (stale (current d g) (g .tables) ++ current d g)
 order-distinct d g h =
     distinct-append (stale (current d g) (g .tables)) (current d g)
     (rw (stale-kept (current d g) (g .tables)) (kept-distinct (notIn (current d g)) (g .tables) h))

@@ -17,7 +17,7 @@ pub use Rattle.model.proofs.SparingPlaces.{start-multiple, locate-on, l
 -- the copies that count, and the current ones
 pub use Rattle.model.proofs.SparingCopies.{in-some, counting-counts, counts-counting, counting-below, some-highest, current-counting, current-table, current-sequence, sequence-current, current-is, current-some, current-distinct}
 -- the order in which they are written
-pub use Rattle.model.proofs.SparingCopies.{not-in-means, in-means, in-tested, not-in-tested, stale-in, stale-or, stale-or-current, order-length, order-in, order-distinct, copy-order-length, copy-order-in, copy-order-distinct, length-copies, copies-append}
+pub use Rattle.model.proofs.SparingCopies.{not-in-means, in-means, in-tested, not-in-tested, stale-in, stale-or, stale-or-current, copy-order-length, copy-order-in, copy-order-distinct, length-copies, copies-append}
 -- two discs that agree at every table
 pub use Rattle.model.proofs.SparingCopies.{SameAt, counts-agree, counting-agree, sequence-agree, current-sequence-agree, current-agree, current-table-agree, copies-agree}
 -- a disc whose newest copies hold one table

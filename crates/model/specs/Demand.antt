@@ -41,7 +41,7 @@ seen e st v out =
 pub record Kept (e : Setting) (d : Disc) (t : List ℕ) (cs : List Call) : Type 0 where
   -- every opening in the list is accepted
   pub opens : (i : ℕ) → i < length cs → getD cs i openDisc ≡ openDisc → isOpened (getD (answers e (afterOpening e d t) cs) i cut) ≡ true
-  -- after a list that does not end in a cut every block reads al in the plain store
+  -- after a list that does not end in a cut every block reads as in the plain store
   pub reads :
       endsCut false (answers e (afterOpening e d t) cs) ≡ false
       → (v : ℕ) (out : List ℕ) → length out ≡ 2048

@@ -1,30 +1,25 @@
 -- The worked examples of document 01 ("Proved examples", a to l), as one statement: each is said of the definitions that the calls are
 -- proved to follow.
-use Prim.Native.Nat.{ℕ}
+use Prim.Native.Nat.{ℕ, _+_, _<_}
 use mathlib.Core.Path.{_≡_}
 use mathlib.Core.List.{List, [], _∷_}
-use lib.ListN.{replicate}
-use Rattle.refusal.specs.declared.Verdict.{Verdict}
-use Rattle.refusal.specs.declared.Verdict.the-variants.{Go, Stop}
-use Rattle.refusal.specs.Number.{numberOf}
+use lib.ListN.{replicate, set}
+use Rattle.refusal.specs.declared.Verdict.the-variants.{Go}
+use Rattle.refusal.specs.Number.{verdictNumber}
 use Rattle.refusal.specs.Tests.{Test, first}
 use Rattle.model.specs.declared.Record.{Record}
 use Rattle.model.specs.Disc.{Disc}
 use Rattle.model.specs.VatWritten.{fileBytes, dataSectors}
 use Rattle.model.specs.Sparing.{Entry, locate, resorted}
 use Rattle.model.specs.Examine.{setting}
-use Rattle.model.specs.Once.{entryTests, saveTests, perMille}
+use Rattle.model.specs.Once.{onceVerdict, entryTests, saveTests, saveLent, savePlan, perMille}
+use Rattle.model.specs.Plan.{carry}
 use Rattle.model.specs.Rewrite.{blockTest}
 use Rattle.model.specs.Both.{entrySector}
 
--- the number that a verdict gives: the line of "Why a call is turned down", or 0 where the call goes on
-unfoldable pub lineOf : Verdict → ℕ
-lineOf Go = 0
-lineOf (Stop why) = numberOf why
-
 -- the number that some tests give
 unfoldable pub gives : List Test → ℕ
-gives l = lineOf (first l)
+gives l = verdictNumber (first l)
 
 -- a sparing entry (original, mapped); 0xffffffff is a free one
 abbrev pub entry : ℕ → ℕ → Entry
@@ -55,12 +50,17 @@ pub record Examples : Type 0 where
   -- "i. S 512, L 64, 32 mapped to 1,024: block 31 is 543, 63 is 1,055, 64 gives 12."
   pub i : (locate 512 (entry 32 1024 ∷ []) 31 ≡ 543) × (locate 512 (entry 32 1024 ∷ []) 63 ≡ 1055)
       × ((maps : List ℕ) → gives (blockTest (setting maps 512 64) 64 ∷ []) ≡ 12)
-  -- "j. L 9, N 2, replacing: NWA 7 saved, 8 gives 16." The block saved is of zeros, and replaces virtual 0 or 1
+  -- "j. L 9, N 2, replacing: NWA 7 saved, 8 gives 16." The block saved is of zeros, and replaces virtual 0 or 1. Where lines 1 to 11 let the
+  -- save go on, it has one write, at S + 7, and none elsewhere; the entry is then 7, NWA 8, and N and the last ICB are as they were
   pub j : (maps : List ℕ) (disc : Disc) (s last : ℕ)
       → (gives (saveTests (setting maps s 9) disc (Record.WriteOnce 2 7 last) 0 zeros) ≡ 0)
       × (gives (saveTests (setting maps s 9) disc (Record.WriteOnce 2 7 last) 1 zeros) ≡ 0)
       × (gives (saveTests (setting maps s 9) disc (Record.WriteOnce 2 8 last) 0 zeros) ≡ 16)
       × (gives (saveTests (setting maps s 9) disc (Record.WriteOnce 2 8 last) 1 zeros) ≡ 16)
+      × ((table : List ℕ) (v : ℕ) → v < 2
+      → onceVerdict (setting maps s 9) disc table (saveLent table zeros) (Record.WriteOnce 2 7 last) [] ≡ Go
+      → savePlan (setting maps s 9) disc table (Record.WriteOnce 2 7 last) v zeros
+      ≡ carry (record { place = s + 7; bytes = zeros } ∷ []) (set table v 7) (Record.WriteOnce 2 8 last))
   -- "k. Entries (64, 2,048), two free at 2,080 and 2,112; sparing 32 gives (32, 2,080), (64, 2,048), (free, 2,112)."
   pub k : resorted (entry 64 2048 ∷ entry 0xffffffff 2080 ∷ entry 0xffffffff 2112 ∷ []) 32
       ≡ entry 32 2080 ∷ entry 64 2048 ∷ entry 0xffffffff 2112 ∷ []

@@ -3,11 +3,13 @@ pub mod Writes
 pub mod Vat
 pub mod VatWritten
 pub mod Sparing
+pub mod Told
 pub mod Plan
 pub mod Examine
 pub mod Once
 pub mod Rewrite
 pub mod Both
+pub mod Lent
 pub mod Calls
 pub mod Store
 pub mod Demand
@@ -16,3 +18,4 @@ pub mod Examples
 pub mod LivesAgain
 pub mod Consequences
 pub mod Run
+pub mod ReadBack

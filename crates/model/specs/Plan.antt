@@ -7,10 +7,12 @@ use mathlib.Core.List.{List}
 use lib.ListN.{length}
 use Rattle.refusal.specs.declared.Refusal.{Refusal}
 use Rattle.refusal.specs.declared.Verdict.{Verdict}
+use Rattle.refusal.specs.Number.{numberOf}
 use Rattle.refusal.specs.declared.Verdict.the-variants.{Go, Stop}
 use Rattle.model.specs.declared.Cut.{Cut}
 use Rattle.model.specs.declared.Record.{Record}
 use Rattle.model.specs.declared.Reply.{Reply}
+use Rattle.model.specs.Told.{replyNumber}
 use Rattle.model.specs.Disc.{Disc}
 use Rattle.model.specs.Writes.{Write, writes, struck}
 
@@ -39,8 +41,14 @@ unfoldable pub tableAfter : Plan → Cut → List ℕ → List ℕ
 tableAfter (refuse why) c t₀ = t₀
 tableAfter (carry ws t r) c t₀ = cond (struck c (length ws)) t₀ t
 
--- a call's reply r, disc d and table t are those of the plan p under the cut c, from the disc d₀ and the table t₀
+-- the number that a caller is told: the line of a refusal, 255 where the power failed, else 0
+unfoldable pub planNumber : Plan → Cut → ℕ
+planNumber (refuse why) c = numberOf why
+planNumber (carry ws t r) c = cond (struck c (length ws)) 255 0
+
+-- a call's reply r, with its number, disc d and table t are those of the plan p under the cut c, from the disc d₀ and the table t₀
 pub record Meets (p : Plan) (c : Cut) (d₀ : Disc) (t₀ : List ℕ) (r : Reply) (d : Disc) (t : List ℕ) : Type 0 where
   pub reply : r ≡ replyOf p c
+  pub number : replyNumber r ≡ planNumber p c
   pub disc : d ≡ discAfter p c d₀
   pub table : t ≡ tableAfter p c t₀

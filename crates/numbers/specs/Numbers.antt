@@ -2,22 +2,21 @@
 -- down").
 use Prim.Native.Nat.{ℕ}
 use mathlib.Core.Bool.{false, cond}
-use mathlib.Core.List.{List, [], _∷_}
+use mathlib.Core.List.{List, [], _∷_, _++_}
 use lib.ListN.{getD}
 use lib.Dec.{eqb}
 use Rattle.refusal.specs.declared.Refusal.{Refusal}
 use Rattle.refusal.specs.declared.Refusal.the-variants.{LentLength}
 use Rattle.refusal.specs.declared.Verdict.{Verdict}
 use Rattle.refusal.specs.declared.Verdict.the-variants.{Go, Stop}
-use Rattle.refusal.specs.Number.{numberOf}
 use Rattle.refusal.specs.Tests.{first}
 use Rattle.model.specs.declared.Effect.{Effect}
 use Rattle.model.specs.declared.Cut.{Cut}
 use Rattle.model.specs.declared.Record.{Record}
 use Rattle.model.specs.declared.Reply.{Reply}
 use Rattle.model.specs.declared.Opened.{Opened}
-use Rattle.model.specs.declared.Given.{Given}
 use Rattle.model.specs.Disc.{Disc}
+use Rattle.model.specs.Told.{recordValues}
 use Rattle.model.specs.Examine.{Setting, shapeTests}
 
 -- ---- cuts
@@ -29,29 +28,6 @@ effectOf x = cond (eqb x 0) Effect.Old (cond (eqb x 1) Effect.Unreadable Effect.
 -- the cut at a write, with the effect of a number
 abbrev pub cutOf : ℕ → ℕ → Cut
 cutOf at x = record { at = at; effect = effectOf x }
-
--- ---- what a call returns: 0 done, the line of a refusal, 255 cut
-
--- the number of a verdict
-abbrev pub verdictNumber : Verdict → ℕ
-verdictNumber Go = 0
-verdictNumber (Stop why) = numberOf why
-
--- the number of a writing call's reply
-abbrev pub replyNumber : Reply → ℕ
-replyNumber (Reply.Done r) = 0
-replyNumber Reply.Cut = 255
-replyNumber (Reply.Refused why) = numberOf why
-
--- the number of an opening's answer
-abbrev pub openedNumber : Opened → ℕ
-openedNumber (Opened.Open r n) = 0
-openedNumber (Opened.Refused why) = numberOf why
-
--- the number of a reading's answer
-abbrev pub givenNumber : Given → ℕ
-givenNumber Given.Block = 0
-givenNumber (Given.Refused why) = numberOf why
 
 -- ---- the record: kind (0 write-once, 1 rewritable), N or R, NWA or the sequence, the last ICB (0 on a rewritable disc), passed over
 
@@ -68,8 +44,7 @@ recordOf k =
 
 -- the numbers of a record, and of how many sectors were passed over
 abbrev pub numbersOf : Record → ℕ → List ℕ
-numbersOf (Record.WriteOnce n next last) passed = 0 ∷ n ∷ next ∷ last ∷ passed ∷ []
-numbersOf (Record.Rewritable n sequence) passed = 1 ∷ n ∷ sequence ∷ 0 ∷ passed ∷ []
+numbersOf r passed = recordValues r ++ (passed ∷ [])
 
 -- the lent numbers after a writing call's reply: passed over is kept, and a cut or a refusal leaves them as they came
 abbrev pub recordAfter : Reply → List ℕ → List ℕ

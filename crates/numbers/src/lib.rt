@@ -11,10 +11,11 @@ use refusal::Refusal;
 use refusal::Verdict;
 ghost use mathlib.Core.Path.{_≡_};
 ghost use lib.ListN.{length};
-ghost use Rattle.refusal.specs.Number.{numberOf};
+ghost use Rattle.refusal.specs.Number.{numberOf, verdictNumber};
 ghost use Rattle.model.specs.Disc.{disc as discOf};
 ghost use Rattle.model.specs.Examine.{setting};
-ghost use Rattle.numbers.specs.Numbers.{effectOf, cutOf, recordOf, numbersOf, recordAfter, recordOpened, replyNumber, openedNumber, givenNumber, verdictNumber, lengthRefusal};
+ghost use Rattle.model.specs.Told.{replyNumber, openedNumber, givenNumber};
+ghost use Rattle.numbers.specs.Numbers.{effectOf, cutOf, recordOf, numbersOf, recordAfter, recordOpened, lengthRefusal};
 
 // The numbers of a record, and the place of each.
 pub const RECORD: usize = 5;

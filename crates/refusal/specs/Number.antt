@@ -1,6 +1,8 @@
--- The number of each refusal: its line in document 01, "Why a call is turned down".
+-- The number of each refusal, its line in document 01, "Why a call is turned down"; and of a verdict.
 use Prim.Native.Nat.{ℕ}
 use Rattle.refusal.specs.declared.Refusal.{Refusal}
+use Rattle.refusal.specs.declared.Verdict.{Verdict}
+use Rattle.refusal.specs.declared.Verdict.the-variants.{Go, Stop}
 use Rattle.refusal.specs.declared.Refusal.the-variants.{DiscShape, SpanOutside, LentLength, MapCut, NeitherKind, Misaligned, OtherKind, NoTable, TooManyEntries, CopiesDiffer, StaleRecord, NumberOutside, UnusedEntry, NotRecorded, PassesAsIcb, NoRoom, OneTable, AlreadySpared, NoSpare, LastSequence, NotBlank}
 
 -- the line of 01 by which a call is turned down
@@ -26,3 +28,8 @@ numberOf AlreadySpared = 18
 numberOf NoSpare = 19
 numberOf LastSequence = 20
 numberOf NotBlank = 21
+
+-- the number of a verdict: 0 where nothing stands in the way of the call, else the line of the refusal
+abbrev pub verdictNumber : Verdict → ℕ
+verdictNumber Go = 0
+verdictNumber (Stop why) = numberOf why

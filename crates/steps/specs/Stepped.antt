@@ -3,12 +3,14 @@
 use Prim.Native.Nat.{ℕ, zero, suc}
 use mathlib.Core.Path.{_≡_}
 use mathlib.Core.Bool.{Bool, true, false}
-use mathlib.Core.List.{List}
+use mathlib.Core.List.{List, [], _∷_, _++_}
 use Rattle.refusal.specs.Number.{numberOf}
 use Rattle.model.specs.declared.Cut.{Cut}
 use Rattle.model.specs.declared.Record.{Record}
 use Rattle.model.specs.Disc.{Disc}
 use Rattle.model.specs.Examine.{Setting}
+use Rattle.model.specs.Told.{recordValues}
+use Rattle.model.specs.Lent.{Lent}
 use Rattle.model.specs.Calls.{Call, saveVirtual, freeVirtual, commit, saveBlock, savePacket, sparePacket, openDisc, Answer, done, cut, refused, opened, State, step}
 use Rattle.steps.specs.declared.Answered.{Answered}
 
@@ -45,6 +47,13 @@ numberFor cut = 255
 numberFor (refused why) = numberOf why
 numberFor (opened r n) = 0
 
+-- and the values that go with it: the record, and of an opening how many sectors were passed over
+abbrev pub valuesFor : Answer → List ℕ
+valuesFor (done r) = recordValues r
+valuesFor cut = []
+valuesFor (refused why) = []
+valuesFor (opened r n) = recordValues r ++ (n ∷ [])
+
 -- the record in force after an answer
 abbrev pub heldBy : Answer → Record → Record
 heldBy (done r) held = r
@@ -70,3 +79,7 @@ pub record Stepped (e : Setting) (st : State) (c : Call) (a : Answered) (d : Dis
   pub answer : answerOf a ≡ step e st c .answer
   pub disc : d ≡ step e st c .state .disc
   pub table : t ≡ step e st c .state .table
+
+-- the same over the lent lists: the call c, lent the table t and handed the record, answers a and leaves the disc d and the table t′
+abbrev pub Steps : Lent → List ℕ → Record → Call → Answered → Disc → List ℕ → Type 0
+Steps x t held c a d t′ = Stepped (x .setting) (stateOf (x .disc) t held) c a d t′

@@ -10,9 +10,9 @@ use refusal::Refusal;
 ghost use mathlib.Core.Path.{_≡_};
 ghost use Prim.Native.Nat.{_≤_, min};
 ghost use Rattle.model.specs.Disc.{disc as discOf};
-ghost use Rattle.model.specs.Examine.{setting};
+ghost use Rattle.model.specs.Lent.{lent};
 ghost use Rattle.model.specs.Calls.{isCut, answerOf as replied, answerOfOpening};
-ghost use Rattle.steps.specs.Stepped.{callOf, kindAfter, answerOf, numberFor, heldBy, passedBy, stateOf, Stepped};
+ghost use Rattle.steps.specs.Stepped.{callOf, kindAfter, answerOf, numberFor, heldBy, passedBy, Steps};
 
 // The kinds of the calls, in the order of the list; any other number is an opening.
 const SAVE_VIRTUAL: u32 = 0;
@@ -158,7 +158,9 @@ fn step_once(
     cut: Cut,
 ) -> Answered
     requires { ⌜ kind ≤ 2 ⌝ }
-    ensures { λ a. ⌜ Stepped (setting (now (maps .entry)) s l) (stateOf (discOf (now (disc .entry)) (now (marks .entry))) (now (table .entry)) held) (callOf kind number cut (now (bytes .entry))) a (discOf (now (disc .exit)) (now (marks .exit))) (now (table .exit)) ⌝ }
+    ensures { λ a. ⌜ Steps (lent (now (disc .entry)) (now (marks .entry)) (now (maps .entry)) s l)
+        (now (table .entry)) held (callOf kind number cut (now (bytes .entry)))
+        a (discOf (now (disc .exit)) (now (marks .exit))) (now (table .exit)) ⌝ }
 {
     if kind == SAVE_VIRTUAL {
         let saved = blocks::save_virtual(disc, marks, maps, s, l, table, held, number, bytes, cut);
@@ -187,7 +189,9 @@ fn step_rewritable(
     cut: Cut,
 ) -> Answered
     requires { ⌜ (3 ≤ kind) × (kind ≤ 5) ⌝ }
-    ensures { λ a. ⌜ Stepped (setting (now (maps .entry)) s l) (stateOf (discOf (now (disc .entry)) (now (marks .entry))) (now (table .entry)) held) (callOf kind number cut (now (bytes .entry))) a (discOf (now (disc .exit)) (now (marks .exit))) (now (table .exit)) ⌝ }
+    ensures { λ a. ⌜ Steps (lent (now (disc .entry)) (now (marks .entry)) (now (maps .entry)) s l)
+        (now (table .entry)) held (callOf kind number cut (now (bytes .entry)))
+        a (discOf (now (disc .exit)) (now (marks .exit))) (now (table .exit)) ⌝ }
 {
     if kind == SAVE_BLOCK {
         let saved = blocks::save_block(disc, marks, maps, s, l, table, held, number, bytes, cut);
@@ -215,7 +219,9 @@ pub fn step(
     bytes: &[u8],
     cut: Cut,
 ) -> Answered
-    ensures { λ a. ⌜ Stepped (setting (now (maps .entry)) s l) (stateOf (discOf (now (disc .entry)) (now (marks .entry))) (now (table .entry)) held) (callOf kind number cut (now (bytes .entry))) a (discOf (now (disc .exit)) (now (marks .exit))) (now (table .exit)) ⌝ }
+    ensures { λ a. ⌜ Steps (lent (now (disc .entry)) (now (marks .entry)) (now (maps .entry)) s l)
+        (now (table .entry)) held (callOf kind number cut (now (bytes .entry)))
+        a (discOf (now (disc .exit)) (now (marks .exit))) (now (table .exit)) ⌝ }
 {
     if kind <= COMMIT {
         return step_once(

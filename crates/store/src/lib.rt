@@ -6,15 +6,15 @@ use model::Record;
 use refusal::Refusal;
 use steps::Answered;
 ghost use mathlib.Core.Path.{_≡_};
-ghost use mathlib.Core.Bool.{false};
 ghost use Prim.Native.Nat.{_+_, _≤_};
 ghost use lib.ListN.{length, set};
 ghost use Rattle.model.specs.Disc.{disc as discOf};
 ghost use Rattle.model.specs.Examine.{setting};
-ghost use Rattle.steps.specs.Stepped.{stateOf, Stepped};
-ghost use Rattle.store.specs.Encoded.{callAt, decode};
-ghost use Rattle.store.specs.Listed.{mendedCall, mended};
-ghost use Rattle.store.specs.Outcome.{outcome, ran, carriedOut};
+ghost use Rattle.model.specs.Lent.{lent};
+ghost use Rattle.steps.specs.Stepped.{Steps};
+ghost use Rattle.store.specs.Encoded.{callAt};
+ghost use Rattle.store.specs.Listed.{mendedCall};
+ghost use Rattle.store.specs.Outcome.{CarriesOut, Runs};
 ghost use Rattle.store.specs.Promise.{DemandMet};
 
 // The numbers of a call in the lent list.
@@ -45,7 +45,9 @@ fn turn(
     pool: &[u8],
 ) -> Answered
     requires { ⌜ at + 6 ≤ length (now numbers) ⌝ }
-    ensures { λ a. ⌜ Stepped (setting (now (maps .entry)) s l) (stateOf (discOf (now (disc .entry)) (now (marks .entry))) (now (table .entry)) held) (mendedCall down (callAt (now (numbers .entry)) (now (pool .entry)) at)) a (discOf (now (disc .exit)) (now (marks .exit))) (now (table .exit)) ⌝ }
+    ensures { λ a. ⌜ Steps (lent (now (disc .entry)) (now (marks .entry)) (now (maps .entry)) s l)
+        (now (table .entry)) held (mendedCall down (callAt (now (numbers .entry)) (now (pool .entry)) at))
+        a (discOf (now (disc .exit)) (now (marks .exit))) (now (table .exit)) ⌝ }
 {
     let kind = steps::kind_after(down, numbers[at]);
     let number = numbers[at + 1];
@@ -93,7 +95,9 @@ fn carry(
     pool: &[u8],
     replies: &mut [u32],
 ) -> Ran
-    ensures { λ r. ⌜ outcome r (discOf (now (disc .exit)) (now (marks .exit))) (now (table .exit)) (now (replies .exit)) ≡ carriedOut (setting (now (maps .entry)) s l) (stateOf (discOf (now (disc .entry)) (now (marks .entry))) (now (table .entry)) handed) skipped (mended (setting (now (maps .entry)) s l) (stateOf (discOf (now (disc .entry)) (now (marks .entry))) (now (table .entry)) handed) false (decode (now (numbers .entry)) (now (pool .entry)))) (now (replies .entry)) ⌝ }
+    ensures { λ r. ⌜ CarriesOut (lent (now (disc .entry)) (now (marks .entry)) (now (maps .entry)) s l)
+        (now (table .entry)) handed skipped (now (numbers .entry)) (now (pool .entry)) (now (replies .entry))
+        r (discOf (now (disc .exit)) (now (marks .exit))) (now (table .exit)) (now (replies .exit)) ⌝ }
 {
     let mut held = handed;
     let mut passed = skipped;
@@ -137,8 +141,12 @@ pub fn run(
     pool: &[u8],
     replies: &mut [u32],
 ) -> Ran
-    ensures { λ r. ⌜ outcome r (discOf (now (disc .exit)) (now (marks .exit))) (now (table .exit)) (now (replies .exit)) ≡ ran (setting (now (maps .entry)) s l) (discOf (now (disc .entry)) (now (marks .entry))) (now (table .entry)) (now (numbers .entry)) (now (pool .entry)) (now (replies .entry)) ⌝ }
-    ensures { λ r. ⌜ DemandMet (setting (now (maps .entry)) s l) (discOf (now (disc .entry)) (now (marks .entry))) (now (table .entry)) (now (numbers .entry)) (now (pool .entry)) r (discOf (now (disc .exit)) (now (marks .exit))) (now (table .exit)) ⌝ }
+    ensures { λ r. ⌜ Runs (lent (now (disc .entry)) (now (marks .entry)) (now (maps .entry)) s l)
+        (now (table .entry)) (now (numbers .entry)) (now (pool .entry)) (now (replies .entry))
+        r (discOf (now (disc .exit)) (now (marks .exit))) (now (table .exit)) (now (replies .exit)) ⌝ }
+    ensures { λ r. ⌜ DemandMet (setting (now (maps .entry)) s l) (discOf (now (disc .entry)) (now (marks .entry)))
+        (now (table .entry)) (now (numbers .entry)) (now (pool .entry))
+        r (discOf (now (disc .exit)) (now (marks .exit))) (now (table .exit)) ⌝ }
 {
     let opened = blocks::open(disc, marks, maps, s, l, table);
     match opened {

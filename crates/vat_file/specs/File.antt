@@ -9,6 +9,7 @@ use lib.Dec.{eqb, leb}
 use Rattle.refusal.specs.declared.Refusal.the-variants.{NoTable, TooManyEntries}
 use Rattle.refusal.specs.declared.Verdict.{Verdict}
 use Rattle.refusal.specs.declared.Verdict.the-variants.{Go, Stop}
+use Rattle.refusal.specs.Number.{numberOf}
 use Rattle.refusal.specs.Tests.{Test, test, first}
 use Rattle.address.specs.declared.VirtualAddress.{VirtualAddress}
 use Rattle.address.specs.declared.ToLogical.{ToLogical}
@@ -47,3 +48,25 @@ unlessPrevious (Stop why) b = ToPrevious.Refused why
 -- the previous VAT ICB that the file names (01, "The VAT and its ICB")
 unfoldable pub previousIn : List ℕ → ToPrevious
 previousIn f = unlessPrevious (first (fileTests f)) (previousOf f)
+
+-- ---- what a caller is told (of a look-up: address, Told.antt)
+
+-- the number of a count of entries, and its value
+abbrev pub countedNumber : Counted → ℕ
+countedNumber (Counted.Entries n) = 0
+countedNumber (Counted.Refused why) = numberOf why
+
+abbrev pub countedValues : Counted → List ℕ
+countedValues (Counted.Entries n) = n ∷ []
+countedValues (Counted.Refused why) = []
+
+-- the number of a previous ICB, and its value: the block, or 0xffffffff for none
+abbrev pub previousNumber : ToPrevious → ℕ
+previousNumber (ToPrevious.At b) = 0
+previousNumber ToPrevious.None = 0
+previousNumber (ToPrevious.Refused why) = numberOf why
+
+abbrev pub previousValues : ToPrevious → List ℕ
+previousValues (ToPrevious.At b) = b .0 ∷ []
+previousValues ToPrevious.None = none ∷ []
+previousValues (ToPrevious.Refused why) = []

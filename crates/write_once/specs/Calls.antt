@@ -1,10 +1,11 @@
 -- Opening, reading and fullness on a write-once disc alone: opening and reading as the calls of both kinds (model, Both.antt), with line 7 for a rewritable list.
 use Prim.Native.Nat.{ℕ}
 use mathlib.Core.Path.{_≡_}
-use mathlib.Core.List.{List, _∷_}
+use mathlib.Core.List.{List, [], _∷_}
 use Rattle.refusal.specs.declared.Refusal.the-variants.{OtherKind}
 use Rattle.refusal.specs.declared.Verdict.{Verdict}
 use Rattle.refusal.specs.declared.Verdict.the-variants.{Go, Stop}
+use Rattle.refusal.specs.Number.{numberOf, verdictNumber}
 use Rattle.refusal.specs.Tests.{test, first, andThen}
 use Rattle.address.specs.declared.VirtualAddress.{VirtualAddress}
 use Rattle.address.specs.declared.ToLogical.{ToLogical}
@@ -18,6 +19,7 @@ use Rattle.model.specs.Examine.{Setting, writeOnce, examined, lentTable}
 use Rattle.model.specs.Once.{nextOn, nextHeld, newestFile, openOnceTests, foundRecord, passedOver, entryTests, perMille, fullnessVerdict}
 use Rattle.finding.specs.Scan.{looked}
 use Rattle.write_once.specs.declared.Measured.{Measured}
+use Rattle.model.specs.Lent.{Lent}
 use Rattle.model.specs.Both.{openedBy, filledBy, readOnceTests, readLent, givenBy, blockBy, entrySector}
 
 -- ---- opening: lines 1 to 9
@@ -70,3 +72,20 @@ measuredBy (Stop why) n = Measured.Refused why
 -- 1,000 times NWA / L rounded down
 unfoldable pub fullnessOf : Setting → Disc → List ℕ → Record → Measured
 fullnessOf e d t held = measuredBy (fullnessVerdict e d t held) (perMille (nextHeld held) (e .span))
+
+-- ---- what a caller is told of fullness
+
+-- the number: 0, or the line of the refusal
+abbrev pub measuredNumber : Measured → ℕ
+measuredNumber (Measured.PerMille n) = 0
+measuredNumber (Measured.Refused why) = numberOf why
+
+-- and the value, in per mille
+abbrev pub measuredValues : Measured → List ℕ
+measuredValues (Measured.PerMille n) = n ∷ []
+measuredValues (Measured.Refused why) = []
+
+-- fullness, lent the table t, answers r
+pub record Measures (x : Lent) (t : List ℕ) (held : Record) (r : Measured) : Type 0 where
+  pub answer : r ≡ fullnessOf (x .setting) (x .disc) t held
+  pub number : measuredNumber r ≡ verdictNumber (fullnessVerdict (x .setting) (x .disc) t held)

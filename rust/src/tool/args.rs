@@ -1,6 +1,7 @@
 //! The words of a command line.
 
-use super::Failure;
+use super::media::{layout, Layout, START};
+use super::{refused, words, Failure};
 use std::ffi::OsString;
 use std::path::{Path, PathBuf};
 use tuormik::descriptors::{find_volume, Volume};
@@ -15,10 +16,24 @@ pub struct Args {
 }
 
 /// Options that take no value.
-const FLAGS: [&str; 9] = ["--help", "--hex", "--no-commit", "--packet", "--all", "--write-once", "--zeros", "--force", "--no-descriptors"];
+pub const FLAGS: [&str; 10] =
+    ["--help", "--hex", "--json", "--no-commit", "--packet", "--all", "--write-once", "--zeros", "--force", "--no-descriptors"];
 /// Options that take one.
-const VALUES: [&str; 11] =
-    ["--marks", "--start", "--length", "--maps", "--tables", "--table-bytes", "--partition", "--spares", "--sectors", "--cut", "--output"];
+pub const VALUES: [&str; 13] = [
+    "--marks",
+    "--start",
+    "--length",
+    "--maps",
+    "--tables",
+    "--table-bytes",
+    "--partition",
+    "--spares",
+    "--sectors",
+    "--cut",
+    "--output",
+    "--at",
+    "--media",
+];
 
 fn usage(words: String) -> Failure {
     Failure::Usage(words)
@@ -121,20 +136,41 @@ impl Args {
         Ok(Cut::at(number(at, "--cut")?, effect))
     }
 
-    /// The map list that the options give: a file, or the kind.
+    /// The map list that the options give: a file, the kind, or the medium.
     fn maps(&self) -> Result<Option<Vec<u8>>, Failure> {
         if let Some(path) = self.path("--maps") {
             return std::fs::read(path).map(Some).map_err(|e| Failure::file(path, &e));
         }
         let partition = self.number("--partition")?.unwrap_or(0);
         let partition = u16::try_from(partition).map_err(|_| usage(format!("--partition {partition} is above 65,535")))?;
-        let maps = match (self.has("--write-once"), self.numbers("--tables")?) {
-            (true, Some(_)) => return Err(usage("--write-once and --tables are of different kinds".into())),
+        let tables = match self.value("--media") {
+            Some(_) => Some(self.layout()?.tables).filter(|tables| !tables.is_empty()),
+            None => self.numbers("--tables")?,
+        };
+        let maps = match (self.has("--write-once") || self.has("--media"), tables) {
+            (true, Some(_)) if self.has("--write-once") => return Err(usage("--write-once and --tables are of different kinds".into())),
+            (_, Some(tables)) => Maps::Rewritable { partition, table_bytes: self.number("--table-bytes")?.unwrap_or(2048), tables },
             (true, None) => Maps::WriteOnce { partition },
-            (false, Some(tables)) => Maps::Rewritable { partition, table_bytes: self.number("--table-bytes")?.unwrap_or(2048), tables },
             (false, None) => return Ok(None),
         };
-        write_maps(&maps).map(Some).map_err(Failure::Refused)
+        write_maps(&maps).map(Some).map_err(|error| refused::by_maps(&maps, error))
+    }
+
+    /// Where everything is on a disc to be made: as the medium has it, or as the options give it.
+    pub fn layout(&self) -> Result<Layout, Failure> {
+        let sectors = self.number("--sectors")?;
+        let Some(medium) = self.value("--media") else {
+            let sectors = sectors.ok_or_else(|| usage("how many sectors? --sectors N, or --media cdr or cdrw".into()))?;
+            let start = self.number("--start")?.unwrap_or(START);
+            let length = self.number("--length")?.unwrap_or(sectors.saturating_sub(start));
+            let spares = self.numbers("--spares")?.unwrap_or_default();
+            return Ok(Layout { sectors, start, length, tables: Vec::new(), spares });
+        };
+        let own = ["--write-once", "--tables", "--table-bytes", "--start", "--length", "--spares", "--maps"];
+        match own.iter().find(|option| self.has(option)) {
+            Some(option) => Err(usage(format!("--media gives a disc all but its number of sectors, so {option} does not go with it"))),
+            None => layout(&medium.to_string_lossy(), sectors),
+        }
     }
 
     /// The volume: what the options give, and for the rest what the image's descriptors tell.
@@ -151,20 +187,14 @@ impl Args {
 
     /// The volume that a disc to be made gets, and its partition number.
     pub fn new_volume(&self, start: u32, length: u32) -> Result<(Volume, u16), Failure> {
-        let maps = self.maps()?.ok_or_else(|| usage("which kind? --write-once, --tables T,.. or --maps FILE".into()))?;
-        let partition = match read_maps(&maps).map_err(Failure::Refused)? {
+        let maps = self.maps()?.ok_or_else(|| usage("which kind? --write-once, --tables T,.., --maps FILE or --media".into()))?;
+        let partition = match read_maps(&maps).map_err(|error| refused::by_list(&maps, error))? {
             Maps::WriteOnce { partition } | Maps::Rewritable { partition, .. } => partition,
         };
         Ok((Volume { maps, start, length }, partition))
     }
 }
 
-/// A number in decimal, or in hexadecimal after 0x; commas between digits are not looked at.
 fn number(word: &str, what: &str) -> Result<u32, Failure> {
-    let digits: String = word.chars().filter(|c| *c != ',' && *c != '_').collect();
-    let number = match digits.strip_prefix("0x") {
-        Some(hex) => u32::from_str_radix(hex, 16),
-        None => digits.parse(),
-    };
-    number.map_err(|_| usage(format!("{what}: {word} is no number from 0 to 4,294,967,295")))
+    words::number(word).ok_or_else(|| usage(format!("{what}: {word} is no number from 0 to 4,294,967,295")))
 }

@@ -1,176 +1,122 @@
 //! The commands over an image file.
 
 use super::args::Args;
-use super::image::{mark_name, write_file, Image};
-use super::picture;
-use super::{Done, Failure, Progress};
+use super::commits::{self, chain};
+use super::media::Layout;
+use super::passed::{need_force, Passed};
+use super::picture::Picture;
+use super::progress::Progress;
+use super::refused::{self, Asked};
+use super::report::commit_row;
+use super::states::View;
+use super::summary::mark_words;
+use super::words::{counted, grouped, number};
+use super::{Done, Failure};
 use std::io::{Read, Write};
-use std::path::Path;
+use std::path::{Path, PathBuf};
 use tuormik::descriptors::{write_volume, DESCRIPTORS_END};
+use tuormik::image::Image;
 use tuormik::{
-    read_maps, Cut, Disc, Error, Held, Maps, Open, Record, Refusal, BLANK, MOST_SECTORS, NONE, PACKET, PACKET_BYTES, RECORDED, SECTOR,
+    read_maps, Cut, Effect, Error, Held, Maps, Open, Refusal, BLANK, MOST_ENTRIES, MOST_SECTORS, NONE, PACKET, PACKET_BYTES, RECORDED,
+    SECTOR,
 };
 
 const VOLUME_OPTIONS: [&str; 8] = ["--marks", "--start", "--length", "--maps", "--tables", "--table-bytes", "--partition", "--write-once"];
 
 /// The options given must be those of a volume, and the command's own.
-fn known(args: &Args, own: &[&str]) -> Done {
+pub fn known(args: &Args, own: &[&str]) -> Done {
     args.only(&[&VOLUME_OPTIONS, own].concat())
 }
 
-fn load(args: &mut Args) -> Result<Image, Failure> {
+/// The image of a path, with the marks and the volume that the options give.
+pub fn load(args: &Args, path: &Path) -> Result<Image, Failure> {
+    Image::load(path, args.path("--marks"), |bytes| args.volume(bytes))
+}
+
+/// The image that a command's first word names.
+fn load_next(args: &mut Args) -> Result<Image, Failure> {
     let path = args.next_path("IMAGE")?;
-    Image::load(&path, args.path("--marks"), |bytes| args.volume(bytes))
+    load(args, &path)
 }
 
-/// A number with commas.
-fn grouped(n: u64) -> String {
-    let digits = n.to_string();
-    let mut text = String::new();
-    for (i, digit) in digits.chars().enumerate() {
-        if i > 0 && (digits.len() - i).is_multiple_of(3) {
-            text.push(',');
-        }
-        text.push(digit);
-    }
-    text
+/// The same, to be stored: it is locked from here on.
+fn load_to_write(args: &mut Args) -> Result<Image, Failure> {
+    let path = args.next_path("IMAGE")?;
+    Image::load_to_write(&path, args.path("--marks"), |bytes| args.volume(bytes))
 }
 
-fn warn_if_passed(record: Record, out: &mut dyn Write) -> Done {
-    if record.passed_over > 0 {
-        writeln!(
-            out,
-            "warning       {} passed over above the last VAT ICB: blocks saved and not committed, a write that was",
-            passed_words(record)
-        )?;
-        writeln!(out, "              cut, or a VAT that breaks a rule of 01. 'tuormik commit' ends the disc with a VAT again.")?;
+/// The images of a command that takes several.
+pub fn images(args: &mut Args, own: &[&str]) -> Result<Vec<PathBuf>, Failure> {
+    known(args, own)?;
+    let mut paths = vec![args.next_path("IMAGE")?];
+    paths.extend(std::iter::from_fn(|| args.next_word().map(PathBuf::from)));
+    if paths.len() > 1 && args.has("--marks") {
+        return Err(Failure::Usage(format!("--marks goes with one image, and these are {}", grouped(paths.len()))));
     }
-    Ok(())
-}
-
-fn passed_words(record: Record) -> String {
-    match record.passed_over {
-        1 => "1 sector was".to_string(),
-        n => format!("{} sectors were", grouped(n.into())),
-    }
-}
-
-/// How many marks of each sort there are.
-fn mark_counts(marks: &[u8]) -> String {
-    let names = [1u8, 2, 0];
-    let words = names.iter().map(|&mark| {
-        let count = marks.iter().filter(|&&m| m == mark).count();
-        format!("{} {}", grouped(count as u64), mark_name(mark))
-    });
-    words.collect::<Vec<_>>().join(", ")
-}
-
-pub fn info(args: &mut Args, out: &mut dyn Write) -> Done {
-    known(args, &[])?;
-    let mut image = load(args)?;
-    args.end()?;
-    let (start, length) = (image.volume.start, image.volume.length);
-    // what the image says of itself comes first, also where the disc is turned down
-    let maps = read_maps(&image.volume.maps);
-    match &maps {
-        Ok(Maps::WriteOnce { partition }) => writeln!(out, "kind          write-once, partition {partition}")?,
-        Ok(Maps::Rewritable { partition, .. }) => writeln!(out, "kind          rewritable, partition {partition}")?,
-        Err(_) => {}
-    }
-    writeln!(out, "disc          {} sectors: {}", grouped(image.marks.len() as u64), mark_counts(&image.marks))?;
-    writeln!(out, "marks         {}", image.marks_source())?;
-    writeln!(out, "S             {}", grouped(start.into()))?;
-    writeln!(out, "L             {}", grouped(length.into()))?;
-    if let Ok(Maps::Rewritable { table_bytes, tables, .. }) = &maps {
-        let places: Vec<String> = tables.iter().map(|&t| grouped(t.into())).collect();
-        writeln!(out, "tables        at {} ({} bytes each)", places.join(", "), grouped((*table_bytes).into()))?;
-    }
-    let open = image.disc().open()?;
-    let record = open.record();
-    match record.held {
-        Held::WriteOnce { entries, next, last } => {
-            let used = open.table().iter().filter(|&&e| e != NONE).count();
-            let full = open.fullness()?;
-            writeln!(out, "N             {} ({} used)", grouped(entries.into()), grouped(used as u64))?;
-            writeln!(out, "NWA           {}", grouped(next.into()))?;
-            writeln!(out, "last ICB      {} (sector {})", grouped(last.into()), grouped(u64::from(start) + u64::from(last)))?;
-            writeln!(out, "passed over   {}", grouped(record.passed_over.into()))?;
-            writeln!(out, "fullness      {}.{} %", full / 10, full % 10)?;
-        }
-        Held::Rewritable { entries, sequence } => {
-            let used = open.table().chunks_exact(2).filter(|e| e[0] != NONE).count();
-            writeln!(out, "R             {} ({} used, {} free)", entries, used, entries as usize - used)?;
-            writeln!(out, "sequence      {}", grouped(sequence.into()))?;
-            writeln!(out, "passed over   {}", record.passed_over)?;
-        }
-    }
-    warn_if_passed(record, out)
+    Ok(paths)
 }
 
 pub fn list(args: &mut Args, out: &mut dyn Write) -> Done {
     known(args, &["--all"])?;
-    let mut image = load(args)?;
+    let image = load_next(args)?;
     args.end()?;
-    let all = args.has("--all");
-    let open = image.disc().open()?;
-    match open.record().held {
-        Held::WriteOnce { .. } => list_once(&open, out)?,
-        Held::Rewritable { .. } => list_packets(&open, all, out)?,
+    let open = commits::open(&image)?;
+    let view = View::from(&open);
+    if view.is_write_once() {
+        list_once(view, out)?;
+    } else {
+        list_packets(view, args.has("--all"), out)?;
     }
-    warn_if_passed(open.record(), out)
+    Passed::new(view).warn(out)
 }
 
-fn list_once(open: &Open, out: &mut dyn Write) -> Done {
-    let disc = open.disc();
-    writeln!(out, "virtual  logical   sector")?;
-    for (v, &entry) in open.table().iter().enumerate() {
-        if entry == NONE {
-            writeln!(out, "{v:>7}        -        -  unused")?;
-        } else {
-            let at = disc.start as usize + entry as usize;
-            writeln!(out, "{v:>7}  {entry:>7}  {at:>7}  {}", mark_name(disc.marks[at]))?;
-        }
+fn list_once(open: View, out: &mut dyn Write) -> Done {
+    writeln!(out, "virtual  logical    sector")?;
+    for block in open.blocks() {
+        let (logical, sector) = match block.place {
+            Some((logical, sector)) => (grouped(logical), grouped(sector)),
+            None => ("-".to_string(), "-".to_string()),
+        };
+        writeln!(out, "{:>7}  {logical:>7}  {sector:>8}  {}", grouped(block.number), block.state())?;
     }
     Ok(())
 }
 
-fn list_packets(open: &Open, all: bool, out: &mut dyn Write) -> Done {
-    let disc = open.disc();
+fn list_packets(open: View, all: bool, out: &mut dyn Write) -> Done {
     writeln!(out, "  blocks                 sectors")?;
     let mut plain = 0;
-    for b in (0..disc.length).step_by(PACKET) {
-        let entry = open.table().chunks_exact(2).find(|e| e[0] == b);
-        let at = entry.map_or(disc.start as usize + b as usize, |e| e[1] as usize);
-        let marks = &disc.marks[at..at + PACKET];
-        let is_plain = entry.is_none() && marks.iter().all(|&m| m == RECORDED);
-        if is_plain && !all {
+    for b in (0..open.count()).step_by(PACKET) {
+        let is_spared = open.spared_to(b).is_some();
+        let at = open.packet_place(b);
+        let marks = &open.disc.marks[at..at + PACKET];
+        if !is_spared && !all && marks.iter().all(|&m| m == RECORDED) {
             plain += 1;
             continue;
         }
-        let spared = if entry.is_some() { "spared, " } else { "" };
-        let last = b as usize + PACKET - 1;
-        writeln!(out, "{b:>8} to {last:<8}  {at:>8} to {:<8}  {spared}{}", at + PACKET - 1, mark_counts(marks))?;
+        let spared = if is_spared { "spared, " } else { "" };
+        let (first, last) = (grouped(b), grouped(b as usize + PACKET - 1));
+        writeln!(out, "{first:>8} to {last:<8}  {:>8} to {:<8}  {spared}{}", grouped(at), grouped(at + PACKET - 1), mark_words(marks))?;
     }
     if plain > 0 {
-        writeln!(out, "{} packets in place, recorded", grouped(plain))?;
+        writeln!(out, "{} in place, recorded", counted(plain, "packet"))?;
     }
-    for entry in open.table().chunks_exact(2).filter(|e| e[0] == NONE) {
-        writeln!(out, "    free spare         {:>8} to {}", entry[1], entry[1] as usize + PACKET - 1)?;
+    for (_, mapped) in open.spares().filter(|&(original, _)| original == NONE) {
+        writeln!(out, "    free spare         {:>8} to {}", grouped(mapped), grouped(mapped as usize + PACKET - 1))?;
     }
     Ok(())
 }
 
 pub fn read(args: &mut Args, out: &mut dyn Write) -> Done {
-    known(args, &["--output", "--hex"])?;
-    let mut image = load(args)?;
+    known(args, &["--output", "--hex", "--at"])?;
+    let image = load_next(args)?;
     let first = args.next_number("NUMBER")?;
     let count = optional_count(args)?;
     args.end()?;
-    let open = image.disc().open()?;
+    let open = commits::open_at(&image, args.number("--at")?)?;
     let mut bytes = Vec::new();
     let mut progress = Progress::new("blocks read");
     for i in 0..count {
-        bytes.extend_from_slice(&open.read(first.saturating_add(i))?);
+        bytes.extend_from_slice(&commits::read(&open, first.saturating_add(i))?);
         progress.tell(i as usize, count as usize);
     }
     drop(progress);
@@ -180,22 +126,18 @@ pub fn read(args: &mut Args, out: &mut dyn Write) -> Done {
         bytes = text;
     }
     match args.path("--output") {
-        Some(path) => write_file(path, &bytes),
+        Some(path) => Ok(image.write_output(path, &bytes)?),
         None => Ok(out.write_all(&bytes)?),
     }
 }
 
 fn optional_count(args: &mut Args) -> Result<u32, Failure> {
-    match args.next_word() {
-        None => Ok(1),
-        Some(word) => {
-            let word = word.to_string_lossy();
-            word.parse()
-                .ok()
-                .filter(|&n| n as usize <= MOST_SECTORS)
-                .ok_or_else(|| Failure::Usage(format!("COUNT: {word} is no number of blocks")))
-        }
-    }
+    let Some(word) = args.next_word() else {
+        return Ok(1);
+    };
+    let word = word.to_string_lossy();
+    let count = number(&word).filter(|&n| n > 0 && n as usize <= MOST_SECTORS);
+    count.ok_or_else(|| Failure::Usage(format!("COUNT: {word} is no number of blocks from 1 to 1,048,576")))
 }
 
 /// Sixteen bytes a line, in hexadecimal and as letters; lines that repeat the one before are left out.
@@ -231,52 +173,92 @@ fn input(path: &Path, most: usize) -> Result<Vec<u8>, Failure> {
     Ok(bytes)
 }
 
+/// The bytes that are to be saved: as many as the disc can hold, one at least, and with --packet whole packets.
+fn input_for(image: &Image, path: &Path, packet: bool) -> Result<Vec<u8>, Failure> {
+    let blocks = match read_maps(&image.volume.maps) {
+        Ok(Maps::WriteOnce { .. }) => (image.volume.length as usize).min(MOST_ENTRIES),
+        _ => (image.volume.length as usize).min(MOST_SECTORS),
+    };
+    let bytes = input(path, SECTOR * blocks)?;
+    let wrong = |words: String| Err(Failure::Usage(format!("{}: {words}", path.display())));
+    match bytes.len() {
+        0 => wrong("it is empty: there is nothing to save".into()),
+        n if n > SECTOR * blocks => {
+            wrong(format!("it has more than the {} bytes of all {} blocks", grouped(SECTOR * blocks), grouped(blocks)))
+        }
+        n if packet && !n.is_multiple_of(PACKET_BYTES) => {
+            wrong(format!("its {} bytes are no whole packets of 65,536, which --packet saves", grouped(n)))
+        }
+        _ => Ok(bytes),
+    }
+}
+
+fn effect_name(effect: Effect) -> &'static str {
+    match effect {
+        Effect::Old => "old",
+        Effect::Unreadable => "unreadable",
+        Effect::Whole => "whole",
+    }
+}
+
 /// Stores the image once a call is done, and where the power was to fail in it too: then it is the disc as the cut left it.
-fn finish(image: &mut Image, answer: Result<String, Failure>, out: &mut dyn Write) -> Done {
+fn finish(image: &mut Image, answer: Result<String, Failure>, cut: Cut, out: &mut dyn Write) -> Done {
     match answer {
         Ok(words) => {
             image.store()?;
             writeln!(out, "{words}")?;
             Ok(())
         }
-        Err(Failure::Refused(Error::Cut)) => {
+        Err(Failure::Cut(call)) => {
             image.store()?;
-            Err(Failure::Refused(Error::Cut))
+            let (at, effect) = (grouped(cut.at), effect_name(cut.effect));
+            Err(Failure::Cut(format!(
+                "the power failed at write {at} of {call}, which became {effect}; the image was stored as the cut left it"
+            )))
         }
         Err(other) => Err(other),
     }
 }
 
+/// Opens a disc that is to be committed, which needs --force where that may lose a newer VAT.
+fn open_to_commit(image: &mut Image, is_forced: bool) -> Result<Open<'_>, Failure> {
+    let open = commits::open_to_write(image)?;
+    need_force(&open, is_forced)?;
+    Ok(open)
+}
+
 /// Commits, and says what the disc has come to.
 fn commit_and_tell(open: &mut Open, cut: Cut) -> Result<String, Failure> {
-    open.commit(cut)?;
+    open.commit_cut(cut).map_err(|error| refused::by_call(&*open, Asked::Commit, error))?;
     Ok(match open.record().held {
-        Held::WriteOnce { entries, next, last } => format!("committed: N {entries}, NWA {next}, last ICB {last}"),
+        Held::WriteOnce { entries, next, last } => {
+            format!("committed: N {}, NWA {}, last ICB {}", grouped(entries), grouped(next), grouped(last))
+        }
         Held::Rewritable { .. } => String::new(),
     })
 }
 
 pub fn save(args: &mut Args, out: &mut dyn Write) -> Done {
-    known(args, &["--no-commit", "--packet", "--cut"])?;
-    let mut image = load(args)?;
+    known(args, &["--no-commit", "--packet", "--cut", "--force"])?;
+    let mut image = load_to_write(args)?;
     let word = args.next_word().ok_or_else(|| Failure::Usage("NUMBER is missing".into()))?;
     let path = args.next_path("FILE")?;
     args.end()?;
     let cut = args.cut()?;
     let (packet, commits) = (args.has("--packet"), !args.has("--no-commit"));
-    let mut bytes = input(&path, image.bytes.len())?;
-    let unit = if packet { PACKET_BYTES } else { SECTOR };
-    bytes.resize(bytes.len().div_ceil(unit).max(1) * unit, 0);
-    let answer = save_all(image.disc(), &word.to_string_lossy(), &bytes, packet, commits, cut);
-    finish(&mut image, answer, out)
+    let is_forced = args.has("--force") || !commits;
+    let mut bytes = input_for(&image, &path, packet)?;
+    bytes.resize(bytes.len().next_multiple_of(SECTOR), 0);
+    let save = |open| save_all(open, &word.to_string_lossy(), &bytes, packet, commits, cut);
+    let answer = open_to_commit(&mut image, is_forced).and_then(save);
+    finish(&mut image, answer, cut, out)
 }
 
-fn save_all(disc: Disc, word: &str, bytes: &[u8], packet: bool, commits: bool, cut: Cut) -> Result<String, Failure> {
-    let mut open = disc.open()?;
-    let is_once = matches!(open.record().held, Held::WriteOnce { .. });
+fn save_all(mut open: Open, word: &str, bytes: &[u8], packet: bool, commits: bool, cut: Cut) -> Result<String, Failure> {
+    let is_once = View::from(&open).is_write_once();
     let first = match word {
         "new" if is_once => open.record().entries(),
-        _ => word.replace(',', "").parse().map_err(|_| Failure::Usage(format!("NUMBER: {word} is no block number")))?,
+        _ => number(word).ok_or_else(|| Failure::Usage(format!("NUMBER: {word} is no block number")))?,
     };
     let unit = if packet { PACKET_BYTES } else { SECTOR };
     let count = bytes.len() / unit;
@@ -287,17 +269,17 @@ fn save_all(disc: Disc, word: &str, bytes: &[u8], packet: bool, commits: bool, c
         let is_last = i + 1 == count && !(is_once && commits);
         let step = if packet { PACKET * i } else { i } as u32;
         let number = first.saturating_add(step);
-        match (is_once, packet) {
-            (true, false) => open.save_virtual(number, part, cut_of(is_last))?,
-            (false, false) => open.save_block(number, part, cut_of(is_last))?,
-            (_, true) => open.save_packet(number, part, cut_of(is_last))?,
-        }
+        let cut = cut_of(is_last);
+        let (answer, asked) = match (is_once, packet) {
+            (true, false) => (open.save_virtual_cut(number, part, cut), Asked::SaveVirtual(number)),
+            (false, false) => (open.save_block_cut(number, part, cut), Asked::SaveBlock(number)),
+            (_, true) => (open.save_packet_cut(number, part, cut), Asked::SavePacket(number)),
+        };
+        answer.map_err(|error| refused::by_call(&open, asked, error))?;
         progress.tell(i, count);
     }
     drop(progress);
-    let what = if packet { "packet" } else { "block" };
-    let s = if count == 1 { "" } else { "s" };
-    let saved = format!("saved {count} {what}{s} from {first} on");
+    let saved = format!("saved {} from {} on", counted(count, if packet { "packet" } else { "block" }), grouped(first));
     if !is_once {
         return Ok(saved);
     }
@@ -308,54 +290,55 @@ fn save_all(disc: Disc, word: &str, bytes: &[u8], packet: bool, commits: bool, c
 }
 
 pub fn free(args: &mut Args, out: &mut dyn Write) -> Done {
-    known(args, &["--cut"])?;
-    let mut image = load(args)?;
+    known(args, &["--cut", "--force"])?;
+    let mut image = load_to_write(args)?;
     let first = args.next_number("NUMBER")?;
     let count = optional_count(args)?;
     args.end()?;
     let cut = args.cut()?;
-    let free_all = |disc: Disc| -> Result<String, Failure> {
-        let mut open = disc.open()?;
-        for i in 0..count {
-            open.free_virtual(first.saturating_add(i))?;
-        }
-        let s = if count == 1 { "" } else { "s" };
-        Ok(format!("freed {count} block{s} from {first} on\n{}", commit_and_tell(&mut open, cut)?))
-    };
-    let answer = free_all(image.disc());
-    finish(&mut image, answer, out)
+    let answer = open_to_commit(&mut image, args.has("--force")).and_then(|open| free_all(open, first, count, cut));
+    finish(&mut image, answer, cut, out)
+}
+
+fn free_all(mut open: Open, first: u32, count: u32, cut: Cut) -> Result<String, Failure> {
+    for i in 0..count {
+        let v = first.saturating_add(i);
+        open.free_virtual(v).map_err(|error| refused::by_call(&open, Asked::Free(v), error))?;
+    }
+    let freed = format!("freed {} from {} on", counted(count as usize, "block"), grouped(first));
+    Ok(format!("{freed}\n{}", commit_and_tell(&mut open, cut)?))
 }
 
 pub fn commit(args: &mut Args, out: &mut dyn Write) -> Done {
-    known(args, &["--cut"])?;
-    let mut image = load(args)?;
+    known(args, &["--cut", "--force"])?;
+    let mut image = load_to_write(args)?;
     args.end()?;
     let cut = args.cut()?;
-    let answer = image.disc().open().map_err(Failure::from).and_then(|mut open| commit_and_tell(&mut open, cut));
-    finish(&mut image, answer, out)
+    let answer = open_to_commit(&mut image, args.has("--force")).and_then(|mut open| commit_and_tell(&mut open, cut));
+    finish(&mut image, answer, cut, out)
 }
 
 pub fn spare(args: &mut Args, out: &mut dyn Write) -> Done {
     known(args, &["--zeros", "--cut"])?;
-    let mut image = load(args)?;
+    let mut image = load_to_write(args)?;
     let b = args.next_number("NUMBER")?;
     let path = args.next_word();
     args.end()?;
     let cut = args.cut()?;
     let zeros = args.has("--zeros");
     let given = path.map(|path| input(Path::new(&path), PACKET_BYTES)).transpose()?;
-    let spare_it = |disc: Disc| -> Result<String, Failure> {
-        let mut open = disc.open()?;
-        let packet = match &given {
-            Some(bytes) => bytes.clone(),
-            None => read_packet(&open, b, zeros)?,
-        };
-        open.spare_packet(b, &packet, cut)?;
-        let at = open.table().chunks_exact(2).find(|e| e[0] == b).map_or(NONE, |e| e[1]);
-        Ok(format!("spared the packet of block {b}: it is now at sector {at}"))
+    let answer = commits::open_to_write(&mut image).and_then(|open| spare_it(open, b, given, zeros, cut));
+    finish(&mut image, answer, cut, out)
+}
+
+fn spare_it(mut open: Open, b: u32, given: Option<Vec<u8>>, zeros: bool, cut: Cut) -> Result<String, Failure> {
+    let packet = match given {
+        Some(bytes) => bytes,
+        None => read_packet(&open, b, zeros)?,
     };
-    let answer = spare_it(image.disc());
-    finish(&mut image, answer, out)
+    let answer = open.spare_packet_cut(b, &packet, cut);
+    answer.map_err(|error| refused::by_call(&open, Asked::SparePacket(b, packet.len()), error))?;
+    Ok(format!("spared the packet of block {}: it is now at sector {}", grouped(b), grouped(View::from(&open).packet_place(b))))
 }
 
 /// The packet that begins at block b, as far as it can be read.
@@ -367,7 +350,7 @@ fn read_packet(open: &Open, b: u32, zeros: bool) -> Result<Vec<u8>, Failure> {
             Err(Error::Refused(Refusal::NotRecorded)) if zeros => packet.extend_from_slice(&[0; SECTOR]),
             // that a number is outside, or that the disc is write-once, the sparing itself says
             Err(Error::Refused(Refusal::NumberOutside | Refusal::UnusedEntry)) => packet.extend_from_slice(&[0; SECTOR]),
-            Err(error) => return Err(error.into()),
+            Err(error) => return Err(refused::by_call(open, Asked::Read(b.saturating_add(i)), error)),
         }
     }
     Ok(packet)
@@ -387,25 +370,21 @@ pub fn make(args: &mut Args, out: &mut dyn Write) -> Done {
         "--marks",
         "--force",
         "--no-descriptors",
+        "--media",
     ])?;
     let path = args.next_path("IMAGE")?;
     args.end()?;
-    if !args.has("--force") && path.exists() {
-        return Err(Failure::Usage(format!("{} is there already (--force replaces it)", path.display())));
-    }
-    let sectors = args.number("--sectors")?.ok_or_else(|| Failure::Usage("how many sectors? --sectors N".into()))?;
+    let Layout { sectors, start, length, spares, .. } = args.layout()?;
     if sectors as usize > MOST_SECTORS {
-        return Err(Error::Refused(Refusal::DiscShape).into());
+        return Err(refused::sectors(sectors as usize));
     }
-    let start = args.number("--start")?.unwrap_or(288);
-    let length = args.number("--length")?.unwrap_or(sectors.saturating_sub(start));
-    let spares = args.numbers("--spares")?.unwrap_or_default();
     let (volume, partition) = args.new_volume(start, length)?;
-    let mut image = Image::new(&path, args.path("--marks"), sectors as usize, volume);
-    image.disc().make(&spares)?;
+    let mut image = Image::create(&path, args.path("--marks"), sectors as usize, volume, args.has("--force"))?;
+    let mut disc = image.disc();
+    disc.make(&spares).map_err(|error| refused::by_making(disc.to_read(), &spares, error))?;
     let is_described = !args.has("--no-descriptors") && describe(&mut image, partition);
     image.store()?;
-    writeln!(out, "made {}: {} sectors, S {start}, L {length}", path.display(), grouped(sectors.into()))?;
+    writeln!(out, "made {}: {}, S {}, L {}", path.display(), counted(sectors as usize, "sector"), grouped(start), grouped(length))?;
     if !is_described {
         writeln!(out, "it has no descriptors: give S, L and the kind to the other commands by hand")?;
     }
@@ -444,59 +423,36 @@ fn is_spare_there(image: &mut Image) -> bool {
     }
 }
 
-/// The VAT ICBs of a write-once disc, the newest first, each with its number of entries.
-pub fn chain(image: &mut Image) -> Result<Vec<(u32, Record)>, Failure> {
-    let mut found = Vec::new();
-    let mut length = image.volume.length;
-    let mut progress = Progress::new("VAT ICBs found");
-    loop {
-        let disc = Disc { length, ..image.disc() };
-        let record = match disc.open() {
-            Ok(open) => open.record(),
-            Err(Error::Refused(Refusal::NoTable)) if !found.is_empty() => return Ok(found),
-            Err(error) => return Err(error.into()),
-        };
-        let Held::WriteOnce { last, .. } = record.held else {
-            return Err(Error::Refused(Refusal::OtherKind).into());
-        };
-        found.push((last, record));
-        progress.tell(found.len(), found.len());
-        if last == 0 {
-            return Ok(found);
-        }
-        length = last;
-    }
-}
-
 pub fn history(args: &mut Args, out: &mut dyn Write) -> Done {
     known(args, &[])?;
-    let mut image = load(args)?;
+    let image = load_next(args)?;
     args.end()?;
-    let found = chain(&mut image)?;
-    writeln!(out, "VAT ICB   sector       N  sectors between it and the next")?;
-    for (last, record) in &found {
-        let at = u64::from(image.volume.start) + u64::from(*last);
-        writeln!(out, "{last:>7}  {at:>7}  {:>6}  {:>6}", record.entries(), record.passed_over)?;
+    let found = chain(&image)?;
+    writeln!(out, "VAT ICB    sector       N  sectors between it and the next")?;
+    for commit in &found {
+        if let [icb, sector, entries, between] = &commit_row(commit, image.volume.start)[..] {
+            writeln!(out, "{icb:>7}  {sector:>8}  {entries:>6}  {between:>6}")?;
+        }
     }
-    match found.first() {
-        Some((_, newest)) => warn_if_passed(*newest, out),
-        None => Ok(()),
-    }
+    Passed::new((&commits::open(&image)?).into()).warn(out)
 }
 
 pub fn map(args: &mut Args, out: &mut dyn Write) -> Done {
     known(args, &[])?;
-    let mut image = load(args)?;
+    let image = load_next(args)?;
     let path = args.next_path("PICTURE")?;
     args.end()?;
-    let kinds = picture::kinds(&mut image)?;
+    let picture = Picture::new(&image)?;
     let ending = path.extension().map(|e| e.to_ascii_lowercase());
     let bytes = match ending.as_ref().and_then(|e| e.to_str()) {
-        Some("svg") => picture::svg(&kinds, &image.volume).into_bytes(),
-        Some("ppm") => picture::ppm(&kinds),
+        Some("svg") => picture.svg().into_bytes(),
+        Some("ppm") => picture.ppm(),
         _ => return Err(Failure::Usage(format!("{}: a picture ends in .svg or .ppm", path.display()))),
     };
-    write_file(&path, &bytes)?;
-    writeln!(out, "{}: {}", path.display(), picture::legend(&kinds))?;
+    image.write_output(&path, &bytes)?;
+    writeln!(out, "{}: {}", path.display(), picture.legend())?;
+    if let Some(words) = &picture.from_marks {
+        writeln!(out, "drawn from the marks alone, since the disc was turned down: {words}")?;
+    }
     Ok(())
 }

@@ -1,10 +1,11 @@
-//! A picture of a disc: a small square a sector, row by row.
+//! A picture of a disc: a small field a sector, row by row.
 
-use super::commands::chain;
-use super::image::Image;
-use super::Failure;
+use super::states::{Block, View};
+use super::words::{counted, from_to, grouped};
+use super::{commits, Failure};
 use std::fmt::Write;
 use tuormik::descriptors::Volume;
+use tuormik::image::Image;
 use tuormik::{read_maps, Held, Maps, NONE, PACKET, RECORDED, UNREADABLE};
 
 /// What a sector is drawn as.
@@ -12,61 +13,51 @@ use tuormik::{read_maps, Held, Maps, NONE, PACKET, RECORDED, UNREADABLE};
 pub enum Kind {
     Blank,
     Recorded,
-    Unreadable,
-    Icb,
-    Table,
-    UsedSpare,
+    Live,
     FreeSpare,
+    UsedSpare,
+    Table,
+    Icb,
+    Unreadable,
 }
 
-/// Each kind with its words and its colour.
-const KINDS: [(Kind, &str, [u8; 3]); 7] = [
+/// Each kind with its words and its colour; those that come later are drawn over those before.
+const KINDS: [(Kind, &str, [u8; 3]); 8] = [
     (Kind::Blank, "blank", [0xee, 0xee, 0xea]),
-    (Kind::Recorded, "recorded", [0x8f, 0xa8, 0xc8]),
-    (Kind::Unreadable, "unreadable", [0xd6, 0x27, 0x28]),
-    (Kind::Icb, "VAT ICB", [0x1b, 0x1b, 0x6b]),
-    (Kind::Table, "sparing table", [0x1b, 0x1b, 0x6b]),
+    (Kind::Recorded, "recorded", [0xa9, 0xb8, 0xcc]),
+    (Kind::Live, "live", [0x3f, 0x8f, 0x5f]),
+    (Kind::FreeSpare, "free spare", [0xf3, 0xd9, 0x8b]),
     (Kind::UsedSpare, "used spare", [0xe8, 0x8a, 0x1a]),
-    (Kind::FreeSpare, "free spare", [0x7f, 0xc9, 0x7f]),
+    (Kind::Table, "sparing table", [0x1b, 0x1b, 0x6b]),
+    (Kind::Icb, "VAT ICB", [0x1b, 0x1b, 0x6b]),
+    (Kind::Unreadable, "unreadable", [0xd6, 0x27, 0x28]),
 ];
 
 fn colour(kind: Kind) -> [u8; 3] {
     KINDS.iter().find(|k| k.0 == kind).map_or([0; 3], |k| k.2)
 }
 
-/// What each sector of a disc is drawn as.
-pub fn kinds(image: &mut Image) -> Result<Vec<Kind>, Failure> {
-    let start = image.volume.start as usize;
-    let mut kinds: Vec<Kind> = image
-        .marks
-        .iter()
-        .map(|&mark| match mark {
-            RECORDED => Kind::Recorded,
-            UNREADABLE => Kind::Unreadable,
-            _ => Kind::Blank,
-        })
-        .collect();
-    let open = image.disc().open()?;
-    match open.record().held {
-        Held::WriteOnce { .. } => {
-            drop(open);
-            for (block, _) in chain(image)? {
-                paint(&mut kinds, start + block as usize, 1, Kind::Icb);
-            }
-        }
-        Held::Rewritable { .. } => {
-            for entry in open.table().chunks_exact(2) {
-                let kind = if entry[0] == NONE { Kind::FreeSpare } else { Kind::UsedSpare };
-                paint(&mut kinds, entry[1] as usize, PACKET, kind);
-            }
-            if let Maps::Rewritable { tables, .. } = read_maps(open.disc().maps)? {
-                for t in tables {
-                    paint(&mut kinds, t as usize, 1, Kind::Table);
-                }
-            }
-        }
-    }
-    Ok(kinds)
+/// Kinds of which a single sector has to be seen on a full disc too: they have an edge of their own colour.
+fn is_notable(kind: Kind) -> bool {
+    matches!(kind, Kind::Unreadable | Kind::Icb | Kind::Table)
+}
+
+/// A disc, ready to be drawn.
+pub struct Picture {
+    kinds: Vec<Kind>,
+    volume: Volume,
+    /// Why it is drawn from its marks alone.
+    pub from_marks: Option<String>,
+}
+
+/// What the marks tell, which are all there is where the disc is turned down.
+fn by_marks(marks: &[u8]) -> Vec<Kind> {
+    let kind = |&mark: &u8| match mark {
+        RECORDED => Kind::Recorded,
+        UNREADABLE => Kind::Unreadable,
+        _ => Kind::Blank,
+    };
+    marks.iter().map(kind).collect()
 }
 
 /// Paints sectors, but those that are unreadable.
@@ -78,17 +69,67 @@ fn paint(kinds: &mut [Kind], from: usize, count: usize, with: Kind) {
     }
 }
 
-/// How many sectors a row has: about twice as wide as high, in packets.
-fn row(sectors: usize) -> usize {
-    let wide = (2.0 * sectors as f64).sqrt() as usize;
-    wide.div_ceil(PACKET).max(1) * PACKET
+impl Picture {
+    pub fn new(image: &Image) -> Result<Picture, Failure> {
+        let mut picture = Picture { kinds: by_marks(&image.marks), volume: image.volume.clone(), from_marks: None };
+        match commits::open(image) {
+            Ok(open) => picture.paint_open((&open).into()),
+            Err(failure @ Failure::Refused(..)) => {
+                picture.from_marks = Some(failure.words());
+                return Ok(picture);
+            }
+            Err(other) => return Err(other),
+        }
+        if let Ok(Maps::WriteOnce { .. }) = read_maps(&image.volume.maps) {
+            for commit in commits::chain(image)? {
+                paint(&mut picture.kinds, image.volume.start as usize + commit.icb as usize, 1, Kind::Icb);
+            }
+        }
+        Ok(picture)
+    }
+
+    fn paint_open(&mut self, open: View) {
+        for block in open.blocks().filter(Block::is_readable) {
+            paint(&mut self.kinds, block.place.map_or(0, |(_, sector)| sector), 1, Kind::Live);
+        }
+        let Held::Rewritable { .. } = open.record.held else {
+            return;
+        };
+        for (original, mapped) in open.spares() {
+            let kind = if original == NONE { Kind::FreeSpare } else { Kind::UsedSpare };
+            paint(&mut self.kinds, mapped as usize, PACKET, kind);
+        }
+        if let Ok(Maps::Rewritable { tables, .. }) = read_maps(open.disc.maps) {
+            for table in tables {
+                paint(&mut self.kinds, table as usize, 1, Kind::Table);
+            }
+        }
+    }
+
+    /// The kinds that there are, each with its count, its words and its colour.
+    fn counts(&self) -> Vec<(usize, &'static str, [u8; 3])> {
+        let count = |kind| self.kinds.iter().filter(|&&k| k == kind).count();
+        let counted = KINDS.iter().map(|&(kind, words, colour)| (count(kind), words, colour));
+        counted.filter(|(count, ..)| *count > 0).collect()
+    }
+
+    /// The counts in words.
+    pub fn legend(&self) -> String {
+        let words: Vec<String> = self.counts().iter().map(|(count, words, _)| format!("{} {words}", grouped(*count))).collect();
+        words.join(", ")
+    }
+
+    pub fn title(&self) -> String {
+        let (start, length) = (self.volume.start as usize, self.volume.length as usize);
+        let partition = from_to(start, (start + length).saturating_sub(1), "sector");
+        format!("{}; the partition is {partition}", counted(self.kinds.len(), "sector"))
+    }
 }
 
-/// The counts of each kind in words.
-pub fn legend(kinds: &[Kind]) -> String {
-    let counted = KINDS.iter().map(|(kind, words, _)| (kinds.iter().filter(|k| *k == kind).count(), words));
-    let there: Vec<String> = counted.filter(|(count, _)| *count > 0).map(|(count, words)| format!("{count} {words}")).collect();
-    there.join(", ")
+/// How many sectors a row has: a number of packets, so that there are about twice as many in a row as there are rows.
+fn row(sectors: usize) -> usize {
+    let fits = |row: &usize| 2 * sectors <= row * row;
+    [32, 64, 128, 256, 512].into_iter().find(fits).unwrap_or(1024)
 }
 
 fn hex(colour: [u8; 3]) -> String {
@@ -96,62 +137,193 @@ fn hex(colour: [u8; 3]) -> String {
     format!("#{r:02x}{g:02x}{b:02x}")
 }
 
-/// Runs of one kind in a row become one rectangle; the partition has a frame of its first and last sector.
-pub fn svg(kinds: &[Kind], volume: &Volume) -> String {
-    const SIDE: usize = 6;
-    const LEGEND: usize = 28;
-    let row = row(kinds.len());
-    let rows = kinds.len().div_ceil(row);
-    let (width, height) = ((SIDE * row).max(640), SIDE * rows + LEGEND);
+/// The width of all rows, and what stands around them.
+const WIDE: usize = 1024;
+const LEFT: usize = 72;
+const RIGHT: usize = 16;
+const TOP: usize = 24;
+const LEGEND_ROW: usize = 20;
+/// The width of a letter, and the least height of a row's label.
+const LETTER: usize = 7;
+const LABEL: usize = 14;
+
+/// The fields of one kind as a path, in sectors and rows. Rows that are whole of one kind become one field.
+fn path(kinds: &[Kind], kind: Kind, row: usize) -> String {
     let mut text = String::new();
-    let _ = writeln!(
-        text,
-        r#"<svg xmlns="http://www.w3.org/2000/svg" width="{width}" height="{height}" shape-rendering="crispEdges" font-family="sans-serif" font-size="11">"#
-    );
-    let _ = writeln!(text, r#"<title>{} sectors, partition from {} of {}</title>"#, kinds.len(), volume.start, volume.length);
-    for (y, line) in kinds.chunks(row).enumerate() {
-        let mut x = 0;
-        for run in line.chunk_by(|a, b| a == b) {
-            let (left, top, wide) = (SIDE * x, SIDE * y, SIDE * run.len());
-            let _ = writeln!(text, r#"<rect x="{left}" y="{top}" width="{wide}" height="{SIDE}" fill="{}"/>"#, hex(colour(run[0])));
-            x += run.len();
+    let mut at = 0;
+    for run in kinds.chunk_by(|a, b| a == b) {
+        if run[0] == kind {
+            put_run(&mut text, at, at + run.len(), row);
         }
+        at += run.len();
     }
-    let end = volume.start as usize + volume.length as usize;
-    for edge in [volume.start as usize, end.saturating_sub(1)] {
-        let (left, top) = (SIDE * (edge % row), SIDE * (edge / row));
-        let _ = writeln!(text, r#"<rect x="{left}" y="{top}" width="{SIDE}" height="{SIDE}" fill="none" stroke="black"/>"#);
-    }
-    let mut left = 4;
-    for (kind, words, colour) in KINDS {
-        if kinds.contains(&kind) {
-            let (top, base) = (SIDE * rows + 10, SIDE * rows + 19);
-            let _ = writeln!(text, r#"<rect x="{left}" y="{top}" width="10" height="10" fill="{}"/>"#, hex(colour));
-            let _ = writeln!(text, r#"<text x="{}" y="{base}">{words}</text>"#, left + 14);
-            left += 22 + 7 * words.len();
-        }
-    }
-    text.push_str("</svg>\n");
     text
 }
 
-/// A pixel a sector, or more where they are few.
-pub fn ppm(kinds: &[Kind]) -> Vec<u8> {
-    let row = row(kinds.len());
-    let rows = kinds.len().div_ceil(row);
-    let side = (512 / row).clamp(1, 8);
-    let mut bytes = format!("P6\n{} {}\n255\n", side * row, side * rows).into_bytes();
-    for line in kinds.chunks(row) {
-        let mut pixels = Vec::new();
-        for x in 0..row {
-            let colour = line.get(x).map_or([255; 3], |&kind| colour(kind));
-            for _ in 0..side {
-                pixels.extend_from_slice(&colour);
+/// A run of sectors: the end of its first row, the rows that it fills, the beginning of its last.
+fn put_run(text: &mut String, from: usize, to: usize, row: usize) {
+    let mut at = from;
+    while at < to {
+        let (x, y) = (at % row, at / row);
+        let rows = if x == 0 { ((to - at) / row).max(1) } else { 1 };
+        let wide = (row - x).min(to - at);
+        let _ = write!(text, "M{x} {y}h{wide}v{rows}h-{wide}z");
+        at += if wide == row { rows * row } else { wide };
+    }
+}
+
+/// The edge around the sectors of the partition, which may begin and end inside a row.
+fn edge(volume: &Volume, sectors: usize, row: usize) -> String {
+    let (from, to) = (volume.start as usize, (volume.start as usize + volume.length as usize).min(sectors));
+    if from >= to {
+        return String::new();
+    }
+    let (x, y) = (from % row, from / row);
+    let (end, last) = ((to - 1) % row + 1, (to - 1) / row);
+    if y == last {
+        format!("M{x} {y}H{end}V{}H{x}z", y + 1)
+    } else {
+        format!("M{x} {y}H{row}V{last}H{end}V{}H0V{}H{x}z", last + 1, y + 1)
+    }
+}
+
+impl Picture {
+    /// The height of a row: as high as a field is wide, and 3 where that is less.
+    fn side(&self) -> usize {
+        (WIDE / row(self.kinds.len())).clamp(3, 16)
+    }
+
+    fn body_height(&self) -> usize {
+        self.kinds.len().div_ceil(row(self.kinds.len())) * self.side()
+    }
+
+    pub fn svg(&self) -> String {
+        let row = row(self.kinds.len());
+        let legend = self.legend_items();
+        let height = TOP + self.body_height() + LEGEND_ROW * (legend.last().map_or(0, |item| item.1) + 1) + 8;
+        let width = LEFT + WIDE + RIGHT;
+        let mut text = String::new();
+        let _ = writeln!(
+            text,
+            r#"<svg xmlns="http://www.w3.org/2000/svg" viewBox="0 0 {width} {height}" width="{width}" height="{height}" font-family="sans-serif" font-size="11">"#
+        );
+        let _ = writeln!(text, "<title>{}</title>", self.title());
+        let _ = writeln!(text, r##"<text x="{LEFT}" y="15" fill="#444">{}</text>"##, self.title());
+        self.put_labels(&mut text, row);
+        let (across, down) = (WIDE as f64 / row as f64, self.side());
+        let _ = writeln!(text, r#"<g transform="translate({LEFT} {TOP}) scale({across} {down})" shape-rendering="crispEdges">"#);
+        for (kind, _, colour) in KINDS {
+            let fields = path(&self.kinds, kind, row);
+            if !fields.is_empty() {
+                let colour = hex(colour);
+                let edge =
+                    if is_notable(kind) { format!(r#" stroke="{colour}" vector-effect="non-scaling-stroke""#) } else { String::new() };
+                let _ = writeln!(text, r#"<path fill="{colour}"{edge} d="{fields}"/>"#);
             }
         }
-        for _ in 0..side {
-            bytes.extend_from_slice(&pixels);
+        let edge = edge(&self.volume, self.kinds.len(), row);
+        let _ = writeln!(text, r#"<path fill="none" stroke="black" vector-effect="non-scaling-stroke" d="{edge}"/>"#);
+        text.push_str("</g>\n");
+        self.put_legend(&mut text, &legend);
+        text.push_str("</svg>\n");
+        text
+    }
+
+    /// The first sector of each row that has room for it, and beside the rows that have one a red mark for an unreadable sector.
+    fn put_labels(&self, text: &mut String, row: usize) {
+        let side = self.side();
+        let every = LABEL.div_ceil(side);
+        for (y, line) in self.kinds.chunks(row).enumerate() {
+            let top = TOP + side * y;
+            if y.is_multiple_of(every) {
+                let base = top + (side + 8) / 2;
+                let _ = writeln!(text, r##"<text x="{}" y="{base}" text-anchor="end" fill="#444">{}</text>"##, LEFT - 8, grouped(y * row));
+            }
+            if line.contains(&Kind::Unreadable) {
+                let left = LEFT + WIDE + 4;
+                let _ =
+                    writeln!(text, r#"<rect x="{left}" y="{top}" width="8" height="{side}" fill="{}"/>"#, hex(colour(Kind::Unreadable)));
+            }
         }
     }
-    bytes
+
+    /// Each item of the legend: where it begins, in which row, its words and its colour.
+    fn legend_items(&self) -> Vec<(usize, usize, String, [u8; 3])> {
+        let (mut left, mut line) = (LEFT, 0);
+        let mut items = Vec::new();
+        for (count, words, colour) in self.counts() {
+            let marked = if colour == self::colour(Kind::Unreadable) { " (their rows are marked at the right)" } else { "" };
+            let words = format!("{words}: {}{marked}", grouped(count));
+            let wide = 30 + LETTER * words.len();
+            if left + wide > LEFT + WIDE {
+                (left, line) = (LEFT, line + 1);
+            }
+            items.push((left, line, words, colour));
+            left += wide;
+        }
+        items
+    }
+
+    fn put_legend(&self, text: &mut String, items: &[(usize, usize, String, [u8; 3])]) {
+        for (left, line, words, colour) in items {
+            let top = TOP + self.body_height() + 8 + LEGEND_ROW * line;
+            let _ = writeln!(text, r#"<rect x="{left}" y="{top}" width="11" height="11" fill="{}"/>"#, hex(*colour));
+            let _ = writeln!(text, r#"<text x="{}" y="{}">{words}</text>"#, left + 16, top + 10);
+        }
+    }
+
+    /// A pixel a sector, or more where they are few.
+    pub fn ppm(&self) -> Vec<u8> {
+        let row = row(self.kinds.len());
+        let rows = self.kinds.len().div_ceil(row);
+        let side = (512 / row).clamp(1, 8);
+        let mut bytes = format!("P6\n{} {}\n255\n", side * row, side * rows).into_bytes();
+        for line in self.kinds.chunks(row) {
+            let mut pixels = Vec::new();
+            for x in 0..row {
+                let colour = line.get(x).map_or([255; 3], |&kind| colour(kind));
+                for _ in 0..side {
+                    pixels.extend_from_slice(&colour);
+                }
+            }
+            for _ in 0..side {
+                bytes.extend_from_slice(&pixels);
+            }
+        }
+        bytes
+    }
+}
+
+#[cfg(test)]
+mod tests {
+    use super::*;
+
+    /// The sectors that a path covers.
+    fn covered(path: &str, row: usize) -> Vec<usize> {
+        let mut sectors = Vec::new();
+        for field in path.split_terminator('z') {
+            let numbers: Vec<usize> = field.split(|c: char| !c.is_ascii_digit()).filter_map(|n| n.parse().ok()).collect();
+            let [x, y, wide, rows, _] = numbers[..] else { panic!("{field}") };
+            sectors.extend((y..y + rows).flat_map(|y| (x..x + wide).map(move |x| y * row + x)));
+        }
+        sectors.sort_unstable();
+        sectors
+    }
+
+    #[test]
+    fn runs_cover_their_sectors_and_no_others() {
+        for (from, to) in [(0, 1), (0, 32), (3, 7), (30, 34), (0, 96), (5, 133), (31, 160), (64, 65), (1, 200)] {
+            let mut text = String::new();
+            put_run(&mut text, from, to, 32);
+            assert_eq!(covered(&text, 32), (from..to).collect::<Vec<_>>(), "{text}");
+        }
+        let mut text = String::new();
+        put_run(&mut text, 0, 320_000, 1024);
+        assert_eq!(text.matches('z').count(), 2);
+    }
+
+    #[test]
+    fn rows_are_packets() {
+        assert_eq!([row(1), row(512), row(513), row(4096), row(333_000), row(1 << 20)], [32, 32, 64, 128, 1024, 1024]);
+    }
 }

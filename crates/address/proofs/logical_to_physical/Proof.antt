@@ -2,7 +2,7 @@
 use mathlib.Core.Path.{_∙_, sym}
 use native.Mathlib.Omega.{arith}
 use borrow.Author.Needs.{needs}
-use Rattle.address.proofs.Laws.{off-disc, past-end, inside, fits}
+use Rattle.address.proofs.Laws.{told-physical, off-disc, past-end, inside, fits}
 use Rattle.address.proofs.logical_to_physical.Statement.{statement}
 use Rattle.address.proofs.logical_to_physical.Tie as tie
 
@@ -22,19 +22,21 @@ add-sector c =
     omega arith
 
 returns : tie.Need-returns
-returns c = off-disc _ _ (sym (c .before .before .before .judge-span .ensures) ∙ c .before .why .given .1)
+returns c = told-physical _ _ (off-disc _ _ (sym (c .before .before .before .judge-span .ensures) ∙ c .before .why .given .1))
 
 returns-2 : tie.Need-returns-2
 returns-2 c =
-    inside _ _
+    told-physical _ _
+    (inside _ _
     (sym (c .before .before .before .before .before .judge-span .ensures) ∙ c .before .before .before .enum-told .given .1)
-    (c .before .if1 .taken)
+    (c .before .if1 .taken))
 
 returns-3 : tie.Need-returns-3
 returns-3 c =
-    past-end _ _
+    told-physical _ _
+    (past-end _ _
     (sym (c .before .before .before .before .judge-span .ensures) ∙ c .before .before .enum-told .given .1)
-    (c .if1 .left)
+    (c .if1 .left))
 
 pub logical-to-physical-spec : {M : Type 1} → statement M
 logical-to-physical-spec =

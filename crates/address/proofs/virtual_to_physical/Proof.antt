@@ -1,7 +1,7 @@
 -- `address::virtual_to_physical` meets its contract: the span is judged, then the two translations are composed.
 use mathlib.Core.Path.{_∙_, sym, ap}
 use borrow.Author.Needs.{needs}
-use Rattle.address.proofs.Laws.{off-disc-first, onward, composed}
+use Rattle.address.proofs.Laws.{told-virtual, off-disc-first, onward, composed}
 use Rattle.address.proofs.virtual_to_physical.Statement.{statement}
 use Rattle.address.proofs.virtual_to_physical.Tie as tie
 
@@ -27,20 +27,22 @@ logical-to-physical-requires : tie.Need-logical-to-physical-requires
 logical-to-physical-requires c κs = search needs
 
 returns : tie.Need-returns
-returns c = off-disc-first _ _ _ (sym (c .before .before .before .judge-span .ensures) ∙ c .before .verdict .given .1)
+returns c = told-virtual _ _ _ (off-disc-first _ _ _ (sym (c .before .before .before .judge-span .ensures) ∙ c .before .verdict .given .1))
 
 returns-2 : tie.Need-returns-2
 returns-2 c =
-    ap (onward _) (sym (c .before .why .given .1) ∙ c .before .before .before .virtual-to-logical .ensures) ∙
+    told-virtual _ _ _
+    (ap (onward _) (sym (c .before .why .given .1) ∙ c .before .before .before .virtual-to-logical .ensures .0) ∙
     composed _ _ _
-    (sym (c .before .before .before .before .before .before .judge-span .ensures) ∙ c .before .before .before .before .enum-told .given .1)
+    (sym (c .before .before .before .before .before .before .judge-span .ensures) ∙ c .before .before .before .before .enum-told .given .1))
 
 returns-3 : tie.Need-returns-3
 returns-3 c =
-    c .logical-to-physical .ensures ∙
-    ap (onward _) (sym (c .before .before .b .given .1) ∙ c .before .before .before .before .virtual-to-logical .ensures) ∙
+    told-virtual _ _ _
+    (c .logical-to-physical .ensures .0 ∙
+    ap (onward _) (sym (c .before .before .b .given .1) ∙ c .before .before .before .before .virtual-to-logical .ensures .0) ∙
     composed _ _ _
-    (sym (c .before .before .before .before .before .before .before .judge-span .ensures) ∙ c .before .before .before .before .before .enum-told .given .1)
+    (sym (c .before .before .before .before .before .before .before .judge-span .ensures) ∙ c .before .before .before .before .before .enum-told .given .1))
 
 pub virtual-to-physical-spec : {M : Type 1} → statement M
 virtual-to-physical-spec =

@@ -3,7 +3,7 @@ use mathlib.Core.Path.{sym, _∙_}
 use borrow.Author.Needs.{needs}
 use Rattle.model.specs.Disc.{Disc, disc}
 use Rattle.model.specs.Examine.{Setting, setting}
-use Rattle.blocks.proofs.Laws.{makes-once, makes-again}
+use Rattle.blocks.proofs.Laws.{makes-once, makes-again, made-so}
 use Rattle.blocks.proofs.make.Statement.{statement}
 use Rattle.blocks.proofs.make.Tie as tie
 
@@ -29,7 +29,8 @@ same-length-2 c = search needs
 returns : tie.Need-returns
 returns c =
     let z = c .before .before .before .before .before .before .before .before .before .before .before .before .before in
-    makes-once (settingOf z) (discOf z) (sym (c .before .before .before .before .before .before .before .before .is-write-once .ensures _ _) ∙ c .before .before .before .before .before .before .before .if1 .taken) (z .args .spares .now) (c .before .before .before .before .make-write-once .ensures)
+    made-so (settingOf z) (discOf z)
+    (makes-once (settingOf z) (discOf z) (sym (c .before .before .before .before .before .before .before .before .is-write-once .ensures _ _) ∙ c .before .before .before .before .before .before .before .if1 .taken) (z .args .spares .now) (c .before .before .before .before .make-write-once .ensures))
 
 make-rewritable-requires : tie.Need-make-rewritable-requires
 make-rewritable-requires c κs = search needs
@@ -43,7 +44,8 @@ same-length-4 c = search needs
 returns-2 : tie.Need-returns-2
 returns-2 c =
     let z = c .before .before .before .before .before .before .before .before .before .before .before .before .before in
-    makes-again (settingOf z) (discOf z) (sym (c .before .before .before .before .before .before .before .before .is-write-once .ensures _ _) ∙ c .before .before .before .before .before .before .before .if1 .left) (z .args .spares .now) (c .before .before .before .before .make-rewritable .ensures)
+    made-so (settingOf z) (discOf z)
+    (makes-again (settingOf z) (discOf z) (sym (c .before .before .before .before .before .before .before .before .is-write-once .ensures _ _) ∙ c .before .before .before .before .before .before .before .if1 .left) (z .args .spares .now) (c .before .before .before .before .make-rewritable .ensures))
 
 pub make-spec : {M : Type 1} → statement M
 make-spec =

@@ -3,7 +3,7 @@ use mathlib.Core.Path.{sym, _∙_}
 use borrow.Author.Needs.{needs}
 use Rattle.model.specs.Disc.{Disc, disc}
 use Rattle.model.specs.Examine.{Setting, setting}
-use Rattle.blocks.proofs.Laws.{opens-once, opens-again}
+use Rattle.blocks.proofs.Laws.{opens-once, opens-again, opened-so}
 use Rattle.blocks.proofs.open.Statement.{statement}
 use Rattle.blocks.proofs.open.Tie as tie
 
@@ -26,7 +26,8 @@ same-length c = search needs
 returns : tie.Need-returns
 returns c =
     let z = c .before .before .before .before .before .before .before .before .before .before in
-    opens-once (settingOf z) (discOf z) (sym (c .before .before .before .before .before .is-write-once .ensures _ _) ∙ c .before .before .before .before .if1 .taken) (z .args .table .now) (c .before .before .open-write-once .ensures)
+    opened-so (settingOf z) (discOf z)
+    (opens-once (settingOf z) (discOf z) (sym (c .before .before .before .before .before .is-write-once .ensures _ _) ∙ c .before .before .before .before .if1 .taken) (z .args .table .now) (c .before .before .open-write-once .ensures))
 
 open-rewritable-requires : tie.Need-open-rewritable-requires
 open-rewritable-requires c κs = search needs
@@ -37,7 +38,8 @@ same-length-2 c = search needs
 returns-2 : tie.Need-returns-2
 returns-2 c =
     let z = c .before .before .before .before .before .before .before .before .before .before in
-    opens-again (settingOf z) (discOf z) (sym (c .before .before .before .before .before .is-write-once .ensures _ _) ∙ c .before .before .before .before .if1 .left) (z .args .table .now) (c .before .before .open-rewritable .ensures)
+    opened-so (settingOf z) (discOf z)
+    (opens-again (settingOf z) (discOf z) (sym (c .before .before .before .before .before .is-write-once .ensures _ _) ∙ c .before .before .before .before .if1 .left) (z .args .table .now) (c .before .before .open-rewritable .ensures))
 
 pub open-spec : {M : Type 1} → statement M
 open-spec =

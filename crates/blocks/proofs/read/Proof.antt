@@ -3,7 +3,7 @@ use mathlib.Core.Path.{sym, _∙_}
 use borrow.Author.Needs.{needs}
 use Rattle.model.specs.Disc.{Disc, disc}
 use Rattle.model.specs.Examine.{Setting, setting}
-use Rattle.blocks.proofs.Laws.{reads-once, reads-again}
+use Rattle.blocks.proofs.Laws.{reads-once, reads-again, read-so}
 use Rattle.blocks.proofs.read.Statement.{statement}
 use Rattle.blocks.proofs.read.Tie as tie
 
@@ -26,7 +26,8 @@ same-length c = search needs
 returns : tie.Need-returns
 returns c =
     let z = c .before .before .before .before .before .before .before .before .before .before .before in
-    reads-once (settingOf z) (discOf z) (sym (c .before .before .before .before .before .is-write-once .ensures _ _) ∙ c .before .before .before .before .if1 .taken) _ _ _ (z .args .out .now) (c .before .before .read-virtual .ensures)
+    read-so (settingOf z) (discOf z)
+    (reads-once (settingOf z) (discOf z) (sym (c .before .before .before .before .before .is-write-once .ensures _ _) ∙ c .before .before .before .before .if1 .taken) _ _ _ (z .args .out .now) (c .before .before .read-virtual .ensures))
 
 read-block-requires : tie.Need-read-block-requires
 read-block-requires c κs = search needs
@@ -37,7 +38,8 @@ same-length-2 c = search needs
 returns-2 : tie.Need-returns-2
 returns-2 c =
     let z = c .before .before .before .before .before .before .before .before .before .before .before in
-    reads-again (settingOf z) (discOf z) (sym (c .before .before .before .before .before .is-write-once .ensures _ _) ∙ c .before .before .before .before .if1 .left) _ _ _ (z .args .out .now) (c .before .before .read-block .ensures)
+    read-so (settingOf z) (discOf z)
+    (reads-again (settingOf z) (discOf z) (sym (c .before .before .before .before .before .is-write-once .ensures _ _) ∙ c .before .before .before .before .if1 .left) _ _ _ (z .args .out .now) (c .before .before .read-block .ensures))
 
 pub read-spec : {M : Type 1} → statement M
 read-spec =

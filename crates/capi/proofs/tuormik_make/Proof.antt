@@ -1,7 +1,7 @@
 -- `capi::tuormik_make` meets its contract: what is seen is the verdict of making. Assumes nothing.
 use mathlib.Core.Path.{ap, _∙_}
 use borrow.Author.Needs.{needs}
-use Rattle.numbers.specs.Numbers.{verdictNumber}
+use Rattle.refusal.specs.Number.{verdictNumber}
 use Rattle.capi.proofs.tuormik_make.Statement.{statement}
 use Rattle.capi.proofs.tuormik_make.Tie as tie
 

@@ -2,7 +2,7 @@
 use mathlib.Core.Path.{ap, _∙_}
 use borrow.Author.Needs.{needs}
 use Rattle.maps.specs.Kinds.{volumeWith}
-use Rattle.numbers.specs.Numbers.{verdictNumber}
+use Rattle.refusal.specs.Number.{verdictNumber}
 use Rattle.capi.specs.Lists.{volumeFor, lentVerdict}
 use Rattle.capi.proofs.write_once_maps.Statement.{statement}
 use Rattle.capi.proofs.write_once_maps.Tie as tie

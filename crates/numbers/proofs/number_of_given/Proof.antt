@@ -1,7 +1,7 @@
 -- `numbers::number_of_given` meets its contract: by cases of the answer. Assumes nothing.
 use mathlib.Core.Path.{sym, ap, _∙_}
 use borrow.Author.Needs.{needs}
-use Rattle.numbers.specs.Numbers.{givenNumber}
+use Rattle.model.specs.Told.{givenNumber}
 use Rattle.numbers.proofs.number_of_given.Statement.{statement}
 use Rattle.numbers.proofs.number_of_given.Tie as tie
 

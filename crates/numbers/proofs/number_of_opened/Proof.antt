@@ -1,7 +1,7 @@
 -- `numbers::number_of_opened` meets its contract: by cases of the answer. Assumes nothing.
 use mathlib.Core.Path.{sym, ap, _∙_}
 use borrow.Author.Needs.{needs}
-use Rattle.numbers.specs.Numbers.{openedNumber}
+use Rattle.model.specs.Told.{openedNumber}
 use Rattle.numbers.proofs.number_of_opened.Statement.{statement}
 use Rattle.numbers.proofs.number_of_opened.Tie as tie
 

@@ -1,7 +1,7 @@
 -- `numbers::number_of_reply` meets its contract: by cases of the reply. Assumes nothing.
 use mathlib.Core.Path.{sym, ap, _∙_}
 use borrow.Author.Needs.{needs}
-use Rattle.numbers.specs.Numbers.{replyNumber}
+use Rattle.model.specs.Told.{replyNumber}
 use Rattle.numbers.proofs.number_of_reply.Statement.{statement}
 use Rattle.numbers.proofs.number_of_reply.Tie as tie
 

@@ -1,7 +1,7 @@
 -- `numbers::number_of_verdict` meets its contract: by cases of the verdict. Assumes nothing.
 use mathlib.Core.Path.{sym, ap, _∙_}
 use borrow.Author.Needs.{needs}
-use Rattle.numbers.specs.Numbers.{verdictNumber}
+use Rattle.refusal.specs.Number.{verdictNumber}
 use Rattle.numbers.proofs.number_of_verdict.Statement.{statement}
 use Rattle.numbers.proofs.number_of_verdict.Tie as tie
 

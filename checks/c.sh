@@ -1,0 +1,56 @@
+#!/usr/bin/env bash
+# The C side: the header by itself, the examples, and both again through what install.sh installs.
+#
+#     bash checks/c.sh
+#
+# The library is target/staticlib/libcapi.a, or the one in the folder that TUORMIK_LIB names.
+set -eu
+cd "$(dirname "$0")/.."
+library=${TUORMIK_LIB:-target/staticlib}/libcapi.a
+warnings="-Wall -Wextra -pedantic -Werror"
+room=$(mktemp -d)
+trap 'rm -rf "$room"' EXIT
+
+# the header in both languages, as it stands and used
+cc -std=c99 $warnings -Iinclude checks/header.c -o "$room/header"
+"$room/header"
+c++ $warnings -Iinclude -x c++ checks/header.c -o "$room/header"
+"$room/header"
+c++ $warnings -Iinclude -x c++ -fsyntax-only examples/c/disc.c examples/c/rewritable.c
+
+# the examples: each ends with status 0 if every answer was the expected one
+for example in disc rewritable; do
+  cc -std=c99 $warnings -Iinclude "examples/c/$example.c" "$library" -o "$room/$example"
+  "$room/$example"
+done
+
+# installed, in a folder whose name has a space, and built by what the pkg-config file says
+prefix="$room/a prefix"
+PREFIX=$prefix sh install.sh
+pc="$prefix/lib/pkgconfig/tuormik.pc"
+version=$(sed -n 's/^#define TUORMIK_VERSION "\(.*\)"$/\1/p' include/tuormik.h)
+if command -v pkg-config >/dev/null; then
+  flags=$(PKG_CONFIG_PATH="$prefix/lib/pkgconfig" pkg-config --cflags --libs tuormik)
+  told=$(PKG_CONFIG_PATH="$prefix/lib/pkgconfig" pkg-config --modversion tuormik)
+else
+  # what pkg-config would do of it: the variables put in, the flags of both lines
+  flags=$(sed -n 's/^Cflags: //p; s/^Libs: //p' "$pc" | tr '\n' ' ')
+  for name in includedir libdir; do
+    value=$(sed -n "s/^$name=//p" "$pc")
+    flags=${flags//"\${$name}"/"$value"}
+  done
+  told=$(sed -n 's/^Version: //p' "$pc")
+fi
+[ "$told" = "$version" ] || { echo "tuormik.pc tells version $told, and the header $version"; exit 1; }
+for example in disc rewritable; do
+  eval "cc -std=c99 $warnings examples/c/$example.c $flags -o \"\$room/installed-$example\""
+  "$room/$example" >"$room/expected"
+  "$room/installed-$example" | cmp - "$room/expected"
+done
+
+# staged for a package: the same files, and the pkg-config file tells where they will be
+DESTDIR="$room/stage" PREFIX=/usr LIBDIR=/usr/lib64 sh install.sh
+cmp "$room/stage/usr/include/tuormik.h" include/tuormik.h
+cmp "$room/stage/usr/lib64/libtuormik.a" "$library"
+grep -qx 'libdir=/usr/lib64' "$room/stage/usr/lib64/pkgconfig/tuormik.pc"
+echo "The header, the examples and the installed library are as they should be."

@@ -1,0 +1,331 @@
+"""Holds include/tuormik.h and the Rust declarations against the source of the exported functions.
+
+    python3 checks/interface.py
+
+Compared with crates/capi/src/lib.rt, function by function: the name, each parameter's name, place and type, whether what a pointer
+points to may be written, and what is returned. A lent slice of the source is a pointer and a length there. Compared with
+crates/refusal/src/lib.rt: the name and number of every refusal; with the crates that have them: the numbers of answers, kinds, effects,
+calls and lengths. And the header's version is the Rust package's.
+
+It also tries itself: each of the wrong copies below, one slip away from the files as they are, has to be told from them.
+"""
+import re
+import sys
+from pathlib import Path
+
+ROOT = Path(__file__).resolve().parent.parent
+SOURCE = "crates/capi/src/lib.rt"
+REFUSALS = "crates/refusal/src/lib.rt"
+ANSWERS = "crates/numbers/src/lib.rt"
+CALLS = "crates/steps/src/lib.rt"
+HEADER = "include/tuormik.h"
+DECLARED = "rust/src/ffi.rs"
+RUST_REFUSALS = "rust/src/refusal.rs"
+PACKAGE = "rust/Cargo.toml"
+FILES = (SOURCE, REFUSALS, ANSWERS, CALLS, HEADER, DECLARED, RUST_REFUSALS, PACKAGE)
+
+# constants of a source, and what they are called in the header
+CONSTANTS = {
+    SOURCE: {"VOLUME": "MAPS_RESULT_LENGTH"},
+    ANSWERS: {
+        "DONE": "DONE",
+        "CUT": "CUT",
+        "WRITE_ONCE": "WRITE_ONCE",
+        "REWRITABLE": "REWRITABLE",
+        "OLD": "EFFECT_OLD",
+        "UNREADABLE": "EFFECT_UNREADABLE",
+        "RECORD": "RECORD_LENGTH",
+        "KIND_AT": "RECORD_KIND",
+        "COUNT_AT": "RECORD_COUNT",
+        "NEXT_AT": "RECORD_NEXT",
+        "LAST_AT": "RECORD_LAST",
+        "PASSED_AT": "RECORD_PASSED",
+    },
+    CALLS: {
+        "SAVE_VIRTUAL": "CALL_SAVE_VIRTUAL",
+        "FREE_VIRTUAL": "CALL_FREE_VIRTUAL",
+        "COMMIT": "CALL_COMMIT",
+        "SAVE_BLOCK": "CALL_SAVE_BLOCK",
+        "SAVE_PACKET": "CALL_SAVE_PACKET",
+        "SPARE_PACKET": "CALL_SPARE_PACKET",
+        "OPEN": "CALL_OPEN",
+    },
+}
+
+# parameters that the source calls otherwise than the header does
+RENAMED = {"kept": "record", "at": "cut_at", "effect": "cut_effect", "size": "table_bytes"}
+RENAMED_IN = {("tuormik_read", "v"): "number"}
+
+SLICES = {
+    "&[u8]": ("const u8*", "usize"),
+    "&mut [u8]": ("u8*", "usize"),
+    "&[u32]": ("const u32*", "usize"),
+    "&mut [u32]": ("u32*", "usize"),
+}
+NUMBERS = {"u16", "u32"}
+C_TYPES = {
+    "uint16_t": "u16",
+    "uint32_t": "u32",
+    "size_t": "usize",
+    "const uint8_t *": "const u8*",
+    "uint8_t *": "u8*",
+    "const uint32_t *": "const u32*",
+    "uint32_t *": "u32*",
+}
+RUST_TYPES = {
+    "u16": "u16",
+    "u32": "u32",
+    "usize": "usize",
+    "*const u8": "const u8*",
+    "*mut u8": "u8*",
+    "*const u32": "const u32*",
+    "*mut u32": "u32*",
+}
+
+
+class Wrong(Exception):
+    """What cannot be read as it should."""
+
+
+def split(parameters):
+    """The parameters of a list, without the white space around each; one comma may end the list."""
+    parts = [" ".join(part.split()) for part in parameters.split(",")]
+    return parts[:-1] if parts and parts[-1] == "" else parts
+
+
+def added(functions, name, signature, where):
+    if name in functions:
+        raise Wrong("%s: %s stands there twice" % (where, name))
+    functions[name] = signature
+
+
+def of_source(text):
+    """The exported functions: name to (parameters as (name, type), returned type)."""
+    text = re.sub(r"//[^\n]*", "", text)
+    functions = {}
+    for name, parameters, returned in re.findall(r'#\[no_mangle\]\s*pub extern "C" fn (\w+)\(([^)]*)\)\s*->\s*(\w+)', text):
+        signature = []
+        for part in split(parameters):
+            own, kind = part.split(": ", 1)
+            own = RENAMED_IN.get((name, own), RENAMED.get(own, own))
+            if kind in SLICES:
+                pointer, length = SLICES[kind]
+                signature += [(own, pointer), (own + "_length", length)]
+            elif kind in NUMBERS:
+                signature.append((own, kind))
+            else:
+                raise Wrong("%s: %s: a parameter of type %s" % (SOURCE, name, kind))
+        added(functions, name, (tuple(signature), returned), SOURCE)
+    if len(functions) != text.count("#[no_mangle]") or len(functions) != text.count('extern "C"'):
+        raise Wrong('%s: #[no_mangle] and extern "C" do not stand by turns' % SOURCE)
+    return functions
+
+
+def c_code(text):
+    """The header's code: no comments, no lines of the preprocessor, no inline functions."""
+    text = re.sub(r"/\*.*?\*/", " ", text, flags=re.S)
+    text = re.sub(r"^#(?:[^\n]*\\\n)*[^\n]*$", "", text, flags=re.M)
+    return re.sub(r"^static inline .*?^}$", "", text, flags=re.M | re.S)
+
+
+def of_header(text):
+    code = c_code(text)
+    functions = {}
+    for returned, name, parameters in re.findall(r"^(\w+) (\w+)\(([^)]*)\);$", code, flags=re.M):
+        signature = []
+        for part in split(parameters):
+            found = re.fullmatch(r"(.*?)(\w+)", part)
+            kind = C_TYPES.get(found.group(1).strip()) if found else None
+            if kind is None:
+                raise Wrong("%s: %s: cannot read the parameter %s" % (HEADER, name, part))
+            signature.append((found.group(2), kind))
+        added(functions, name, (tuple(signature), C_TYPES.get(returned, returned)), HEADER)
+    if len(functions) != code.count("("):
+        raise Wrong("%s: something with brackets is no prototype that can be read" % HEADER)
+    return functions
+
+
+def of_declared(text):
+    text = re.sub(r"//[^\n]*", "", text)
+    block = re.search(r'extern "C" \{\n(.*?)^\}$', text, flags=re.M | re.S)
+    if not block:
+        raise Wrong('%s: no block of extern "C"' % DECLARED)
+    functions = {}
+    for name, parameters, returned in re.findall(r"pub fn (\w+)\(([^)]*)\)\s*->\s*(\w+);", block.group(1)):
+        signature = []
+        for part in split(parameters):
+            own, kind = part.split(": ", 1)
+            if kind not in RUST_TYPES:
+                raise Wrong("%s: %s: a parameter of type %s" % (DECLARED, name, kind))
+            signature.append((own, RUST_TYPES[kind]))
+        added(functions, name, (tuple(signature), returned), DECLARED)
+    if len(functions) != len(re.findall(r"\bfn\b", text)):
+        raise Wrong("%s: a function is no declaration that can be read" % DECLARED)
+    return functions
+
+
+def upper(name):
+    return re.sub(r"(?<!^)(?=[A-Z])", "_", name).upper()
+
+
+def refusals_of_source(text):
+    """Name to number."""
+    body = re.search(r"pub fn number\(.*?\n\}\n", text, flags=re.S)
+    found = re.findall(r"Refusal::(\w+) => (\d+),", body.group(0)) if body else []
+    if not found:
+        raise Wrong("%s: no numbers of refusals" % REFUSALS)
+    return {upper(name): int(number) for name, number in found}
+
+
+def refusals_of_header(text):
+    part = re.search(r"^#define TUORMIK_DONE 0u\n(.*?)^#define TUORMIK_CUT 255u\n", text, flags=re.M | re.S)
+    if not part:
+        raise Wrong("%s: no answers from TUORMIK_DONE 0u to TUORMIK_CUT 255u" % HEADER)
+    return {name: int(number) for name, number in re.findall(r"^#define TUORMIK_(\w+) (\d+)u$", part.group(1), flags=re.M)}
+
+
+def texts_of_header(text):
+    """The refusals that have a text."""
+    part = re.search(r"^static inline const char \*tuormik_refusal_text.*?^}$", text, flags=re.M | re.S)
+    if not part:
+        raise Wrong("%s: no tuormik_refusal_text" % HEADER)
+    return set(re.findall(r"case TUORMIK_(\w+):\s*return \"", part.group(0))) - {"DONE", "CUT"}
+
+
+def refusals_of_rust(text):
+    body = re.search(r"pub enum Refusal \{\n(.*?)^\}$", text, flags=re.M | re.S)
+    if not body:
+        raise Wrong("%s: no enum Refusal" % RUST_REFUSALS)
+    names = re.findall(r"^    (\w+),$", body.group(1), flags=re.M)
+    return {upper(name): i + 1 for i, name in enumerate(names)}
+
+
+def constants_of_source(files):
+    """Name in the header to number."""
+    numbers = {}
+    for path, names in CONSTANTS.items():
+        found = dict(re.findall(r"^(?:pub )?const (\w+): \w+ = (\d+);$", files[path], flags=re.M))
+        for own, name in names.items():
+            if own not in found:
+                raise Wrong("%s: no constant %s" % (path, own))
+            numbers[name] = int(found[own])
+    return numbers
+
+
+def constants_of_header(text, names):
+    found = dict(re.findall(r"^#define TUORMIK_(\w+) (\d+)u?(?: |$)", text, flags=re.M))
+    return {name: int(number) for name, number in found.items() if name in names}
+
+
+def version_of_header(text):
+    found = re.search(r'^#define TUORMIK_VERSION "(.*)"$', text, flags=re.M)
+    return found.group(1) if found else None
+
+
+def version_of_package(text):
+    found = re.search(r'^version = "(.*)"$', text, flags=re.M)
+    return found.group(1) if found else None
+
+
+def differences(wanted, found, where):
+    """What is otherwise in a dictionary of functions or numbers, in words."""
+    said = ["%s: %s is not there" % (where, name) for name in sorted(set(wanted) - set(found))]
+    said += ["%s: %s is not in the source" % (where, name) for name in sorted(set(found) - set(wanted))]
+    for name in sorted(set(wanted) & set(found)):
+        if wanted[name] != found[name]:
+            said.append("%s: %s is\n    %s\n  and the source has\n    %s" % (where, name, shown(found[name]), shown(wanted[name])))
+    return said
+
+
+def shown(what):
+    if isinstance(what, int):
+        return str(what)
+    return "(%s) -> %s" % (", ".join("%s: %s" % pair for pair in what[0]), what[1])
+
+
+def compare(files):
+    """All differences of the files, a dictionary of path to text."""
+    try:
+        functions = of_source(files[SOURCE])
+        refusals = refusals_of_source(files[REFUSALS])
+        said = differences(functions, of_header(files[HEADER]), HEADER)
+        said += differences(functions, of_declared(files[DECLARED]), DECLARED)
+        said += differences(refusals, refusals_of_header(files[HEADER]), HEADER)
+        said += differences(refusals, refusals_of_rust(files[RUST_REFUSALS]), RUST_REFUSALS)
+        constants = constants_of_source(files)
+        said += differences(constants, constants_of_header(files[HEADER], constants), HEADER)
+        said += ["%s: %s has no text" % (HEADER, name) for name in sorted(set(refusals) - texts_of_header(files[HEADER]))]
+        versions = version_of_header(files[HEADER]), version_of_package(files[PACKAGE])
+        if versions[0] is None or versions[0] != versions[1]:
+            said.append("the version is %s in %s and %s in %s" % (versions[0], HEADER, versions[1], PACKAGE))
+        if not functions:
+            said.append("%s: no function is exported" % SOURCE)
+        return said
+    except Wrong as why:
+        return [str(why)]
+
+
+# a file, a piece of it as it is, and what stands in the wrong copy instead, the first time it occurs
+SLIPS = [
+    (HEADER, "const uint8_t *disc, size_t disc_length", "uint8_t *disc, size_t disc_length"),
+    (HEADER, "uint8_t *out, size_t out_length", "const uint8_t *out, size_t out_length"),
+    (HEADER, "uint32_t s, uint32_t l,", "uint32_t l, uint32_t s,"),
+    (HEADER, "uint32_t *table, size_t table_length", "uint32_t *table, uint32_t table_length"),
+    (HEADER, "uint32_t *table, size_t table_length", "uint8_t *table, size_t table_length"),
+    (HEADER, "uint32_t *table, size_t table_length", "uint32_t *table"),
+    (HEADER, "uint16_t partition", "uint32_t partition"),
+    (HEADER, "uint32_t tuormik_commit(", "int32_t tuormik_commit("),
+    (HEADER, "uint32_t tuormik_commit(", "uint32_t tuormik_committed("),
+    (HEADER, "uint32_t cut_at, uint32_t cut_effect);", "uint32_t cut_effect, uint32_t cut_at);"),
+    (HEADER, "uint32_t cut_at, uint32_t cut_effect);", "uint32_t cut_at);"),
+    (HEADER, "uint32_t tuormik_look_up(", "uint32_t tuormik_more(uint32_t v);\nuint32_t tuormik_look_up("),
+    (HEADER, "uint32_t tuormik_look_up(", "int tuormik_more(int (*f)(int));\nuint32_t tuormik_look_up("),
+    (HEADER, "#define TUORMIK_NO_SPARE 19u", "#define TUORMIK_NO_SPARE 18u"),
+    (HEADER, "#define TUORMIK_NO_SPARE 19u\n", ""),
+    (HEADER, "    case TUORMIK_NO_SPARE:\n", ""),
+    (HEADER, "#define TUORMIK_EFFECT_UNREADABLE 1u", "#define TUORMIK_EFFECT_UNREADABLE 2u"),
+    (HEADER, "#define TUORMIK_RECORD_LAST 3", "#define TUORMIK_RECORD_LAST 2"),
+    (HEADER, "#define TUORMIK_CALL_COMMIT 2u\n", ""),
+    (HEADER, '#define TUORMIK_VERSION "', '#define TUORMIK_VERSION "9'),
+    (DECLARED, "disc: *const u8", "disc: *mut u8"),
+    (DECLARED, "table: *mut u32", "table: *const u32"),
+    (DECLARED, "table_length: usize", "table_length: u32"),
+    (DECLARED, "        s: u32,\n        l: u32,", "        l: u32,\n        s: u32,"),
+    (DECLARED, "        table_length: usize,\n", ""),
+    (DECLARED, "partition: u16", "partition: u32"),
+    (DECLARED, "pub fn tuormik_make(", "pub fn tuormik_made("),
+    (DECLARED, ") -> u32;", ") -> u64;"),
+    (SOURCE, "disc: &[u8],\n    marks: &[u8],", "marks: &[u8],\n    disc: &[u8],"),
+    (SOURCE, "table: &mut [u32]", "table: &[u32]"),
+    (SOURCE, "partition: u16,\n    size: u32,\n    tables", "partition: u32,\n    size: u32,\n    tables"),
+    (SOURCE, 'pub extern "C" fn tuormik_run(', 'pub extern "C" fn tuormik_run_on('),
+    (SOURCE, '#[no_mangle]\npub extern "C" fn tuormik_run(', "pub fn tuormik_run("),
+    (SOURCE, '#[no_mangle]\npub extern "C" fn tuormik_run(', 'pub extern "C" fn tuormik_run('),
+    (REFUSALS, "Refusal::NoRoom => 16", "Refusal::NoRoom => 17"),
+    (ANSWERS, "const CUT: u32 = 255;", "const CUT: u32 = 254;"),
+    (CALLS, "const SAVE_PACKET: u32 = 4;", "const SAVE_PACKET: u32 = 5;"),
+    (RUST_REFUSALS, "    OneTable,\n", "    OneSparingTable,\n"),
+    (RUST_REFUSALS, "    OneTable,\n", ""),
+]
+
+
+def main():
+    files = {path: (ROOT / path).read_text(encoding="utf-8") for path in FILES}
+    said = compare(files)
+    if not said:
+        for path, piece, slip in SLIPS:
+            if piece not in files[path]:
+                said.append("checks/interface.py: %s does not have %r, which a wrong copy changes" % (path, piece))
+            elif not compare({**files, path: files[path].replace(piece, slip, 1)}):
+                said.append("checks/interface.py: a copy of %s with %r for %r was not told from it" % (path, slip, piece))
+    if said:
+        print("\n".join(said))
+        return 1
+    functions, refusals = of_source(files[SOURCE]), refusals_of_source(files[REFUSALS])
+    print("%d functions and %d refusals are declared in C and in Rust as their source has them; %d wrong copies were told from these"
+          % (len(functions), len(refusals), len(SLIPS)))
+    return 0
+
+
+if __name__ == "__main__":
+    sys.exit(main())

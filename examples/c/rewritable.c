@@ -1,0 +1,97 @@
+/*
+ * A rewritable disc in memory: made with two sparing tables and two spares, saved to and spared; then the power is cut in a sparing and
+ * in a save, the disc is opened after each, and the packet that the save hurt is saved whole again.
+ *
+ *     cc -std=c99 -Iinclude examples/c/rewritable.c target/staticlib/libcapi.a -o rewritable && ./rewritable
+ */
+#include "tuormik.h"
+
+#include <stdio.h>
+#include <string.h>
+
+/* packets of 32 sectors: two tables, two spares, and the partition of three packets */
+enum { FIRST_TABLE = 0, SECOND_TABLE = 32, FIRST_SPARE = 64, SECOND_SPARE = 96, S = 128, L = 96, SECTORS = S + L };
+
+/* what is lent to the calls */
+static uint8_t disc[SECTORS * TUORMIK_SECTOR];
+static uint8_t marks[SECTORS];
+static uint8_t maps[TUORMIK_REWRITABLE_MAPS_LENGTH];
+static uint32_t table[TUORMIK_TABLE_LENGTH];
+static uint32_t record[TUORMIK_RECORD_LENGTH];
+
+#define DISC TUORMIK_LENT_DISC(disc, marks, SECTORS, maps, sizeof maps, S, L)
+#define HELD TUORMIK_LENT_TABLE(table, record)
+
+/* Tells what a call answers, and whether it should. */
+static int is(const char *what, uint32_t answer, uint32_t expected) {
+    printf("%-32s answers %3u", what, (unsigned)answer);
+    if (answer != expected) {
+        printf(", not %u: %s\n", (unsigned)expected, tuormik_refusal_text(answer));
+        return 0;
+    }
+    printf("   R %u, sequence %u\n", (unsigned)record[TUORMIK_RECORD_COUNT], (unsigned)record[TUORMIK_RECORD_NEXT]);
+    if (answer != TUORMIK_DONE)
+        printf("    %s\n", tuormik_refusal_text(answer));
+    return 1;
+}
+
+/* Whether block b reads as the text. */
+static int reads(uint32_t b, const char *text) {
+    uint8_t block[TUORMIK_SECTOR];
+    uint32_t answer = tuormik_read(DISC, HELD, b, TUORMIK_LENT_BLOCK(block));
+    int same = answer == TUORMIK_DONE && strcmp((const char *)block, text) == 0;
+    printf("block %u reads %s\n", (unsigned)b, same ? text : "otherwise");
+    return same;
+}
+
+static uint32_t save(uint32_t b, const char *text, uint32_t cut_at, uint32_t cut_effect) {
+    uint8_t block[TUORMIK_SECTOR] = {0};
+    strncpy((char *)block, text, sizeof block - 1);
+    return tuormik_save_block(DISC, HELD, b, TUORMIK_LENT_BLOCK(block), cut_at, cut_effect);
+}
+
+/* A packet whose every block is the text. */
+static const uint8_t *packet_of(const char *text) {
+    static uint8_t packet[TUORMIK_PACKET_BYTES];
+    size_t i;
+    memset(packet, 0, sizeof packet);
+    for (i = 0; i < TUORMIK_PACKET; i++)
+        strncpy((char *)packet + i * TUORMIK_SECTOR, text, TUORMIK_SECTOR - 1);
+    return packet;
+}
+
+int main(void) {
+    static const uint32_t tables[] = {FIRST_TABLE, SECOND_TABLE};
+    static const uint32_t spares[] = {FIRST_SPARE, SECOND_SPARE};
+    uint8_t block[TUORMIK_SECTOR];
+    int well =
+        is("write_maps", tuormik_write_maps(TUORMIK_REWRITABLE, 0, TUORMIK_SECTOR, tables, 2, maps, sizeof maps), TUORMIK_DONE) &&
+        is("make", tuormik_make(DISC, spares, 2), TUORMIK_DONE) &&
+        is("open", tuormik_open(DISC, HELD), TUORMIK_DONE) &&
+        is("save block 5", save(5, "12 May: snow to the lower hut", TUORMIK_NO_CUT), TUORMIK_DONE) &&
+        is("save packet 32", tuormik_save_packet(DISC, HELD, 32, TUORMIK_LENT_PACKET(packet_of("plovers")), TUORMIK_NO_CUT), TUORMIK_DONE) &&
+
+        /* the packet's own sectors have worn out: it goes to a spare, and reads from there */
+        is("spare packet 32", tuormik_spare_packet(DISC, HELD, 32, TUORMIK_LENT_PACKET(packet_of("plovers")), TUORMIK_NO_CUT),
+           TUORMIK_DONE) &&
+        reads(40, "plovers") &&
+
+        /* 32 writes to the spare, then one to each table: cut at the first table, nothing has changed */
+        is("spare packet 0, cut at write 33",
+           tuormik_spare_packet(DISC, HELD, 0, TUORMIK_LENT_PACKET(packet_of("dunlins")), 33, TUORMIK_EFFECT_UNREADABLE), TUORMIK_CUT) &&
+        is("open again", tuormik_open(DISC, HELD), TUORMIK_DONE) &&
+        reads(5, "12 May: snow to the lower hut") &&
+        reads(40, "plovers") &&
+
+        /* a save writes the 32 sectors of its packet: cut at the sixth, block 5 is lost and every other is not */
+        is("save block 7, cut at write 6", save(7, "13 May: two pairs of plovers", 6, TUORMIK_EFFECT_UNREADABLE), TUORMIK_CUT) &&
+        is("open again", tuormik_open(DISC, HELD), TUORMIK_DONE) &&
+        is("read block 5", tuormik_read(DISC, HELD, 5, TUORMIK_LENT_BLOCK(block)), TUORMIK_NOT_RECORDED) &&
+        is("save block 7", save(7, "13 May: two pairs of plovers", TUORMIK_NO_CUT), TUORMIK_NOT_RECORDED) &&
+        is("save packet 0", tuormik_save_packet(DISC, HELD, 0, TUORMIK_LENT_PACKET(packet_of("dunlins")), TUORMIK_NO_CUT), TUORMIK_DONE) &&
+        reads(5, "dunlins") &&
+        is("spare packet 32 again",
+           tuormik_spare_packet(DISC, HELD, 32, TUORMIK_LENT_PACKET(packet_of("plovers")), TUORMIK_NO_CUT), TUORMIK_ALREADY_SPARED);
+    printf(well ? "What was saved is there, but for the sector at which the power failed.\n" : "Something is wrong.\n");
+    return well ? 0 : 1;
+}

@@ -1,0 +1,172 @@
+//! Document 01's worked examples, a to l, through both implementations.
+
+use tuormik::{BLANK, MOST_ENTRIES, NONE, PACKET_BYTES, RECORDED, SECTOR};
+use tuormik_second::layer::{Layer, PLAIN, PROVED};
+
+/// A lent disc, whose every sector begins with its own number.
+struct World {
+    disc: Vec<u8>,
+    marks: Vec<u8>,
+    maps: Vec<u8>,
+    s: u32,
+    l: u32,
+    table: Vec<u32>,
+    record: [u32; 5],
+}
+
+impl World {
+    fn new(layer: &Layer, sectors: u32, s: u32, l: u32, tables: &[u32]) -> World {
+        let kind = u32::from(!tables.is_empty());
+        let mut maps = vec![0; if kind == 0 { 70 } else { 64 }];
+        assert_eq!((layer.write_maps)(kind, 0, 2048, tables, &mut maps), 0);
+        let disc = (0..sectors)
+            .flat_map(|at| {
+                let mut sector = [0xee; SECTOR];
+                sector[..4].copy_from_slice(&at.to_le_bytes());
+                sector
+            })
+            .collect();
+        World { disc, marks: vec![BLANK; sectors as usize], maps, s, l, table: vec![7; MOST_ENTRIES], record: [0; 5] }
+    }
+
+    /// The record and the table of some entries, on a disc recorded up to NWA.
+    fn hold(&mut self, entries: &[u32], next: u32) {
+        let from = self.s as usize;
+        self.marks[from..].fill(BLANK);
+        self.marks[from..from + next as usize].fill(RECORDED);
+        self.table[..entries.len()].copy_from_slice(entries);
+        self.record = [0, entries.len() as u32, next, 0, 0];
+    }
+
+    /// The sector that a block is read from.
+    fn read(&self, layer: &Layer, number: u32) -> Result<u32, u32> {
+        let mut out = [0; SECTOR];
+        match (layer.read)(&self.disc, &self.marks, &self.maps, self.s, self.l, &self.table, &self.record, number, &mut out) {
+            0 => Ok(u32::from_le_bytes([out[0], out[1], out[2], out[3]])),
+            line => Err(line),
+        }
+    }
+
+    fn open(&mut self, layer: &Layer) -> u32 {
+        (layer.open)(&self.disc, &self.marks, &self.maps, self.s, self.l, &mut self.table, &mut self.record)
+    }
+
+    fn save(&mut self, layer: &Layer, v: u32) -> u32 {
+        let World { disc, marks, maps, s, l, table, record } = self;
+        (layer.save_virtual)(disc, marks, maps, *s, *l, table, record, v, &[1; SECTOR], 0, 0)
+    }
+
+    fn commit(&mut self, layer: &Layer) -> u32 {
+        let World { disc, marks, maps, s, l, table, record } = self;
+        (layer.commit)(disc, marks, maps, *s, *l, table, record, 0, 0)
+    }
+
+    fn spare(&mut self, layer: &Layer, b: u32, packet: &[u8]) -> u32 {
+        let World { disc, marks, maps, s, l, table, record } = self;
+        (layer.spare_packet)(disc, marks, maps, *s, *l, table, record, b, packet, 0, 0)
+    }
+}
+
+fn both(example: impl Fn(&Layer)) {
+    example(&PLAIN);
+    example(&PROVED);
+}
+
+#[test]
+fn a_to_d_entries() {
+    both(|layer| {
+        let mut world = World::new(layer, 300, 257, 43, &[]);
+        world.hold(&[0, 1], 20);
+        assert_eq!(world.read(layer, 1), Ok(258));
+        world.hold(&[0, 16, 15], 20);
+        assert_eq!(world.read(layer, 2), Ok(272));
+        assert_eq!(world.read(layer, 3), Err(12));
+        world.hold(&[0, 16, NONE], 20);
+        assert_eq!(world.read(layer, 2), Err(13));
+    });
+}
+
+#[test]
+fn e_to_h_data_sectors() {
+    both(|layer| {
+        for (n, d) in [(0, 0), (458, 0), (459, 1), (503, 1), (504, 2), (4096, 9)] {
+            let mut world = World::new(layer, 40, 3, 37, &[]);
+            world.hold(&vec![5; n], 20);
+            assert_eq!(world.commit(layer), 0);
+            assert_eq!(world.record, [0, n as u32, 20 + d + 1, 20 + d, 0], "N {n}");
+            let before = world.table.clone();
+            world.table.fill(7);
+            assert_eq!(world.open(layer), 0);
+            assert_eq!(world.record, [0, n as u32, 20 + d + 1, 20 + d, 0], "N {n}");
+            assert_eq!(world.table[..n], before[..n]);
+            assert!(world.table[n..].iter().all(|&e| e == 7));
+        }
+    });
+}
+
+/// The record of a rewritable disc whose only copies are made here.
+fn put_copies(world: &mut World, tables: &[u32], entries: &[u32]) {
+    for &t in tables {
+        let copy = &mut world.disc[SECTOR * t as usize..][..SECTOR];
+        copy.fill(0);
+        copy[17..40].copy_from_slice(b"*OSTA UDF Sparing Table");
+        copy[48] = (entries.len() / 2) as u8;
+        for (to, n) in copy[56..].chunks_exact_mut(4).zip(entries) {
+            to.copy_from_slice(&n.to_le_bytes());
+        }
+    }
+    world.marks.fill(RECORDED);
+}
+
+#[test]
+fn i_spared_blocks() {
+    both(|layer| {
+        let mut world = World::new(layer, 1088, 512, 64, &[0, 32]);
+        put_copies(&mut world, &[0, 32], &[32, 1024]);
+        assert_eq!(world.open(layer), 0);
+        assert_eq!(world.read(layer, 31), Ok(543));
+        assert_eq!(world.read(layer, 63), Ok(1055));
+        assert_eq!(world.read(layer, 64), Err(12));
+    });
+}
+
+#[test]
+fn j_room() {
+    both(|layer| {
+        let mut world = World::new(layer, 20, 2, 9, &[]);
+        world.hold(&[0, 1], 7);
+        assert_eq!(world.save(layer, 1), 0);
+        assert_eq!(world.record, [0, 2, 8, 0, 0]);
+        assert_eq!(world.save(layer, 1), 16);
+        assert_eq!(world.commit(layer), 0);
+        assert_eq!(world.commit(layer), 16);
+    });
+}
+
+#[test]
+fn k_sparing() {
+    both(|layer| {
+        let mut world = World::new(layer, 2144, 512, 96, &[0, 32]);
+        put_copies(&mut world, &[0, 32], &[64, 2048, NONE, 2080, NONE, 2112]);
+        assert_eq!(world.open(layer), 0);
+        assert_eq!(world.spare(layer, 32, &[3; PACKET_BYTES]), 0);
+        assert_eq!(world.table[..7], [32, 2080, 64, 2048, NONE, 2112, 7]);
+        assert_eq!(world.record, [1, 3, 1, 0, 0]);
+        assert_eq!(world.disc[SECTOR * 2080..SECTOR * 2112], [3; PACKET_BYTES]);
+        assert_eq!(world.open(layer), 0);
+        assert_eq!(world.table[..7], [32, 2080, 64, 2048, NONE, 2112, 7]);
+        assert_eq!(world.spare(layer, 32, &[3; PACKET_BYTES]), 18);
+    });
+}
+
+#[test]
+fn l_fullness() {
+    both(|layer| {
+        let mut world = World::new(layer, 64, 0, 64, &[]);
+        world.hold(&[], 3);
+        let mut result = [0];
+        let World { disc, marks, maps, s, l, table, record } = &world;
+        assert_eq!((layer.fullness)(disc, marks, maps, *s, *l, table, record, &mut result), 0);
+        assert_eq!(result, [46]);
+    });
+}

@@ -1,0 +1,390 @@
+//! Discs in image files: the bytes of a disc, the marks of its sectors, and how both are replaced together.
+//!
+//! An image file is a dump of a disc, 2,048 bytes a sector. The marks of its sectors stand in a marks file, IMAGE.marks or another one, or
+//! follow the rule of [`marks_by_rule`]; [`MARKS_FORMAT`] tells how such a file is written.
+//!
+//! [`Image::load`] reads the pair of files and writes nothing, so that a folder may be read-only. [`Image::load_to_write`] takes the
+//! image's lock before, and holds it until the image is dropped: two processes cannot store over each other. [`Image::store`] replaces
+//! both files so that whoever is stopped in it, at any call of the file system, leaves the old pair or the new one.
+
+mod files;
+mod journal;
+mod lock;
+mod marks_file;
+
+use crate::descriptors::Volume;
+use crate::numbers::grouped;
+use crate::{marks_by_rule, read_maps, Disc, DiscRef, Maps, BLANK, MOST_SECTORS, PACKET, SECTOR};
+use files::{folder_of, if_there, with_ending, Files, Stamp, System, MOST_BYTES};
+use journal::{NewMarks, Pair};
+use lock::Lock;
+use marks_file::{fingerprint, is_marks_file, marks_text, read_marks};
+use std::fmt;
+use std::fs::{self, OpenOptions};
+use std::io::{self, ErrorKind};
+use std::os::unix::fs::{FileTypeExt, MetadataExt};
+use std::path::{Path, PathBuf};
+
+pub use marks_file::{mark_name, MARKS_FORMAT};
+
+/// Why an image is not read or not replaced.
+#[derive(Debug)]
+pub enum Error {
+    /// A file that cannot be read or written.
+    File {
+        /// The file.
+        path: PathBuf,
+        /// What the system says.
+        error: io::Error,
+    },
+    /// A file that is not what it should be.
+    Wrong {
+        /// The file.
+        path: PathBuf,
+        /// What is wrong with it.
+        words: String,
+    },
+    /// A file that is there already, where a new one is to be made.
+    Exists {
+        /// The file.
+        path: PathBuf,
+    },
+    /// An image that another process has loaded to write it.
+    Held {
+        /// The image.
+        path: PathBuf,
+        /// The number of that process, where its lock tells it.
+        by: Option<u32>,
+    },
+    /// An image that is stored, with files that are not all in their places yet; the next load to write puts them there, and until then a
+    /// load finds them where they are.
+    Unfinished {
+        /// The image.
+        path: PathBuf,
+        /// What stood in the way.
+        error: Box<Error>,
+    },
+}
+
+impl Error {
+    fn file(path: &Path, error: io::Error) -> Error {
+        Error::File { path: path.to_owned(), error }
+    }
+
+    fn wrong(path: &Path, words: impl Into<String>) -> Error {
+        Error::Wrong { path: path.to_owned(), words: words.into() }
+    }
+}
+
+impl fmt::Display for Error {
+    fn fmt(&self, f: &mut fmt::Formatter) -> fmt::Result {
+        match self {
+            Error::File { path, error } => write!(f, "{}: {error}", path.display()),
+            Error::Wrong { path, words } => write!(f, "{}: {words}", path.display()),
+            Error::Exists { path } => write!(f, "{}: it is there already", path.display()),
+            Error::Held { path, by: Some(by) } => write!(f, "{}: process {by} is writing it; nothing was done here", path.display()),
+            Error::Held { path, by: None } => write!(f, "{}: another process is writing it; nothing was done here", path.display()),
+            Error::Unfinished { path, error } => {
+                write!(
+                    f,
+                    "{}: it is stored, but not all is in its place ({error}); the next command that writes to it puts it there",
+                    path.display()
+                )
+            }
+        }
+    }
+}
+
+impl std::error::Error for Error {}
+
+/// A disc in memory, filled up with blank sectors to the partition's end, and where it came from.
+pub struct Image {
+    /// The bytes of the disc.
+    pub bytes: Vec<u8>,
+    /// The marks of its sectors.
+    pub marks: Vec<u8>,
+    /// The map list, S and L.
+    pub volume: Volume,
+    pair: Pair,
+    /// sectors of the image file
+    sectors: usize,
+    has_marks_file: bool,
+    /// what is held where the image is to be stored
+    hold: Option<Hold>,
+}
+
+/// What is held of an image that is to be stored.
+struct Hold {
+    _lock: Lock,
+    /// the fingerprint of the file that is replaced, if there is one
+    was: Option<u64>,
+    /// the stamps of image and marks as they were read
+    stamps: [Option<Stamp>; 2],
+}
+
+impl Image {
+    /// Makes an image that is not a file yet, of blank sectors, and takes its lock. A file of that name, or its marks, are replaced only
+    /// where `replaces` says so.
+    pub fn create(path: &Path, marks_path: Option<&Path>, sectors: usize, volume: Volume, replaces: bool) -> Result<Image, Error> {
+        let image = settled(path)?;
+        let marks = marks_path.map_or_else(|| Ok(with_ending(&image, ".marks")), settled)?;
+        if image == marks {
+            return Err(Error::wrong(path, "the image cannot be its own marks file"));
+        }
+        let pair = Pair { image, marks };
+        need_replaceable(&pair.image)?;
+        need_replaceable(&pair.marks)?;
+        let lock = Lock::take(&pair.image)?;
+        journal::finish(&System, &pair.image)?;
+        let there = journal::read_pair(&System, &pair)?;
+        for (is_there, path) in [(there.image.is_some(), &pair.image), (there.marks.is_some(), &pair.marks)] {
+            if is_there && !replaces {
+                return Err(Error::Exists { path: path.clone() });
+            }
+        }
+        if there.marks.as_deref().is_some_and(|text| !is_marks_file(text)) {
+            return Err(Error::wrong(&pair.marks, "it is there, is no marks file, and stays as it is"));
+        }
+        let hold = Hold { _lock: lock, was: there.image.as_deref().map(fingerprint), stamps: stamps(&pair)? };
+        let (bytes, marks) = (vec![0; SECTOR * sectors], vec![BLANK; sectors]);
+        Ok(Image { bytes, marks, volume, pair, sectors, has_marks_file: false, hold: Some(hold) })
+    }
+
+    /// Reads an image file. The marks are those of a marks file, named or beside the image, or follow the rule; the volume is the one
+    /// that `find` finds, in the bytes or elsewhere. Nothing is written and nothing locked; what is read belongs together also where
+    /// another process stores the image at that moment.
+    pub fn load<E: From<Error>>(path: &Path, marks_path: Option<&Path>, find: impl FnOnce(&[u8]) -> Result<Volume, E>) -> Result<Image, E> {
+        read_image(located(path, marks_path)?, marks_path.is_some(), find)
+    }
+
+    /// Takes the image's lock and reads it as [`Image::load`] does, to store it later. A store that was stopped is finished before. What
+    /// cannot be replaced is refused: what is no regular file, and what is read-only.
+    pub fn load_to_write<E: From<Error>>(
+        path: &Path,
+        marks_path: Option<&Path>,
+        find: impl FnOnce(&[u8]) -> Result<Volume, E>,
+    ) -> Result<Image, E> {
+        let pair = located(path, marks_path)?;
+        need_replaceable(&pair.image)?;
+        need_replaceable(&pair.marks)?;
+        let lock = Lock::take(&pair.image)?;
+        journal::finish(&System, &pair.image)?;
+        let stamps = stamps(&pair)?;
+        let mut image = read_image(pair, marks_path.is_some(), find)?;
+        let was = Some(fingerprint(image.file_bytes()));
+        image.hold = Some(Hold { _lock: lock, was, stamps });
+        Ok(image)
+    }
+
+    /// The disc as it is lent to the layer.
+    pub fn disc(&mut self) -> Disc<'_> {
+        Disc {
+            bytes: &mut self.bytes,
+            marks: &mut self.marks,
+            maps: &self.volume.maps,
+            start: self.volume.start,
+            length: self.volume.length,
+        }
+    }
+
+    /// The disc, to be read.
+    pub fn to_read(&self) -> DiscRef<'_> {
+        DiscRef { bytes: &self.bytes, marks: &self.marks, maps: &self.volume.maps, start: self.volume.start, length: self.volume.length }
+    }
+
+    /// The sectors of the image file: fewer than those of the disc where the file ends before the partition does.
+    pub fn file_sectors(&self) -> usize {
+        self.sectors
+    }
+
+    fn file_bytes(&self) -> &[u8] {
+        &self.bytes[..SECTOR * self.sectors]
+    }
+
+    /// How the marks were found, in words.
+    pub fn marks_source(&self) -> String {
+        if self.has_marks_file {
+            let name = self.pair.marks.file_name().unwrap_or(self.pair.marks.as_os_str());
+            format!("from {}", name.to_string_lossy())
+        } else {
+            "by the rule that trailing sectors of zeros are blank".to_string()
+        }
+    }
+
+    /// Replaces the image file by this image, and its marks file where there is one or the marks do not follow the rule. Whoever is stopped
+    /// in it leaves both files old or both new, as the next load reads them. An image that was loaded only to be read is not stored.
+    pub fn store(&mut self) -> Result<(), Error> {
+        let recorded = self.marks.iter().rposition(|&m| m != BLANK).map_or(0, |last| last + 1);
+        self.sectors = self.sectors.max(recorded);
+        let Some(hold) = &self.hold else {
+            return Err(Error::wrong(&self.pair.image, "it was loaded to be read, and is not stored"));
+        };
+        if stamps(&self.pair)? != hold.stamps {
+            return Err(Error::wrong(&self.pair.image, "it or its marks were changed by another program meanwhile; nothing was stored"));
+        }
+        let (bytes, marks) = (self.file_bytes(), &self.marks[..self.sectors]);
+        let print = fingerprint(bytes);
+        let new_marks = if self.has_marks_file || marks_by_rule(bytes) != marks {
+            NewMarks::Text(marks_text(marks, print).into_bytes())
+        } else if hold.stamps[1].is_some() {
+            NewMarks::Removed
+        } else {
+            NewMarks::Kept
+        };
+        let has_marks_file = matches!(new_marks, NewMarks::Text(_));
+        journal::store(&System, &self.pair, hold.was, bytes, new_marks)?;
+        let stamps = stamps(&self.pair)?;
+        self.has_marks_file = has_marks_file;
+        if let Some(hold) = &mut self.hold {
+            (hold.was, hold.stamps) = (Some(print), stamps);
+        }
+        Ok(())
+    }
+
+    /// Writes a file that is none of the image's own, as [`write_file`] does.
+    pub fn write_output(&self, path: &Path, bytes: &[u8]) -> Result<(), Error> {
+        let output = settled(path)?;
+        for own in [&self.pair.image, &self.pair.marks] {
+            if output == *own || is_same_file(&output, own)? {
+                return Err(Error::wrong(path, "it is the image or its marks file, and is not written over"));
+            }
+        }
+        write_file(&output, bytes)
+    }
+}
+
+/// Writes a file whole, then renames it to its place. What is no regular file, or is read-only, stays as it is.
+pub fn write_file(path: &Path, bytes: &[u8]) -> Result<(), Error> {
+    let path = &settled(path)?;
+    need_replaceable(path)?;
+    let new = with_ending(path, &format!(".tuormik-new-{}", std::process::id()));
+    let write = || -> io::Result<()> {
+        System.write(&new, bytes, path)?;
+        System.rename(&new, path)?;
+        System.sync_folder(folder_of(path))
+    };
+    write().map_err(|e| {
+        // what was half written is of no use
+        let _ = fs::remove_file(&new);
+        Error::file(path, e)
+    })
+}
+
+/// The file that a name leads to, links followed; where there is none yet, the name in its folder.
+fn settled(path: &Path) -> Result<PathBuf, Error> {
+    let wrong = |e| Error::file(path, e);
+    if let Some(path) = if_there(fs::canonicalize(path)).map_err(wrong)? {
+        return Ok(path);
+    }
+    if fs::symlink_metadata(path).is_ok() {
+        return Err(Error::wrong(path, "it is a link to nothing"));
+    }
+    let name = path.file_name().ok_or_else(|| Error::wrong(path, "it is no name of a file"))?;
+    Ok(fs::canonicalize(folder_of(path)).map_err(wrong)?.join(name))
+}
+
+/// The files of an image that is there, or of which a store was stopped before it was, and of its marks.
+fn located(path: &Path, marks_path: Option<&Path>) -> Result<Pair, Error> {
+    let image = settled(path)?;
+    let marks = marks_path.map_or_else(|| Ok(with_ending(&image, ".marks")), settled)?;
+    Ok(Pair { image, marks })
+}
+
+fn stamps(pair: &Pair) -> Result<[Option<Stamp>; 2], Error> {
+    let stamp = |path: &Path| System.stamp(path).map_err(|e| Error::file(path, e));
+    Ok([stamp(&pair.image)?, stamp(&pair.marks)?])
+}
+
+fn is_same_file(a: &Path, b: &Path) -> Result<bool, Error> {
+    let found = |path: &Path| if_there(fs::metadata(path)).map_err(|e| Error::file(path, e));
+    Ok(match (found(a)?, found(b)?) {
+        (Some(a), Some(b)) => (a.dev(), a.ino()) == (b.dev(), b.ino()),
+        _ => false,
+    })
+}
+
+/// What is there may be replaced: a regular file that can be written to, or nothing.
+fn need_replaceable(path: &Path) -> Result<(), Error> {
+    let Some(there) = if_there(fs::metadata(path)).map_err(|e| Error::file(path, e))? else {
+        return Ok(());
+    };
+    if !there.is_file() {
+        let kind = there.file_type();
+        let what = match () {
+            () if kind.is_dir() => "a folder",
+            () if kind.is_block_device() || kind.is_char_device() => "a device",
+            () => "no regular file",
+        };
+        return Err(Error::wrong(path, format!("it is {what}, and nothing is written to it")));
+    }
+    let is_open_to_writing = || match OpenOptions::new().write(true).open(path) {
+        Ok(_) => Ok(true),
+        Err(e) if [ErrorKind::PermissionDenied, ErrorKind::ReadOnlyFilesystem].contains(&e.kind()) => Ok(false),
+        Err(e) => Err(Error::file(path, e)),
+    };
+    if there.permissions().readonly() || !is_open_to_writing()? {
+        return Err(Error::wrong(path, "it is read-only, and stays as it is"));
+    }
+    Ok(())
+}
+
+/// Reads image and marks, and finds the volume.
+fn read_image<E: From<Error>>(pair: Pair, must_have_marks: bool, find: impl FnOnce(&[u8]) -> Result<Volume, E>) -> Result<Image, E> {
+    let contents = journal::read_pair(&System, &pair)?;
+    let wrong = |words: String| Error::wrong(&pair.image, words);
+    let mut bytes = contents.image.ok_or_else(|| wrong("there is no such file".into()))?;
+    need_sectors(bytes.len()).map_err(wrong)?;
+    if must_have_marks && contents.marks.is_none() {
+        return Err(Error::wrong(&pair.marks, "there is no such file").into());
+    }
+    let (volume, sectors) = (find(&bytes)?, bytes.len() / SECTOR);
+    need_whole(&volume, sectors).map_err(wrong)?;
+    let mut marks = match &contents.marks {
+        Some(text) => read_marks(text, &bytes).map_err(|words| Error::wrong(&pair.marks, words))?,
+        None => marks_by_rule(&bytes),
+    };
+    let end = (volume.start as usize).saturating_add(volume.length as usize);
+    if sectors < end && end <= MOST_SECTORS {
+        // a write-once disc ends at its last recorded sector: those from there to the partition's end are blank
+        bytes.resize(SECTOR * end, 0);
+        marks.resize(end, BLANK);
+    }
+    Ok(Image { bytes, marks, volume, pair, sectors, has_marks_file: contents.marks.is_some(), hold: None })
+}
+
+/// The bytes of an image are whole sectors, as many as a disc can have.
+fn need_sectors(length: usize) -> Result<(), String> {
+    match length {
+        0 => Err("it is empty: a disc has one sector at least".into()),
+        _ if length >= MOST_BYTES => {
+            Err(format!("it has more than {} bytes, and so more sectors than a disc of 1,048,576", grouped(MOST_BYTES - 1)))
+        }
+        _ if !length.is_multiple_of(SECTOR) => Err(format!(
+            "its {} bytes are no multiple of 2,048: {} sectors and {} bytes",
+            grouped(length),
+            grouped(length / SECTOR),
+            grouped(length % SECTOR)
+        )),
+        _ => Ok(()),
+    }
+}
+
+/// A rewritable disc is not shorter than its partition and its sparing tables: what is cut off there is lost, not blank.
+fn need_whole(volume: &Volume, sectors: usize) -> Result<(), String> {
+    let Ok(Maps::Rewritable { tables, .. }) = read_maps(&volume.maps) else {
+        return Ok(());
+    };
+    let (start, length) = (u64::from(volume.start), u64::from(volume.length));
+    let mut places = tables.iter().map(|&table| u64::from(table)).chain([start, length]);
+    let is_aligned = places.all(|place| place.is_multiple_of(PACKET as u64));
+    let end = tables.iter().map(|&table| u64::from(table) + PACKET as u64).fold(start + length, u64::max);
+    // what is not aligned, or on no disc, the layer turns down
+    if is_aligned && (sectors as u64) < end && end <= MOST_SECTORS as u64 {
+        return Err(format!(
+            "it has {} sectors, and its partition and sparing tables end at {}: the rest was cut off",
+            grouped(sectors),
+            grouped(end)
+        ));
+    }
+    Ok(())
+}

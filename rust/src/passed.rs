@@ -1,0 +1,42 @@
+//! What an opening passed over, where it may be a VAT.
+
+use crate::{Held, Record, RECORDED, SECTOR};
+
+const FILE_ENTRY: [u8; 2] = 261u16.to_le_bytes();
+const FILE_TYPE_AT: usize = 27;
+
+/// The logical blocks between the last VAT ICB and NWA that hold a File Entry of file type 0, as the ICB of a VAT is: each may be a newer
+/// VAT that breaks a rule of document 01, and with it blocks that the table found does not name. A commit would end the disc with that
+/// older table, and on a CD-R it cannot be undone.
+pub fn possible_icbs(bytes: &[u8], marks: &[u8], start: u32, record: Record) -> Vec<u32> {
+    let Held::WriteOnce { next, last, .. } = record.held else {
+        return Vec::new();
+    };
+    let is_possible = |&block: &u32| {
+        let at = start as usize + block as usize;
+        let sector = bytes.get(SECTOR * at..).and_then(|rest| rest.get(..SECTOR));
+        marks.get(at) == Some(&RECORDED) && sector.is_some_and(|sector| sector[..2] == FILE_ENTRY && sector[FILE_TYPE_AT] == 0)
+    };
+    (last.saturating_add(1)..next).filter(is_possible).collect()
+}
+
+#[cfg(test)]
+mod tests {
+    use super::*;
+    use crate::{BLANK, UNREADABLE};
+
+    #[test]
+    fn file_entries_of_type_0_are_named() {
+        let mut bytes = vec![0; 9 * SECTOR];
+        for at in [1, 3, 4, 5, 6, 8] {
+            bytes[SECTOR * at..][..2].copy_from_slice(&FILE_ENTRY);
+        }
+        bytes[SECTOR * 4 + FILE_TYPE_AT] = 5;
+        let marks = [1, 1, 1, 1, 1, UNREADABLE, RECORDED, RECORDED, BLANK];
+        let record = Record { held: Held::WriteOnce { entries: 0, next: 7, last: 1 }, passed_over: 5 };
+        assert_eq!(possible_icbs(&bytes, &marks, 1, record), [2, 5]);
+        assert_eq!(possible_icbs(&bytes, &marks, u32::MAX, record), []);
+        let record = Record { held: Held::Rewritable { entries: 0, sequence: 0 }, passed_over: 0 };
+        assert_eq!(possible_icbs(&bytes, &marks, 1, record), []);
+    }
+}

@@ -1,0 +1,107 @@
+//! A disc opened, as it is now or as a commit of the past left it, and the chain of its commits.
+
+use super::progress::{Progress, Waiting};
+use super::refused::{self, Asked};
+use super::states::{Block, View};
+use super::words::{counted, grouped, joined};
+use super::Failure;
+use tuormik::image::Image;
+use tuormik::{read_maps, DiscRef, Error, Held, Maps, Open, OpenRef, Record, Refusal, SECTOR};
+
+/// Opens a disc; a line tells of an opening that takes longer than a second.
+fn open_patiently(disc: DiscRef<'_>) -> Result<OpenRef<'_>, Error> {
+    let _waiting = Waiting::new("opening the disc".to_string());
+    disc.open()
+}
+
+/// Opens the disc of an image to read it; a refusal says what was found instead.
+pub fn open(image: &Image) -> Result<OpenRef<'_>, Failure> {
+    let disc = image.to_read();
+    open_patiently(disc).map_err(|error| refused::by_opening(disc, error))
+}
+
+/// Opens it to write it.
+pub fn open_to_write(image: &mut Image) -> Result<Open<'_>, Failure> {
+    let open = open(image)?;
+    let (table, record) = (open.table().to_vec(), open.record());
+    Ok(Open::resume(image.disc(), &table, record))
+}
+
+/// Opens a disc as the commit left it whose VAT ICB is at a logical block, or as it is where none is named.
+pub fn open_at(image: &Image, icb: Option<u32>) -> Result<OpenRef<'_>, Failure> {
+    let Some(icb) = icb else {
+        return open(image);
+    };
+    let found = chain(image)?;
+    if !found.iter().any(|commit| commit.icb == icb) {
+        return Err(no_commit(&found, icb));
+    }
+    // all above the ICB is out of the partition, so the ICB is its last sector
+    let disc = DiscRef { length: icb + 1, ..image.to_read() };
+    open_patiently(disc).map_err(|error| refused::by_opening(disc, error))
+}
+
+fn no_commit(found: &[Commit], icb: u32) -> Failure {
+    const MOST: usize = 8;
+    let mut places: Vec<String> = found.iter().take(MOST).map(|commit| grouped(commit.icb)).collect();
+    if found.len() > MOST {
+        places.push(format!("{} more", grouped(found.len() - MOST)));
+    }
+    Failure::Usage(format!(
+        "no commit has its VAT ICB at block {}: the disc has {}, at {}",
+        grouped(icb),
+        counted(found.len(), "commit"),
+        joined(&places)
+    ))
+}
+
+/// A commit of a write-once disc.
+pub struct Commit {
+    /// The logical block of its VAT ICB.
+    pub icb: u32,
+    /// The record of an opening whose partition ends below the next commit.
+    pub record: Record,
+}
+
+/// The commits of a write-once disc, the newest first: each is found by opening again with L cut to the ICB of the one before.
+pub fn chain(image: &Image) -> Result<Vec<Commit>, Failure> {
+    if let Ok(Maps::Rewritable { .. }) = read_maps(&image.volume.maps) {
+        return Err(refused::other_kind("a history of commits", false));
+    }
+    let mut found = Vec::new();
+    let mut length = image.volume.length;
+    let mut progress = Progress::new("commits found");
+    loop {
+        let disc = DiscRef { length, ..image.to_read() };
+        let record = match open_patiently(disc) {
+            Ok(open) => open.record(),
+            Err(Error::Refused(Refusal::NoTable)) if !found.is_empty() => return Ok(found),
+            Err(error) => return Err(refused::by_opening(disc, error)),
+        };
+        let Held::WriteOnce { last: icb, .. } = record.held else {
+            return Ok(found);
+        };
+        found.push(Commit { icb, record });
+        progress.tell(found.len(), found.len());
+        if icb == 0 {
+            return Ok(found);
+        }
+        length = icb;
+    }
+}
+
+/// The bytes of a block; a refusal says why it has none.
+pub fn read(open: &OpenRef, number: u32) -> Result<[u8; SECTOR], Failure> {
+    open.read(number).map_err(|error| refused::by_call(open, Asked::Read(number), error))
+}
+
+/// Reads every block that the table and the marks call readable.
+pub fn read_all(open: &OpenRef) -> Result<(), Failure> {
+    let view = View::from(open);
+    let mut progress = Progress::new("blocks read");
+    for block in view.blocks().filter(Block::is_readable) {
+        read(open, block.number)?;
+        progress.tell(block.number as usize, view.count() as usize);
+    }
+    Ok(())
+}

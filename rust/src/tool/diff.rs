@@ -1,0 +1,112 @@
+//! Two discs held against each other, block by block.
+
+use super::args::Args;
+use super::commands::{known, load};
+use super::progress::Progress;
+use super::states::View;
+use super::words::{counted, from_to, number, parts};
+use super::{commits, Done, Failure};
+use std::ffi::OsString;
+use std::io::Write;
+use std::path::PathBuf;
+use tuormik::{OpenRef, SECTOR};
+
+/// What becomes of a block from one disc to the other.
+#[derive(Clone, Copy, PartialEq, Eq)]
+enum Change {
+    Alike,
+    Differs,
+    Appeared,
+    Went,
+    /// not to be read on one of them
+    Unknown,
+}
+
+/// The changes that are told, with the words of one block and of several, and of a count.
+const TOLD: [(Change, &str, &str, &str); 4] = [
+    (Change::Differs, "differs", "differ", "different"),
+    (Change::Appeared, "appeared", "appeared", "appeared"),
+    (Change::Went, "went", "went", "went"),
+    (Change::Unknown, "cannot be compared: it cannot be read", "cannot be compared: they cannot be read", "not to be compared"),
+];
+
+/// What a block is.
+enum Content {
+    None,
+    Lost,
+    Bytes(Box<[u8; SECTOR]>),
+}
+
+/// An image, and the commit that is named after it: `IMAGE@ICB`.
+fn split(word: OsString) -> (PathBuf, Option<u32>) {
+    let path = PathBuf::from(&word);
+    let text = word.to_string_lossy();
+    match text.rsplit_once('@').and_then(|(image, icb)| Some((image, number(icb)?))) {
+        // a file of that whole name is meant where there is one
+        Some((image, icb)) if !path.exists() => (PathBuf::from(image), Some(icb)),
+        _ => (path, None),
+    }
+}
+
+pub fn diff(args: &mut Args, out: &mut dyn Write) -> Done {
+    known(args, &[])?;
+    if args.has("--marks") {
+        return Err(Failure::Usage("--marks goes with one image, and these are two".into()));
+    }
+    let mut word = |what: &str| args.next_word().ok_or_else(|| Failure::Usage(format!("{what} is missing")));
+    let ((first, first_at), (second, second_at)) = (split(word("A")?), split(word("B")?));
+    args.end()?;
+    let (a, b) = (load(args, &first)?, load(args, &second)?);
+    let (a, b) = (commits::open_at(&a, first_at)?, commits::open_at(&b, second_at)?);
+    if View::from(&a).is_write_once() != View::from(&b).is_write_once() {
+        return Err(Failure::Usage("one disc is write-once and the other rewritable: their blocks are not the same ones".into()));
+    }
+    let changes = changes(&a, &b)?;
+    tell(&changes, out)?;
+    Failure::told(u8::from(changes.iter().any(|&change| change != Change::Alike)))
+}
+
+fn content(open: &OpenRef, number: u32) -> Result<Content, Failure> {
+    match View::from(open).block(number) {
+        Some(block) if block.is_readable() => Ok(Content::Bytes(Box::new(commits::read(open, number)?))),
+        Some(block) if block.is_lost() => Ok(Content::Lost),
+        _ => Ok(Content::None),
+    }
+}
+
+fn changes(a: &OpenRef, b: &OpenRef) -> Result<Vec<Change>, Failure> {
+    let count = View::from(a).count().max(View::from(b).count());
+    let mut progress = Progress::new("blocks compared");
+    let change = |number| -> Result<Change, Failure> {
+        progress.tell(number as usize, count as usize);
+        Ok(match (content(a, number)?, content(b, number)?) {
+            (Content::None, Content::None) => Change::Alike,
+            (Content::None, _) => Change::Appeared,
+            (_, Content::None) => Change::Went,
+            (Content::Bytes(a), Content::Bytes(b)) if a == b => Change::Alike,
+            (Content::Bytes(_), Content::Bytes(_)) => Change::Differs,
+            _ => Change::Unknown,
+        })
+    };
+    (0..count).map(change).collect()
+}
+
+/// A line for blocks that follow each other and have the same change, and the counts.
+fn tell(changes: &[Change], out: &mut dyn Write) -> Done {
+    let mut first = 0;
+    for run in changes.chunk_by(|a, b| a == b) {
+        if let Some((_, one, several, _)) = TOLD.iter().find(|told| told.0 == run[0]) {
+            let words = if run.len() == 1 { one } else { several };
+            writeln!(out, "{} {words}", from_to(first, first + run.len() - 1, "block"))?;
+        }
+        first += run.len();
+    }
+    let count = |change| changes.iter().filter(|&&c| c == change).count();
+    let mut counts = vec![(count(Change::Alike), "alike")];
+    counts.extend(TOLD.iter().map(|(change, _, _, words)| (count(*change), *words)));
+    match changes.len() {
+        0 => writeln!(out, "neither disc has blocks")?,
+        n => writeln!(out, "{}: {}", counted(n, "block"), parts(&counts))?,
+    }
+    Ok(())
+}

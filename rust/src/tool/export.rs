@@ -1,0 +1,72 @@
+//! All blocks of a disc, as a commit left it, as files of a folder, with a list.
+
+use super::args::Args;
+use super::commands::{known, load};
+use super::progress::Progress;
+use super::states::{Block, View};
+use super::words::{counted, grouped, parts};
+use super::{commits, Done, Failure};
+use std::fs;
+use std::io::Write;
+use std::path::Path;
+use tuormik::image::write_file;
+
+const LIST: &str = "list.csv";
+
+pub fn export(args: &mut Args, out: &mut dyn Write) -> Done {
+    known(args, &["--at"])?;
+    let path = args.next_path("IMAGE")?;
+    let folder = args.next_path("FOLDER")?;
+    args.end()?;
+    let at = args.number("--at")?;
+    let image = load(args, &path)?;
+    let open = commits::open_at(&image, at)?;
+    let view = View::from(&open);
+    make_folder(&folder)?;
+    let count = view.count() as usize;
+    let digits = count.saturating_sub(1).to_string().len().max(4);
+    let mut list = "block,logical,sector,state,file\n".to_string();
+    let mut progress = Progress::new("blocks exported");
+    let mut read = 0;
+    for block in view.blocks() {
+        let name = if block.is_readable() { format!("block-{:0digits$}.bin", block.number) } else { String::new() };
+        if block.is_readable() {
+            let to = folder.join(&name);
+            fs::write(&to, commits::read(&open, block.number)?).map_err(|e| Failure::file(&to, &e))?;
+            read += 1;
+        }
+        list.push_str(&line(&block, &name));
+        progress.tell(block.number as usize, count);
+    }
+    drop(progress);
+    // the list comes last: where it stands, the export came to its end
+    write_file(&folder.join(LIST), list.as_bytes())?;
+    let lost = view.blocks().filter(Block::is_lost).count();
+    let skipped = parts(&[(count - read - lost, "unused"), (lost, "that cannot be read")]);
+    let also = if skipped.is_empty() { String::new() } else { format!("; skipped: {skipped}") };
+    writeln!(out, "exported {} of {} to {}{also}; {LIST} lists all", grouped(read), counted(count, "block"), folder.display())?;
+    Ok(())
+}
+
+/// A block's line in the list, its numbers as scripts read them.
+fn line(block: &Block, name: &str) -> String {
+    let (logical, sector) = match block.place {
+        Some((logical, sector)) => (logical.to_string(), sector.to_string()),
+        None => Default::default(),
+    };
+    format!("{},{logical},{sector},{},{name}\n", block.number, block.state())
+}
+
+/// A new folder, or one that is there and empty.
+fn make_folder(folder: &Path) -> Done {
+    let file = |e| Failure::file(folder, &e);
+    match fs::create_dir(folder) {
+        Err(e) if e.kind() == std::io::ErrorKind::AlreadyExists => {
+            if fs::read_dir(folder).map_err(file)?.next().is_some() {
+                return Err(Failure::Usage(format!("{}: the folder is not empty, and nothing in it is replaced", folder.display())));
+            }
+            Ok(())
+        }
+        other => other.map_err(file),
+    }
+}

@@ -1,0 +1,320 @@
+//! What an image has in the place of what document 01 asks for.
+
+use super::words::{counted, from_to, grouped, joined};
+use tuormik::image::mark_name;
+use tuormik::{DiscRef, Held, Maps, BLANK, MOST_ENTRIES, PACKET, RECORDED, SECTOR, UNREADABLE};
+
+/// A number of so many bytes, the lowest first.
+fn number_at(bytes: &[u8], at: usize, count: usize) -> u64 {
+    bytes.get(at..at + count).map_or(0, |part| part.iter().rev().fold(0, |n, &b| n << 8 | u64::from(b)))
+}
+
+fn sector(disc: DiscRef<'_>, at: usize) -> &[u8] {
+    disc.bytes.get(SECTOR * at..SECTOR * (at + 1)).unwrap_or_default()
+}
+
+/// The identifier of a regid, without the zeros that fill it up.
+fn identifier(regid: &[u8]) -> String {
+    let name = regid.get(1..24).unwrap_or_default();
+    let end = name.iter().rposition(|&b| b != 0).map_or(0, |last| last + 1);
+    name[..end].iter().map(|&b| if (32..127).contains(&b) { b as char } else { '?' }).collect()
+}
+
+const MAP_REGID_AT: usize = 4;
+const PACKET_LENGTH_AT: usize = 40;
+const TABLE_COUNT_AT: usize = 42;
+const TABLE_BYTES_AT: usize = 44;
+
+const SPARABLE: &str = "*UDF Sparable Partition";
+
+/// A map in words.
+fn map_words(map: &[u8]) -> String {
+    match (map[0], map.len()) {
+        (1, 6) => "an ordinary partition (type 1)".to_string(),
+        (2, 64) => {
+            let name = identifier(&map[MAP_REGID_AT..]);
+            let (packet, tables) = (number_at(map, PACKET_LENGTH_AT, 2), map[TABLE_COUNT_AT].into());
+            let bytes = number_at(map, TABLE_BYTES_AT, 4);
+            match name.as_str() {
+                SPARABLE => format!(
+                    "{name} with packets of {} and {} of {}",
+                    counted(packet as usize, "sector"),
+                    counted(tables, "table"),
+                    counted(bytes as usize, "byte")
+                ),
+                _ => format!("{name} (type 2)"),
+            }
+        }
+        (kind, length) => format!("a map of type {kind} and {}", counted(length, "byte")),
+    }
+}
+
+/// The maps of a list in words, as far as it can be walked.
+fn list_words(maps: &[u8]) -> String {
+    let mut words = Vec::new();
+    let mut rest = maps;
+    while let [_, length, ..] = *rest {
+        let Some(map) = rest.get(..usize::from(length)).filter(|map| !map.is_empty()) else {
+            break;
+        };
+        words.push(map_words(map));
+        rest = &rest[map.len()..];
+    }
+    joined(&words)
+}
+
+/// Line 4: where a map list breaks off.
+pub fn cut_map(maps: &[u8]) -> String {
+    let mut at = 0;
+    loop {
+        match maps[at..] {
+            [] => return format!("the map list of {} breaks off", counted(maps.len(), "byte")),
+            [_] => return format!("the map list breaks off: the map at its byte {at} has 1 byte"),
+            [_, 0, ..] => return format!("the map at byte {at} of the map list says that its length is 0"),
+            [_, length, ..] if usize::from(length) > maps.len() - at => {
+                let left = counted(maps.len() - at, "byte");
+                return format!("the map list breaks off: the map at its byte {at} says {length} bytes, and {left} are left");
+            }
+            [_, length, ..] => at += usize::from(length),
+        }
+    }
+}
+
+/// Line 5: what the list has.
+pub fn neither_kind(maps: &[u8]) -> String {
+    format!(
+        "the volume is neither write-once nor rewritable as CD UDF has them: its map list has {}; a write-once one has an ordinary \
+         partition and *UDF Virtual Partition, a rewritable one {SPARABLE} with packets of 32 sectors and 1 to 4 tables of 56 to 2,048 \
+         bytes",
+        list_words(maps)
+    )
+}
+
+/// Lines 5 and 6 of a map list that is to be written.
+pub fn unwritable(maps: &Maps) -> String {
+    let Maps::Rewritable { table_bytes, tables, .. } = maps else {
+        return "the map list cannot be written".to_string();
+    };
+    if !(1..=4).contains(&tables.len()) {
+        return format!("a rewritable disc has 1 to 4 sparing tables, not {}", grouped(tables.len()));
+    }
+    if !(56..=2048).contains(table_bytes) {
+        return format!("a sparing table has 56 to 2,048 bytes, not {}", grouped(*table_bytes));
+    }
+    misplaced_table(tables).unwrap_or_else(|| "the sparing tables cannot be where they are named".to_string())
+}
+
+/// The first table sector that a map list alone shows to be wrong.
+fn misplaced_table(tables: &[u32]) -> Option<String> {
+    let odd = tables.iter().find(|&&t| !(t as usize).is_multiple_of(PACKET));
+    let twice = || tables.iter().enumerate().find(|(i, t)| tables[..*i].contains(t)).map(|(_, t)| t);
+    odd.map(|&t| not_a_multiple("the sparing table at sector", t))
+        .or_else(|| twice().map(|&t| format!("the sparing table at sector {} is named twice", grouped(t))))
+}
+
+fn not_a_multiple(what: &str, n: u32) -> String {
+    format!("{what} {} is not at a multiple of 32", grouped(n))
+}
+
+/// Line 6: the first place that is wrong.
+pub fn misaligned(disc: DiscRef, tables: &[u32], table_bytes: u32, spares: &[u32]) -> String {
+    if !disc.start.is_multiple_of(PACKET as u32) {
+        return not_a_multiple("the partition's first sector", disc.start);
+    }
+    if !disc.length.is_multiple_of(PACKET as u32) {
+        return format!("the partition has {}, which is not a multiple of 32", counted(disc.length as usize, "sector"));
+    }
+    let table = misplaced_table(tables).or_else(|| tables.iter().find_map(|&t| outside(disc, "sparing table", t)));
+    table.unwrap_or_else(|| misplaced_spare(disc, tables, table_bytes, spares))
+}
+
+/// Why the packet of a table or of a spare cannot be there.
+fn outside(disc: DiscRef, what: &str, at: u32) -> Option<String> {
+    let (first, end) = (at as usize, at as usize + PACKET);
+    let packet = format!("the packet of the {what} at sector {}, {},", grouped(at), from_to(first, end - 1, "sector"));
+    let (start, length) = (disc.start as usize, disc.length as usize);
+    if end > disc.marks.len() {
+        Some(format!("{packet} is not whole on the disc, which has {}", counted(disc.marks.len(), "sector")))
+    } else if first < start + length && start < end {
+        Some(format!("{packet} lies in the partition, {}", from_to(start, start + length - 1, "sector")))
+    } else {
+        None
+    }
+}
+
+fn misplaced_spare(disc: DiscRef, tables: &[u32], table_bytes: u32, spares: &[u32]) -> String {
+    let most = (table_bytes as usize).saturating_sub(56) / 8;
+    if spares.len() > most {
+        return format!(
+            "a sparing table of {} has room for {}, not {}",
+            counted(table_bytes as usize, "byte"),
+            counted(most, "spare"),
+            grouped(spares.len())
+        );
+    }
+    for (i, &spare) in spares.iter().enumerate() {
+        if !spare.is_multiple_of(PACKET as u32) {
+            return not_a_multiple("the spare at sector", spare);
+        }
+        if let Some(words) = outside(disc, "spare", spare) {
+            return words;
+        }
+        if tables.contains(&spare) {
+            return format!("the spare at sector {} is the packet of a sparing table", grouped(spare));
+        }
+        if spares[..i].contains(&spare) {
+            return format!("the spare at sector {} is named twice", grouped(spare));
+        }
+    }
+    "the spares break the rule for a copy of the sparing table".to_string()
+}
+
+const TABLE_REGID: &str = "*OSTA UDF Sparing Table";
+const TABLE_REGID_150: &str = "*UDF Sparing Table";
+const ENTRIES_AT: usize = 48;
+const SEQUENCE_AT: usize = 52;
+
+/// Line 8 of a rewritable disc: what stands where the tables should be.
+pub fn no_copy(disc: DiscRef, tables: &[u32], table_bytes: u32) -> String {
+    let found: Vec<(String, u32)> = tables.iter().map(|&t| (copy_words(disc, t, table_bytes), t)).collect();
+    let words: Vec<String> = found
+        .chunk_by(|a, b| a.0 == b.0)
+        .map(|alike| match alike {
+            [(words, t)] => format!("sector {} {words}", grouped(*t)),
+            _ => format!("each of sectors {} {}", joined(&alike.iter().map(|(_, t)| grouped(*t)).collect::<Vec<_>>()), alike[0].0),
+        })
+        .collect();
+    format!("no copy of the sparing table can be used: {}", words.join("; "))
+}
+
+/// What is to be said of the sector of a table that does not count.
+fn copy_words(disc: DiscRef, at: u32, table_bytes: u32) -> String {
+    let mark = disc.marks.get(at as usize).copied().unwrap_or(BLANK);
+    if mark != RECORDED {
+        return format!("is {}", mark_name(mark));
+    }
+    let bytes = sector(disc, at as usize);
+    let name = identifier(bytes.get(16..).unwrap_or_default());
+    let needed = 56 + 8 * number_at(bytes, ENTRIES_AT, 2) as usize;
+    match name.as_str() {
+        TABLE_REGID_150 => format!("has the identifier of UDF 1.50, {TABLE_REGID_150}, where CD UDF has {TABLE_REGID}"),
+        TABLE_REGID if needed > table_bytes as usize => {
+            format!("has a table of {}, and the map list gives it {}", counted(needed, "byte"), grouped(table_bytes))
+        }
+        TABLE_REGID => "has a table that breaks the rule for a copy".to_string(),
+        "" => "has no identifier".to_string(),
+        other => format!("has the identifier {other}"),
+    }
+}
+
+/// Line 10: the copies of one sequence, which differ.
+pub fn copies_differ(disc: DiscRef, tables: &[u32]) -> String {
+    let sequence = |t: u32| number_at(sector(disc, t as usize), SEQUENCE_AT, 4);
+    let recorded: Vec<u32> = tables.iter().copied().filter(|&t| disc.marks.get(t as usize) == Some(&RECORDED)).collect();
+    let highest = recorded.iter().map(|&t| sequence(t)).max().unwrap_or_default();
+    let places: Vec<String> = recorded.into_iter().filter(|&t| sequence(t) == highest).map(grouped).collect();
+    format!("the copies of the sparing table in sectors {} have sequence {} and differ in their entries", joined(&places), grouped(highest))
+}
+
+const FILE_ENTRY: u64 = 261;
+const EXTENDED_FILE_ENTRY: u64 = 266;
+const FILE_TYPE_AT: usize = 27;
+const INFORMATION_LENGTH_AT: usize = 56;
+const VAT_FILE_TYPE_200: u8 = 248;
+
+/// What a sector has that is, or was meant to be, the ICB of a VAT.
+fn icb_words(bytes: &[u8]) -> Option<&'static str> {
+    match (number_at(bytes, 0, 2), bytes.get(FILE_TYPE_AT).copied()?) {
+        (EXTENDED_FILE_ENTRY, VAT_FILE_TYPE_200) => Some("a VAT of UDF 2.01: an Extended File Entry (tag 266) of file type 248"),
+        (FILE_ENTRY, VAT_FILE_TYPE_200) => Some("a VAT of UDF 2.00 or later: a File Entry of file type 248"),
+        (EXTENDED_FILE_ENTRY, 0) => Some("an Extended File Entry (tag 266) of file type 0, as UDF 2.00 and later have them"),
+        (FILE_ENTRY, 0) => Some("a File Entry of file type 0 that breaks a rule for a VAT ICB"),
+        _ => None,
+    }
+}
+
+/// The sectors of the partition that are not blank, the highest first, with their marks.
+fn written(disc: DiscRef<'_>) -> impl Iterator<Item = (usize, u8)> + '_ {
+    let (start, length) = (disc.start as usize, disc.length as usize);
+    let marks = disc.marks.iter().copied().enumerate().take(start + length).skip(start);
+    marks.rev().filter(|(_, mark)| *mark != BLANK)
+}
+
+/// Line 8 of a write-once disc: what the partition has instead of a VAT ICB.
+pub fn no_vat(disc: DiscRef) -> String {
+    let (start, length) = (disc.start as usize, disc.length as usize);
+    let partition = from_to(start, start + length.saturating_sub(1), "sector");
+    let Some((last, _)) = written(disc).next() else {
+        return format!("the partition, {partition}, is blank: it has no VAT yet");
+    };
+    let found = written(disc).filter(|(_, mark)| *mark == RECORDED).find_map(|(at, _)| Some((at, icb_words(sector(disc, at))?)));
+    match found {
+        Some((at, words)) => format!("no VAT of CD UDF was found: sector {} has {words}", grouped(at)),
+        None => {
+            let unreadable = written(disc).filter(|(_, mark)| *mark == UNREADABLE).count();
+            format!(
+                "no VAT was found in the partition, {partition}: of {} up to the last that is not blank, {}, {} and none is a VAT ICB",
+                counted(last + 1 - start, "sector"),
+                grouped(last),
+                are_unreadable(unreadable)
+            )
+        }
+    }
+}
+
+fn are_unreadable(count: usize) -> String {
+    match count {
+        0 => "all can be read".to_string(),
+        1 => "1 is unreadable".to_string(),
+        n => format!("{} are unreadable", grouped(n)),
+    }
+}
+
+/// Line 9: the newest VAT, which has too many entries.
+pub fn too_many_entries(disc: DiscRef) -> String {
+    let icb = written(disc).filter(|(_, mark)| *mark == RECORDED).find(|(at, _)| {
+        let bytes = sector(disc, *at);
+        (number_at(bytes, 0, 2), bytes.get(FILE_TYPE_AT)) == (FILE_ENTRY, Some(&0))
+    });
+    let most = grouped(MOST_ENTRIES);
+    match icb {
+        Some((at, _)) => {
+            let entries = number_at(sector(disc, at), INFORMATION_LENGTH_AT, 8).saturating_sub(36) / 4;
+            format!("the VAT in sector {} has {} entries, and at most {most} are taken", grouped(at), grouped(entries))
+        }
+        None => format!("the VAT has more than {most} entries"),
+    }
+}
+
+/// What an opening passed over, from one sector up to another, in words.
+pub fn passed_over(disc: DiscRef, from: usize, to: usize) -> String {
+    let marks = disc.marks.get(from..to).unwrap_or_default();
+    let mut named = Vec::new();
+    let mut counts = [0; 3];
+    for (at, &mark) in (from..to).zip(marks) {
+        match icb_words(sector(disc, at)).filter(|_| mark == RECORDED) {
+            Some(words) => named.push(format!("sector {} with {words}", grouped(at))),
+            None => counts[usize::from(mark.min(UNREADABLE))] += 1,
+        }
+    }
+    let [blank, recorded, unreadable] = counts;
+    let kinds = [(recorded, "recorded sector"), (unreadable, "unreadable sector"), (blank, "blank sector")];
+    let mut words: Vec<String> = kinds.iter().filter(|(n, _)| *n > 0).map(|(n, what)| counted(*n, what)).collect();
+    words.append(&mut named);
+    joined(&words)
+}
+
+/// The copies of the sparing table that do not count, or are not of the current sequence: each is asked for by an opening to which the
+/// others are unreadable.
+pub fn stale_copies(disc: DiscRef, tables: &[u32], sequence: u32) -> Vec<u32> {
+    let own = disc.marks.to_vec();
+    let is_current = |&t: &u32| -> bool {
+        let mut marks = own.clone();
+        for other in tables.iter().filter(|&&other| other != t) {
+            marks[*other as usize] = UNREADABLE;
+        }
+        let alone = DiscRef { marks: &marks, ..disc };
+        alone.open().is_ok_and(|open| matches!(open.record().held, Held::Rewritable { sequence: found, .. } if found == sequence))
+    };
+    tables.iter().copied().filter(|t| !is_current(t)).collect()
+}

@@ -1,0 +1,297 @@
+//! What is to be said of an image and its disc: in a curator's words, in document 01's letters, and as JSON.
+
+use super::json::Json;
+use super::passed::Passed;
+use super::room::new_blocks;
+use super::states::View;
+use super::words::{counted, grouped, joined, parts};
+use super::{commits, found, refused, Done, Failure};
+use std::io::Write;
+use tuormik::image::{mark_name, Image};
+use tuormik::{read_maps, Held, Maps, OpenRef, Refusal, BLANK, NONE, RECORDED, UNREADABLE};
+
+/// The marks in the order in which they are told.
+const MARKS: [u8; 3] = [RECORDED, UNREADABLE, BLANK];
+
+/// How many marks of each sort there are.
+pub fn mark_counts(marks: &[u8]) -> [usize; 3] {
+    MARKS.map(|mark| marks.iter().filter(|&&m| m == mark).count())
+}
+
+pub fn mark_words(marks: &[u8]) -> String {
+    let counts = MARKS.iter().zip(mark_counts(marks));
+    counts.map(|(&mark, count)| format!("{} {}", grouped(count), mark_name(mark))).collect::<Vec<_>>().join(", ")
+}
+
+/// What an image says of itself, and what opening its disc gave.
+pub struct Summary {
+    sectors: usize,
+    file_sectors: usize,
+    counts: [usize; 3],
+    mark_words: String,
+    marks_source: String,
+    start: u32,
+    length: u32,
+    maps: Option<Maps>,
+    pub opened: Result<Opened, (String, Refusal)>,
+}
+
+/// What an opening gave.
+pub enum Opened {
+    WriteOnce { entries: u32, used: usize, next: u32, last: u32, fits: usize, per_mille: u32, passed: Passed },
+    Rewritable { blocks: [usize; 3], entries: u32, used: usize, sequence: u32, stale: Vec<u32> },
+}
+
+/// The tables of a rewritable disc.
+fn tables(maps: Option<&Maps>) -> &[u32] {
+    match maps {
+        Some(Maps::Rewritable { tables, .. }) => tables,
+        _ => &[],
+    }
+}
+
+impl Summary {
+    /// Opens the disc of an image; that it is turned down is told too.
+    pub fn new(image: &Image) -> Result<Summary, Failure> {
+        let maps = read_maps(&image.volume.maps).ok();
+        let opened = match commits::open(image) {
+            Ok(open) => Ok(Opened::new(&open)?),
+            Err(Failure::Refused(words, why)) => Err((words, why)),
+            Err(other) => return Err(other),
+        };
+        let mut summary = Summary {
+            sectors: image.marks.len(),
+            file_sectors: image.file_sectors(),
+            counts: mark_counts(&image.marks),
+            mark_words: mark_words(&image.marks),
+            marks_source: image.marks_source(),
+            start: image.volume.start,
+            length: image.volume.length,
+            maps,
+            opened,
+        };
+        if let Ok(Opened::Rewritable { sequence, stale, .. }) = &mut summary.opened {
+            *stale = found::stale_copies(image.to_read(), tables(summary.maps.as_ref()), *sequence);
+        }
+        Ok(summary)
+    }
+
+    /// Each thing that there is to say, with its name.
+    pub fn lines(&self) -> Vec<(&'static str, String)> {
+        let mut lines = Vec::new();
+        match &self.maps {
+            Some(Maps::WriteOnce { partition }) => lines.push(("kind", format!("write-once, partition {partition}"))),
+            Some(Maps::Rewritable { partition, .. }) => lines.push(("kind", format!("rewritable, partition {partition}"))),
+            None => {}
+        }
+        if let Ok(opened) = &self.opened {
+            lines.extend(opened.words());
+        }
+        lines.push(("disc", format!("{}: {}", counted(self.sectors, "sector"), self.mark_words)));
+        if self.file_sectors < self.sectors {
+            let (has, end) = (counted(self.file_sectors, "sector"), grouped(u64::from(self.start) + u64::from(self.length)));
+            lines.push(("note", format!("the image file has {has}, and S + L is {end}: those that it does not have are taken as blank")));
+        }
+        lines.push(("marks", self.marks_source.clone()));
+        if let Some(Maps::Rewritable { table_bytes, tables, .. }) = &self.maps {
+            let places: Vec<String> = tables.iter().map(|&t| grouped(t)).collect();
+            lines.push(("tables", format!("in sectors {} ({} bytes each)", joined(&places), grouped(*table_bytes))));
+        }
+        lines.push(("S", grouped(self.start)));
+        lines.push(("L", grouped(self.length)));
+        if let Ok(opened) = &self.opened {
+            lines.extend(opened.letters(self.start));
+        }
+        lines
+    }
+
+    pub fn json(&self) -> Vec<(&'static str, Json)> {
+        let [recorded, unreadable, blank] = self.counts.map(Json::number);
+        let (kind, partition) = match &self.maps {
+            Some(Maps::WriteOnce { partition }) => (Json::text("write-once"), Json::number(*partition)),
+            Some(Maps::Rewritable { partition, .. }) => (Json::text("rewritable"), Json::number(*partition)),
+            None => (Json::None, Json::None),
+        };
+        let mut parts = vec![
+            ("opens", Json::Flag(self.opened.is_ok())),
+            ("kind", kind),
+            ("partition", partition),
+            ("sectors", Json::number(self.sectors)),
+            ("file_sectors", Json::number(self.file_sectors)),
+            ("recorded", recorded),
+            ("unreadable", unreadable),
+            ("blank", blank),
+            ("s", Json::number(self.start)),
+            ("l", Json::number(self.length)),
+        ];
+        if let Some(Maps::Rewritable { tables, table_bytes, .. }) = &self.maps {
+            parts.push(("tables", Json::numbers(tables.iter().copied())));
+            parts.push(("table_bytes", Json::number(*table_bytes)));
+        }
+        match &self.opened {
+            Ok(opened) => parts.extend(opened.json()),
+            Err((words, why)) => parts.extend([("line", Json::number(why.number())), ("words", Json::text(words))]),
+        }
+        parts
+    }
+}
+
+impl Opened {
+    fn new(open: &OpenRef) -> Result<Opened, Failure> {
+        let view = View::from(open);
+        Ok(match view.record.held {
+            Held::WriteOnce { entries, next, last } => {
+                let per_mille = open.fullness().map_err(|error| refused::by_call(open, refused::Asked::Fullness, error))?;
+                Opened::WriteOnce {
+                    entries,
+                    used: open.table().iter().filter(|&&entry| entry != NONE).count(),
+                    next,
+                    last,
+                    fits: new_blocks(entries as usize, next as usize, view.disc.length as usize),
+                    per_mille,
+                    passed: Passed::new(view),
+                }
+            }
+            Held::Rewritable { entries, sequence } => {
+                let marks: Vec<u8> = view.blocks().map(|block| block.mark).collect();
+                Opened::Rewritable { blocks: mark_counts(&marks), entries, used: view.used_spares(), sequence, stale: Vec::new() }
+            }
+        })
+    }
+
+    /// In a curator's words.
+    fn words(&self) -> Vec<(&'static str, String)> {
+        match self {
+            Opened::WriteOnce { entries, used, fits, per_mille, .. } => vec![
+                ("blocks", blocks_words(*entries as usize, *used)),
+                ("room", room_words(*entries as usize, *fits)),
+                ("fullness", format!("{}.{} %", per_mille / 10, per_mille % 10)),
+            ],
+            Opened::Rewritable { blocks, entries, used, stale, .. } => {
+                let [recorded, unreadable, blank] = *blocks;
+                let mut lines = vec![
+                    ("blocks", format!("{} readable, {} unreadable, {} blank", grouped(recorded), grouped(unreadable), grouped(blank))),
+                    ("spares", format!("{} used, {} free", grouped(*used), grouped(*entries as usize - used))),
+                ];
+                if !stale.is_empty() {
+                    lines.push(("warning", stale_words(stale)));
+                }
+                lines
+            }
+        }
+    }
+
+    /// In the letters of document 01.
+    fn letters(&self, start: u32) -> Vec<(&'static str, String)> {
+        match self {
+            Opened::WriteOnce { entries, used, next, last, passed, .. } => {
+                let at = u64::from(start) + u64::from(*last);
+                let mut lines = vec![
+                    ("N", format!("{} ({} used)", grouped(*entries), grouped(*used))),
+                    ("NWA", grouped(*next)),
+                    ("last ICB", format!("{} (sector {})", grouped(*last), grouped(at))),
+                    ("passed over", grouped(passed.count)),
+                ];
+                if passed.count > 0 {
+                    lines.push(("which are", passed.words.clone()));
+                }
+                lines
+            }
+            Opened::Rewritable { entries, used, sequence, .. } => vec![
+                ("R", format!("{} ({} used, {} free)", grouped(*entries), grouped(*used), grouped(*entries as usize - used))),
+                ("sequence", grouped(*sequence)),
+                ("passed over", "0".to_string()),
+            ],
+        }
+    }
+
+    fn json(&self) -> Vec<(&'static str, Json)> {
+        match self {
+            Opened::WriteOnce { entries, used, next, last, fits, per_mille, passed } => vec![
+                ("n", Json::number(*entries)),
+                ("used", Json::number(*used)),
+                ("new_blocks_that_fit", Json::number(*fits)),
+                ("fullness_per_mille", Json::number(*per_mille)),
+                ("nwa", Json::number(*next)),
+                ("last_icb", Json::number(*last)),
+                ("passed_over", Json::number(passed.count)),
+                ("possible_newer_vat", passed.possible.map_or(Json::None, Json::number)),
+            ],
+            Opened::Rewritable { blocks, entries, used, sequence, stale } => {
+                let [recorded, unreadable, blank] = blocks.map(Json::number);
+                vec![
+                    ("blocks_readable", recorded),
+                    ("blocks_unreadable", unreadable),
+                    ("blocks_blank", blank),
+                    ("r", Json::number(*entries)),
+                    ("spares_used", Json::number(*used)),
+                    ("spares_free", Json::number(*entries as usize - used)),
+                    ("sequence", Json::number(*sequence)),
+                    ("tables_not_current", Json::numbers(stale.iter().copied())),
+                    ("passed_over", Json::number(0u32)),
+                ]
+            }
+        }
+    }
+
+    /// Warns where an opening passed something over.
+    pub fn warn(&self, out: &mut dyn Write) -> Done {
+        match self {
+            Opened::WriteOnce { passed, .. } => passed.warn(out),
+            Opened::Rewritable { .. } => Ok(()),
+        }
+    }
+
+    /// What stands against calling a disc clean, beside blocks that cannot be read.
+    pub fn faults(&self) -> Vec<String> {
+        match self {
+            Opened::WriteOnce { passed, .. } if passed.count == 0 => Vec::new(),
+            Opened::WriteOnce { passed, .. } => {
+                vec![format!("{} passed over above the last commit: {}", counted(passed.count as usize, "sector"), passed.words)]
+            }
+            Opened::Rewritable { stale, .. } if stale.is_empty() => Vec::new(),
+            Opened::Rewritable { stale, .. } => vec![stale_words(stale)],
+        }
+    }
+
+    /// In a few words.
+    pub fn gist(&self) -> String {
+        match self {
+            Opened::WriteOnce { entries, used, per_mille, .. } => {
+                format!("write-once, blocks {}, {}.{} % full", blocks_words(*entries as usize, *used), per_mille / 10, per_mille % 10)
+            }
+            Opened::Rewritable { blocks, entries, used, .. } => {
+                format!(
+                    "rewritable, {}, {} of {}",
+                    counted(blocks.iter().sum(), "block"),
+                    grouped(*used),
+                    counted(*entries as usize, "spare")
+                ) + " used"
+            }
+        }
+    }
+}
+
+fn blocks_words(entries: usize, used: usize) -> String {
+    match entries {
+        0 => "none yet".to_string(),
+        _ => parts(&[(used, "used"), (entries - used, "unused")]),
+    }
+}
+
+fn room_words(entries: usize, fits: usize) -> String {
+    match fits {
+        0 if entries == tuormik::MOST_ENTRIES => format!("no new block: a disc holds at most {}", grouped(entries)),
+        0 => "no new block fits".to_string(),
+        1 => "1 new block fits".to_string(),
+        n => format!("{} new blocks fit, committed together", grouped(n)),
+    }
+}
+
+fn stale_words(stale: &[u32]) -> String {
+    let places: Vec<String> = stale.iter().map(|&t| grouped(t)).collect();
+    match places.len() {
+        1 => format!("the copy of the sparing table in sector {} is not current", places[0]),
+        _ => format!("the copies of the sparing table in sectors {} are not current", joined(&places)),
+    }
+}
