@@ -347,7 +347,7 @@ module _ (e : Setting) (d : Disc) (lent : Bool) {r : Examined} (q : r ≡ examin
 -- ---- lines 1 to 7 and 11 of the calls on a write-once disc
 
 -- a call that is turned down does not go on
-stop-goes : (why : Refusal) → Stop why ≡ Go → ⊥
+pub stop-goes : (why : Refusal) → Stop why ≡ Go → ⊥
 stop-goes why e = let z : _≡_ {A = ℕ} 0 1 = cc in absurd (omega arith)
 
 -- a verdict and two tests, before others

@@ -5,7 +5,7 @@ use mathlib.Core.Path.{_≡_, sym, ap, ap₂, _∙_}
 use mathlib.Core.List.{List, [], _∷_}
 use native.Mathlib.Omega.{arith}
 use borrow.Author.Tests.{not-true, not-false}
-use lib.ListN.{length, take, replicate, length-take}
+use lib.ListN.{length, take, replicate}
 use Rattle.refusal.specs.declared.Refusal.{Refusal}
 use Rattle.refusal.specs.declared.Refusal.the-variants.{OtherKind, Misaligned}
 use Rattle.refusal.specs.declared.Verdict.{Verdict}
@@ -13,12 +13,11 @@ use Rattle.refusal.specs.declared.Verdict.the-variants.{Go, Stop}
 use Rattle.refusal.specs.Tests.{test, need}
 use Rattle.refusal.proofs.Laws.{passed}
 use Rattle.maps.specs.declared.Kind.the-variants.{WriteOnce, Rewritable}
-use Rattle.maps.specs.declared.Volume.{Volume}
-use Rattle.maps.proofs.Laws.{read-fine}
+use Rattle.address.specs.declared.PhysicalAddress.{PhysicalAddress}
 use Rattle.model.specs.Disc.{Disc}
 use Rattle.model.specs.Writes.{writes, upward, noCut}
 use Rattle.model.specs.Sparing.{Geometry, flat, entriesFit, writtenTable}
-use Rattle.model.specs.Examine.{Setting, volume, writeOnce, geometry, examined}
+use Rattle.model.specs.Examine.{Setting, writeOnce, geometry, examined}
 use Rattle.model.specs.Rewrite.{copiesTo}
 use Rattle.model.specs.Both.{spareEntries, madeBy}
 use Rattle.model.proofs.Sectors.{shapely-made, shapely-most, inside-fits, writes-append}
@@ -31,12 +30,13 @@ use Rattle.sparing.specs.declared.Layout.{Layout}
 use Rattle.sparing.specs.Layout.{geometryIn}
 use Rattle.examine.specs.declared.Examined.{Examined}
 use Rattle.examine.specs.Ground.{groundOf, examinedOf}
-use Rattle.examine.proofs.Laws.{seen-verdict, seen-tells, seen-volume, seen-once, seen-rewritable, seen-few, seen-geometry}
+use Rattle.examine.proofs.Laws.{seen-verdict, seen-once, seen-rewritable}
 use Rattle.current.specs.declared.Judged.{Judged}
 use Rattle.current.proofs.Laws.{most-on}
 use Rattle.current.specs.Looked.{JudgedAs}
 use Rattle.making.specs.Rewritable.{makingWrites}
 use Rattle.making.specs.Rewritable.{makeRewritableVerdict, rewritableWrites, madeRewritable}
+use Rattle.current.proofs.Looks.{layout-is, copies-are}
 use Rattle.current.proofs.Judging.{Laid, laid, judged-stop}
 
 -- ---- why it is turned down; r is the answer of the examination
@@ -57,33 +57,24 @@ module _ (e : Setting) (d : Disc) (spares : List ℕ) {r : Examined} (q : r ≡ 
         judged-stop e d j s (rw (v, w))
 
     -- x is the layout of the volume, y tells whether the spares fit
-    module _ {p n size : ℕ} (is : r .volume .kind ≡ Rewritable p n size) (x : Layout) (lay : geometryIn x ≡ groundOf (e .start) (e .span) (length (d .marks)) (take n (r .volume .tables)) size) (count : x .count ≡ n) where
-      layout-is : geometryIn x ≡ geometry e d
-      layout-is = lay ∙ sym (seen-geometry e d true q h is)
-
-      copies-are : x .count ≡ length (geometry e d .tables)
-      unfolding volume
-      copies-are =
-          let places = ap (λ (v : Volume). length (v .tables)) (seen-volume e d true q h) ∙ read-fine (e .maps) (seen-tells e d true q h .maps) .places in
-          omega (arith, count, places, length-take n (r .volume .tables), seen-few e d true q h is, ap (λ (g : Geometry). length (g .tables)) (seen-geometry e d true q h is))
-
+    module _ {p n size : ℕ} (is : r .volume .kind ≡ Rewritable p n size) (x : Layout) (lay : geometryIn x ≡ groundOf (r .volume .span .start) (r .volume .span .length) (length (d .marks)) (take n (r .volume .tables)) size) (count : x .count ≡ n) where
       -- spares that do not fit
       pub make-misfit : (j : Judged) {y : Bool} → y ≡ entriesFit (geometryIn x) (spareEntries spares) → not y ≡ true → j .verdict ≡ Stop Misaligned → JudgedAs (makeRewritableVerdict e d spares) e d j
       unfolding makeRewritableVerdict need
       make-misfit j f k s =
           let v = seen-verdict e d true q ∙ h in
           let w = seen-rewritable e d true q h is in
-          let u : entriesFit (geometry e d) (spareEntries spares) ≡ false = sym (f ∙ ap (λ (g : Geometry). entriesFit g (spareEntries spares)) layout-is) ∙ not-true _ k in
+          let u : entriesFit (geometry e d) (spareEntries spares) ≡ false = sym (f ∙ ap (λ (g : Geometry). entriesFit g (spareEntries spares)) (layout-is e d true q h is x lay count)) ∙ not-true _ k in
           judged-stop e d j s (rw (v, w, u))
 
       -- none of the lines
-      pub make-fits : {y : Bool} → y ≡ entriesFit (geometryIn x) (spareEntries spares) → not y ≡ false → JudgedAs (makeRewritableVerdict e d spares) e d (record { verdict = Go; layout = x; at = 0 })
+      pub make-fits : {at : PhysicalAddress} {y : Bool} → y ≡ entriesFit (geometryIn x) (spareEntries spares) → not y ≡ false → JudgedAs (makeRewritableVerdict e d spares) e d (record { verdict = Go; layout = x; at = at })
       unfolding makeRewritableVerdict need
       make-fits f k =
           let v = seen-verdict e d true q ∙ h in
           let w = seen-rewritable e d true q h is in
-          let u : entriesFit (geometry e d) (spareEntries spares) ≡ true = sym (f ∙ ap (λ (g : Geometry). entriesFit g (spareEntries spares)) layout-is) ∙ not-false _ k in
-          record { verdict = rw (v, w, u); layout = λ _. layout-is; copies = λ _. copies-are }
+          let u : entriesFit (geometry e d) (spareEntries spares) ≡ true = sym (f ∙ ap (λ (g : Geometry). entriesFit g (spareEntries spares)) (layout-is e d true q h is x lay count)) ∙ not-false _ k in
+          record { verdict = rw (v, w, u); layout = λ _. layout-is e d true q h is x lay count; copies = λ _. copies-are e d true q h is x lay count }
 
 -- ---- what it may rely on once nothing stops it; x is the layout
 
@@ -114,10 +105,12 @@ makes e d spares j r g =
 
 -- ---- what it leaves
 
--- the writes in turn: the zeros, then the copies
-pub making-written : (d d₁ d₂ : Disc) (g : Geometry) (s : List ℕ) → d₁ ≡ writes 1 noCut (upward (g .span) (g .start) (replicate (2048 * g .span) 0) 0) d → d₂ ≡ writes (g .span + 1) noCut (copiesTo (g .tables) s) d₁ → d₂ ≡ writes 1 noCut (makingWrites g s) d
+-- the writes in turn: the zeros, then the copies, at the sectors that translations gave
+pub making-written : (d d₁ d₂ : Disc) (g : Geometry) (s : List ℕ) {at : ℕ} {ts : List ℕ} → at ≡ g .start → ts ≡ g .tables → d₁ ≡ writes 1 noCut (upward (g .span) at (replicate (2048 * g .span) 0) 0) d → d₂ ≡ writes (g .span + 1) noCut (copiesTo ts s) d₁ → d₂ ≡ writes 1 noCut (makingWrites g s) d
 unfolding makingWrites
-making-written d d₁ d₂ g s f w =
+making-written d d₁ d₂ g s there tables zeros copies =
+    let f = zeros ∙ ap (λ (p : ℕ). writes 1 noCut (upward (g .span) p (replicate (2048 * g .span) 0) 0) d) there in
+    let w = copies ∙ ap (λ (ts : List ℕ). writes (g .span + 1) noCut (copiesTo ts s) d₁) tables in
     let us = upward (g .span) (g .start) (replicate (2048 * g .span) 0) 0 in
     let n : 1 + length us ≡ g .span + 1 = omega (arith, length-upward (g .span) (g .start) (replicate (2048 * g .span) 0) 0) in
     w

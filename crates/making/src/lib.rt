@@ -1,8 +1,13 @@
 // Making a volume of either kind (document 01, "Calls and their sector writes"). Each call examines what it gets
 // and refuses with the first line of document 01 that applies; a refusal leaves every lent byte as it came. No
 // call has a requires.
+use address::LogicalAddress;
+use address::NONE;
+use address::PhysicalAddress;
 use current::Judged;
+use examine::Examined;
 use maps::Kind;
+use maps::Volume;
 use model::Cut;
 use model::Effect;
 use refusal::Refusal;
@@ -15,7 +20,7 @@ ghost use lib.ListN.{length};
 ghost use Rattle.model.specs.Disc.{disc as discOf};
 ghost use Rattle.model.specs.Vat.{none};
 ghost use Rattle.model.specs.Examine.{setting};
-ghost use Rattle.making.specs.WriteOnce.{makeOnceVerdict, madeOnce};
+ghost use Rattle.making.specs.WriteOnce.{makeOnceVerdict, madeOnce, JudgedBlank};
 ghost use Rattle.model.specs.Writes.{noCut, writes};
 ghost use Rattle.model.specs.VatWritten.{writtenIcb};
 ghost use mathlib.Core.Bool.{true};
@@ -27,45 +32,61 @@ ghost use Rattle.refusal.specs.declared.Verdict;
 // The bytes of a sector.
 const SECTOR: usize = 2048;
 
-// No previous ICB.
-const NONE: u32 = 0xffffffff;
-
 // ---- a write-once volume
 
-// Why making a write-once volume is turned down.
-fn judge_blank(disc: &[u8], marks: &[u8], maps: &[u8], s: u32, l: u32) -> Verdict
-    ensures { λ r. ⌜ r ≡ makeOnceVerdict (setting (now (maps .entry)) s l) (discOf (now (disc .entry)) (now (marks .entry))) ⌝ }
+// Why making a write-once volume is turned down, and else the volume with its span.
+fn judge_blank(disc: &[u8], marks: &[u8], maps: &[u8], s: u32, l: u32) -> Examined
+    ensures { λ r. ⌜ JudgedBlank (setting (now (maps .entry)) s l) (discOf (now (disc .entry)) (now (marks .entry))) r ⌝ }
 {
     let seen = examine::examine(disc, marks, maps, s, l, true);
     let verdict = seen.verdict;
-    if let Verdict::Stop(why) = verdict {
-        return Verdict::Stop(why);
-    }
     let volume = seen.volume;
+    if let Verdict::Stop(why) = verdict {
+        return Examined {
+            verdict: Verdict::Stop(why),
+            volume,
+        };
+    }
     let kind = volume.kind;
     if let Kind::Rewritable {
         partition: _,
         tables: _,
         size: _,
     } = kind {
-        return Verdict::Stop(Refusal::OtherKind);
+        return Examined {
+            verdict: Verdict::Stop(Refusal::OtherKind),
+            volume,
+        };
     }
-    if !marks::is_next(marks, s, l, 0) {
-        return Verdict::Stop(Refusal::NotBlank);
+    let span = volume.span;
+    if !marks::is_next(marks, span.start, span.length, LogicalAddress(0)) {
+        return Examined {
+            verdict: Verdict::Stop(Refusal::NotBlank),
+            volume,
+        };
     }
-    Verdict::Go
+    Examined {
+        verdict: Verdict::Go,
+        volume,
+    }
 }
 
 // Writes the ICB of an empty VAT as block 0, with no cut. Inside the layers: line 1 has been tested, and
 // the sector is one of the disc's.
-fn write_empty(disc: &mut [u8], marks: &mut [u8], at: usize)
-    requires { ⌜ at < length (now marks) ⌝ }
+fn write_empty(disc: &mut [u8], marks: &mut [u8], at: PhysicalAddress)
+    requires { ⌜ at .0 < length (now marks) ⌝ }
     requires { ⌜ length (now disc) ≡ 2048 * length (now marks) ⌝ }
-    ensures { λ _. ⌜ discOf (now (disc .exit)) (now (marks .exit)) ≡ writes 1 noCut (record { place = at; bytes = writtenIcb 0 [] none } ∷ []) (discOf (now (disc .entry)) (now (marks .entry))) ⌝ }
+    ensures { λ _. ⌜ discOf (now (disc .exit)) (now (marks .exit)) ≡ writes 1 noCut (record { place = at .0; bytes = writtenIcb 0 [] none } ∷ []) (discOf (now (disc .entry)) (now (marks .entry))) ⌝ }
 {
     let mut icb = [0u8; SECTOR];
     let entries = [0u32; 1];
-    icb_written::write_icb(&mut icb, 0, &entries, 0, NONE);
+    icb_written::write_icb(
+        &mut icb,
+        LogicalAddress(0),
+        &entries,
+        0,
+        LogicalAddress(NONE),
+    );
     let uncut = Cut {
         at: 0,
         effect: Effect::Old,
@@ -78,31 +99,33 @@ pub fn make_write_once(disc: &mut [u8], marks: &mut [u8], maps: &[u8], s: u32, l
     ensures { λ r. ⌜ r ≡ makeOnceVerdict (setting (now (maps .entry)) s l) (discOf (now (disc .entry)) (now (marks .entry))) ⌝ }
     ensures { λ r. ⌜ discOf (now (disc .exit)) (now (marks .exit)) ≡ madeOnce (setting (now (maps .entry)) s l) (discOf (now (disc .entry)) (now (marks .entry))) ⌝ }
 {
-    let verdict = judge_blank(disc, marks, maps, s, l);
+    let judged = judge_blank(disc, marks, maps, s, l);
+    let verdict = judged.verdict;
     if let Verdict::Stop(why) = verdict {
         return Verdict::Stop(why);
     }
-    write_empty(disc, marks, s as usize);
+    let volume = judged.volume;
+    let span = volume.span;
+    let first = address::sector_of(span.start, LogicalAddress(0));
+    write_empty(disc, marks, first);
     Verdict::Go
 }
 
 // ---- a rewritable volume
 
 // A disc that making turns down.
-fn unmade(why: Refusal) -> Judged
+fn unmade(why: Refusal, volume: Volume) -> Judged
     ensures { λ r. ⌜ r .verdict ≡ Verdict.Stop why ⌝ }
 {
     Judged {
         verdict: Verdict::Stop(why),
         layout: Layout {
-            start: 0,
-            span: 0,
+            volume,
             sectors: 0,
-            tables: [0; 4],
             count: 0,
             size: 0,
         },
-        at: 0,
+        at: copies::nowhere(),
     }
 }
 
@@ -112,27 +135,26 @@ fn judge_make(disc: &[u8], marks: &[u8], maps: &[u8], s: u32, l: u32, spares: &[
 {
     let seen = examine::examine(disc, marks, maps, s, l, true);
     let verdict = seen.verdict;
-    if let Verdict::Stop(why) = verdict {
-        return unmade(why);
-    }
     let volume = seen.volume;
+    if let Verdict::Stop(why) = verdict {
+        return unmade(why, volume);
+    }
     let kind = volume.kind;
-    let tables = volume.tables;
     match kind {
-        Kind::WriteOnce { partition: _ } => unmade(Refusal::OtherKind),
+        Kind::WriteOnce { partition: _ } => unmade(Refusal::OtherKind, volume),
         Kind::Rewritable {
             partition: _,
             tables: n,
             size,
         } => {
-            let layout = current::layout_of(s, l, marks.len(), tables, n, size);
+            let layout = current::layout_of(volume, marks.len(), n, size);
             if !sparing::spares_fit(layout, spares) {
-                return unmade(Refusal::Misaligned);
+                return unmade(Refusal::Misaligned, volume);
             }
             Judged {
                 verdict: Verdict::Go,
                 layout,
-                at: 0,
+                at: copies::nowhere(),
             }
         }
     }
@@ -142,18 +164,22 @@ fn judge_make(disc: &[u8], marks: &[u8], maps: &[u8], s: u32, l: u32, spares: &[
 // layers: every line of making has been tested.
 fn write_made(disc: &mut [u8], marks: &mut [u8], x: Layout, sector: &[u8])
     requires { ⌜ (x .count ≤ 4) × (x .sectors ≡ length (now marks)) × TablesOn x ⌝ }
-    requires { ⌜ (x .start + x .span ≤ length (now marks)) × (length (now marks) ≤ 1048576) ⌝ }
+    requires { ⌜ (x .volume .span .start + x .volume .span .length ≤ length (now marks)) × (length (now marks) ≤ 1048576) ⌝ }
     requires { ⌜ (length (now disc) ≡ 2048 * length (now marks)) × (length (now sector) ≡ 2048) ⌝ }
     ensures { λ _. ⌜ discOf (now (disc .exit)) (now (marks .exit)) ≡ writes 1 noCut (makingWrites (geometryIn x) (now (sector .entry))) (discOf (now (disc .entry)) (now (marks .entry))) ⌝ }
 {
-    let tables = x.tables;
+    let volume = x.volume;
+    let span = volume.span;
+    let tables = volume.tables;
     let copies = x.count as usize;
     let uncut = Cut {
         at: 0,
         effect: Effect::Old,
     };
-    disc::write_zeros(disc, marks, x.start as usize, x.span as usize);
-    packets::write_copies(disc, marks, tables, copies, sector, x.span + 1, uncut);
+    let first = address::sector_of(span.start, LogicalAddress(0));
+    disc::write_zeros(disc, marks, first, span.length);
+    let places = packets::table_places(tables);
+    packets::write_copies(disc, marks, places, copies, sector, span.length + 1, uncut);
 }
 
 // Makes the partition a volume: packets of zeros, a list of spares, and tables of sequence 0.

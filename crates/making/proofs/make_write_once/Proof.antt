@@ -1,5 +1,6 @@
 -- `making::make_write_once` meets its contract. Assumes nothing.
-use mathlib.Core.Path.{sym, _∙_}
+use mathlib.Core.Path.{_≡_, sym, _∙_}
+use native.Mathlib.Omega.{arith}
 use Rattle.model.specs.Disc.{Disc, disc}
 use Rattle.model.specs.Examine.{Setting, setting}
 use Rattle.making.proofs.Blank.{make-tells, made-stop, made-go}
@@ -29,13 +30,27 @@ same-length-2 c = search needs
 returns : tie.Need-returns
 returns c =
     let j = c .before .before .before .judge-blank .ensures in
-    (sym (c .before .verdict .given .1) ∙ j, made-stop (settingOf (c .before .before .before .before .before .before .before .before .before)) (discOf (c .before .before .before .before .before .before .before .before .before)) j (c .before .verdict .given .1))
+    let z = c .before .before .before .before .before .before .before .before .before in
+    (sym (c .before .verdict .given .1) ∙ j .verdict, made-stop (settingOf z) (discOf z) (j .verdict) (c .before .verdict .given .1))
 
 enum-told : tie.Need-enum-told
 enum-told c = search needs
 
+sector-of-requires : tie.Need-sector-of-requires
+sector-of-requires c κs =
+    let v = c .before .before .before .before in
+    let z = v .before .before .before .before .before .before in
+    let go = c .before .before .enum-told .given .1 in
+    let tells = make-tells (settingOf z) (discOf z) (v .judge-blank .ensures .verdict) go in
+    omega (arith, v .judge-blank .ensures .start go, tells .0, tells .1)
+
 write-empty-requires : tie.Need-write-empty-requires
-write-empty-requires c κs = make-tells (settingOf (c .before .before .before .before .before .before .before .before .before .before)) (discOf (c .before .before .before .before .before .before .before .before .before .before)) (c .before .before .before .before .judge-blank .ensures) (c .before .before .enum-told .given .1)
+write-empty-requires c κs =
+    let v = c .before .before .before .before .before .before .before in
+    let z = v .before .before .before .before .before .before in
+    let go = c .before .before .before .before .before .enum-told .given .1 in
+    let tells = make-tells (settingOf z) (discOf z) (v .judge-blank .ensures .verdict) go in
+    (omega (arith, v .judge-blank .ensures .start go, c .before .before .sector-of .ensures, tells .0), tells .2)
 
 same-length-3 : tie.Need-same-length-3
 same-length-3 c = search needs
@@ -45,9 +60,12 @@ same-length-4 c = search needs
 
 returns-2 : tie.Need-returns-2
 returns-2 c =
-    let j = c .before .before .before .before .before .before .before .before .before .judge-blank .ensures in
-    let go = c .before .before .before .before .before .before .before .enum-told .given .1 in
-    (sym go ∙ j, made-go (settingOf (c .before .before .before .before .before .before .before .before .before .before .before .before .before .before .before)) (discOf (c .before .before .before .before .before .before .before .before .before .before .before .before .before .before .before)) j _ go (c .before .before .before .before .write-empty .ensures))
+    let v = c .before .before .before .before .before .before .before .before .before .before .before .before in
+    let z = v .before .before .before .before .before .before in
+    let j = v .judge-blank .ensures in
+    let go = c .before .before .before .before .before .before .before .before .before .before .enum-told .given .1 in
+    let there : c .before .before .before .before .before .before .before .sector-of .result .0 ≡ z .args .s = omega (arith, j .start go, c .before .before .before .before .before .before .before .sector-of .ensures) in
+    (sym go ∙ j .verdict, made-go (settingOf z) (discOf z) (j .verdict) _ go there (c .before .before .before .before .write-empty .ensures))
 
 pub make-write-once-spec : {M : Type 1} → statement M
 make-write-once-spec =
@@ -59,6 +77,7 @@ make-write-once-spec =
     same-length-2
     returns
     enum-told
+    sector-of-requires
     write-empty-requires
     same-length-3
     same-length-4
