@@ -1,6 +1,6 @@
 -- The scan of opening as it is answered (document 01, "Calls and their sector writes": "Opening goes down from the last sector that is not
 -- blank, inside the partition, to the first VAT ICB").
-use Prim.Native.Nat.{ℕ, zero, suc, _+_, _*_, _≤_}
+use Prim.Native.Nat.{ℕ, zero, suc, _*_, _≤_}
 use mathlib.Core.Bool.{cond}
 use mathlib.Core.List.{List}
 use lib.ListN.{length}
