@@ -22,19 +22,18 @@ use Rattle.current.specs.declared.Looked.{Looked}
 use Rattle.current.specs.Looked.{lookVerdict, Sees}
 use Rattle.current.proofs.Laws.{Whole, whole}
 use Rattle.current.proofs.Looks.{look-count}
-use Rattle.rewritable.specs.Calls.{openRewritableVerdict, openingRewritable, openedRewritable}
+use Rattle.rewritable.specs.Calls.{openingRewritable, openedRewritable}
 
 module _ (e : Setting) (d : Disc) (t : List ℕ) where
   -- a refusal leaves the lent table as it came
-  open-refused : {why : Refusal} → openRewritableVerdict e d t ≡ Stop why → (Opened.Refused why ≡ openingRewritable e d t) × (t ≡ openedRewritable e d t)
+  open-refused : {why : Refusal} → lookVerdict e d (lentTable t) ≡ Stop why → (Opened.Refused why ≡ openingRewritable e d t) × (t ≡ openedRewritable e d t)
   unfolding openingRewritable openedRewritable openedBy filledBy
   open-refused h =
       (sym (ap (λ (v : Verdict). openedBy v (currentRecord e d) 0) h), sym (ap (λ (v : Verdict). filledBy v (tableOn e d) t) h))
 
   -- lent says whether the table is long enough, and x is what was found
   module _ {lent : Bool} (q : lent ≡ lentTable t) {x : Looked} (s : Sees e d lent x) where
-    verdict-is : openRewritableVerdict e d t ≡ x .verdict
-    unfolding openRewritableVerdict lookVerdict
+    verdict-is : lookVerdict e d (lentTable t) ≡ x .verdict
     verdict-is = sym (s .verdict ∙ ap (lookVerdict e d) q)
 
     -- lines 1 to 8 and 10
@@ -46,14 +45,14 @@ module _ (e : Setting) (d : Disc) (t : List ℕ) where
       told = whole e d lent (sym (s .verdict) ∙ h)
 
       -- the sector found is one of the disc
-      pub open-place : (2048 * x .at + 2048 ≤ length (d .bytes)) × (x .at < 1048576)
+      pub open-place : (2048 * x .at .0 + 2048 ≤ length (d .bytes)) × (x .at .0 < 1048576)
       open-place = (omega (arith, s .place h, told .shape), omega (arith, s .place h, told .few))
 
-      pub open-sector : length (sector d (x .at)) ≡ 2048
-      open-sector = length-sector d (x .at) (s .place h) (record { sized = told .shape })
+      pub open-sector : length (sector d (x .at .0)) ≡ 2048
+      open-sector = length-sector d (x .at .0) (s .place h) (record { sized = told .shape })
 
       -- its entries lie in it, and the lent table has room for them
-      pub open-room : (56 + 8 * countIn (sector d (x .at)) ≤ 2048) × (2 * countIn (sector d (x .at)) ≤ length t)
+      pub open-room : (56 + 8 * countIn (sector d (x .at .0)) ≤ 2048) × (2 * countIn (sector d (x .at .0)) ≤ length t)
       unfolding lentTable
       open-room =
           let n = look-count e d lent s h in
@@ -66,7 +65,7 @@ module _ (e : Setting) (d : Disc) (t : List ℕ) where
       handed = ap₂ (λ (n v : ℕ). Record.Rewritable n v) (s .count h) (s .sequence h)
 
       -- none of the lines, and the table is filled
-      pub open-opened : {b u : List ℕ} → b ≡ sector d (x .at) → u ≡ filledFrom (tableIn b) t → (Opened.Open (Record.Rewritable (x .entries) (x .sequence)) 0 ≡ openingRewritable e d t) × (u ≡ openedRewritable e d t)
+      pub open-opened : {b u : List ℕ} → b ≡ sector d (x .at .0) → u ≡ filledFrom (tableIn b) t → (Opened.Open (Record.Rewritable (x .entries) (x .sequence)) 0 ≡ openingRewritable e d t) × (u ≡ openedRewritable e d t)
       unfolding openingRewritable openedRewritable openedBy filledBy tableAt
       open-opened {b} {u} is f = (
         ap (λ (r : Record). Opened.Open r 0) handed ∙ sym (ap (λ (v : Verdict). openedBy v (currentRecord e d) 0) (verdict-is ∙ h)),

@@ -1,32 +1,27 @@
 -- Opening and reading on a rewritable disc alone: as the calls of both kinds (model, Both.antt), with line 7 for a write-once list.
 use Prim.Native.Nat.{ℕ}
-use mathlib.Core.Bool.{not}
 use mathlib.Core.List.{List, [], _∷_}
-use Rattle.refusal.specs.declared.Refusal.the-variants.{OtherKind, NotRecorded}
+use Rattle.refusal.specs.declared.Refusal.the-variants.{NotRecorded}
 use Rattle.refusal.specs.declared.Verdict.{Verdict}
-use Rattle.refusal.specs.Tests.{test, first, andThen}
+use Rattle.refusal.specs.Tests.{test}
 use Rattle.model.specs.declared.Record.{Record}
 use Rattle.model.specs.declared.Opened.{Opened}
 use Rattle.model.specs.declared.Given.{Given}
 use Rattle.model.specs.Disc.{Disc, sector, recorded}
-use Rattle.model.specs.Examine.{Setting, writeOnce, examined, lentTable}
-use Rattle.model.specs.Rewrite.{tableOn, copyTests, currentRecord, rewritableVerdict, placeOf, blockTest}
+use Rattle.model.specs.Examine.{Setting, lentTable}
+use Rattle.model.specs.Rewrite.{tableOn, currentRecord, rewritableVerdict, placeOf, blockTest}
+use Rattle.current.specs.Looked.{lookVerdict}
 use Rattle.model.specs.Both.{openedBy, filledBy, readLent, givenBy, blockBy}
 
 -- ---- opening: lines 1 to 8 and 10
 
--- why it turns a disc down
-unfoldable pub openRewritableVerdict : Setting → Disc → List ℕ → Verdict
-openRewritableVerdict e d t =
-    andThen (examined e d (lentTable t)) (first (test (not (writeOnce e)) OtherKind ∷ copyTests e d))
-
 -- what it answers: nothing is passed over
 unfoldable pub openingRewritable : Setting → Disc → List ℕ → Opened
-openingRewritable e d t = openedBy (openRewritableVerdict e d t) (currentRecord e d) 0
+openingRewritable e d t = openedBy (lookVerdict e d (lentTable t)) (currentRecord e d) 0
 
 -- the lent table after it
 unfoldable pub openedRewritable : Setting → Disc → List ℕ → List ℕ
-openedRewritable e d t = filledBy (openRewritableVerdict e d t) (tableOn e d) t
+openedRewritable e d t = filledBy (lookVerdict e d (lentTable t)) (tableOn e d) t
 
 -- ---- reading: lines 1 to 8, 10 to 12 and 14
 

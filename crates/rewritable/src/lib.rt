@@ -1,6 +1,7 @@
 // The calls on a rewritable disc that write no sector: opening and reading (document 01, "Calls and their
 // sector writes"). Each examines what it gets and refuses with the first line of document 01 that applies; a refusal leaves every
 // lent byte as it came. No call has a requires.
+use address::LogicalAddress;
 use model::Given;
 use model::Opened;
 use model::Record;
@@ -38,7 +39,8 @@ pub fn open_rewritable(
     if let Verdict::Stop(why) = verdict {
         return Opened::Refused(why);
     }
-    let from = SECTOR * looked.at as usize;
+    let copy = looked.at;
+    let from = SECTOR * copy.0 as usize;
     let to = from + SECTOR;
     sparing_table::fill_table(&disc[from..to], table);
     Opened::Open {
@@ -67,21 +69,23 @@ pub fn read_block(
     ensures { λ r. ⌜ r ≡ readingBlock (setting (now (maps .entry)) s l) (discOf (now (disc .entry)) (now (marks .entry))) (now (table .entry)) held b (now (out .entry)) ⌝ }
     ensures { λ _. ⌜ now (out .exit) ≡ readBlockBytes (setting (now (maps .entry)) s l) (discOf (now (disc .entry)) (now (marks .entry))) (now (table .entry)) held b (now (out .entry)) ⌝ }
 {
+    let b = LogicalAddress(b);
     let lent = examine::are_lent(table, out, SECTOR);
     let judged = current::judge(disc, marks, maps, s, l, table, lent, held);
     let verdict = judged.verdict;
     if let Verdict::Stop(why) = verdict {
         return Given::Refused(why);
     }
-    if l <= b {
+    let span = judged.layout.volume.span;
+    if span.length <= b.0 {
         return Given::Refused(Refusal::NumberOutside);
     }
-    let first = current::packet_place(table, held, s, b) as usize;
-    let at = first + (b % PACKET) as usize;
+    let first = current::packet_place(table, held, span.start, b);
+    let at = address::up_from(first, b.0 % PACKET);
     if !marks::is_recorded(marks, at) {
         return Given::Refused(Refusal::NotRecorded);
     }
-    let from = SECTOR * at;
+    let from = SECTOR * at.0 as usize;
     let to = from + SECTOR;
     bytes::copy(&disc[from..to], out);
     Given::Block

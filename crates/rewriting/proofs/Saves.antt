@@ -16,7 +16,7 @@ use Rattle.model.specs.declared.Cut.{Cut}
 use Rattle.model.specs.declared.Record.{Record}
 use Rattle.model.specs.Disc.{Disc, recordedRun}
 use Rattle.model.specs.Writes.{writes, upward, struck}
-use Rattle.model.specs.Sparing.{packetOf, locate}
+use Rattle.model.specs.Sparing.{packetOf}
 use Rattle.model.specs.Examine.{Setting, lentTable}
 use Rattle.model.specs.Rewrite.{rewritableVerdict, placeOf, othersRecorded, blockTest, saveBlockTests, blockLent, packetWrites, replaced, saveBlockPlan, packetTests, packetLent, savePacketPlan}
 use Rattle.model.specs.Plan.{carry}
@@ -24,8 +24,7 @@ use Rattle.model.proofs.Basics.{and-true, and-false, and-false-left, both}
 use Rattle.model.proofs.Verdicts.{unless-go}
 use Rattle.model.proofs.SectorsRuns.{length-upward}
 use Rattle.model.proofs.SparingLaws.{packet-own}
-use Rattle.current.specs.Held.{countHeld, entriesLent}
-use Rattle.current.proofs.Held.{room-held, place-lent, place-on, sum-small}
+use Rattle.current.proofs.Held.{place-on}
 use Rattle.rewriting.proofs.Laws.{going-all}
 
 -- ---- the lent lengths
@@ -77,9 +76,11 @@ module _ (e : Setting) (d : Disc) (b : ℕ) where
         (stops _ (and-false-left _ (before-it ∙ not-true x h)))
 
     -- y tells whether those after it are
-    module _ (all : not x ≡ false) {y : Bool} (above : y ≡ recordedRun d (p + b % 32 + 1) (31 - b % 32)) where
+    module _ (all : not x ≡ false) {q : ℕ} (behind : q ≡ p + (b % 32 + 1)) {y : Bool} (above : y ≡ recordedRun d q (31 - b % 32)) where
       after-it : recordedRun d (placeOf e d (packetOf b) + b % 32 + 1) (31 - b % 32) ≡ y
-      after-it = sym (above ∙ ap (λ (q : ℕ). recordedRun d (q + b % 32 + 1) (31 - b % 32)) at)
+      after-it =
+          let k : q ≡ placeOf e d (packetOf b) + b % 32 + 1 = omega (arith, behind, at) in
+          sym (above ∙ ap (λ (r : ℕ). recordedRun d r (31 - b % 32)) k)
 
       -- one after it is not
       pub block-after : not y ≡ true → Stop NotRecorded ≡ first (saveBlockTests e d b)
@@ -99,10 +100,8 @@ module _ (e : Setting) (d : Disc) (b : ℕ) where
 
 -- once nothing stops it
 pub record SavesBlock (e : Setting) (d : Disc) (t : List ℕ) (held : Record) (b : ℕ) (block : List ℕ) : Type 0 where
-  pub room : 2 * countHeld held ≤ length t
-  pub sum : e .start + b < 4294967296
-  pub place : locate (e .start) (entriesLent t held) (packetOf b) ≡ placeOf e d (packetOf b)
   pub on : placeOf e d (packetOf b) + 32 ≤ length (d .marks)
+  pub most : length (d .marks) ≤ 1048576
   pub shape : length (d .bytes) ≡ 2048 * length (d .marks)
   pub whole : length block ≡ 2048
 
@@ -113,10 +112,8 @@ saves-block e d t held b block f g =
     let a = going-all e d t (blockLent t block) held (saveBlockTests e d b) (sym f ∙ g) in
     let low : b < e .span = ltb-true b (e .span) (passed (saveBlockTests e d b) (a .1) .0) in
     record {
-      room = room-held e d t _ held (a .0);
-      sum = sum-small e d t _ held (a .0) b low;
-      place = place-lent e d t _ held (a .0) b;
       on = place-on e d t _ held (a .0) b low;
+      most = a .0 .few;
       shape = a .0 .shape;
       whole = block-bytes t block (a .0 .lengths);
     }
@@ -132,9 +129,9 @@ unfolding packetWrites
 packet-struck c p bytes h q = ap (struck c) (length-upward 32 p bytes 0) ∙ sym h ∙ q
 
 -- its writes
-pub block-written : (c : Cut) (e : Setting) (d : Disc) (t : List ℕ) (held : Record) (b : ℕ) (block : List ℕ) {p : ℕ} {d′ : Disc} → SavesBlock e d t held b block → p ≡ locate (e .start) (entriesLent t held) (packetOf b) → d′ ≡ writes 1 c (packetWrites p (replaced d p (b % 32) block)) d → d′ ≡ writes 1 c (packetWrites (placeOf e d (packetOf b)) (replaced d (placeOf e d (packetOf b)) (b % 32) block)) d
-block-written c e d t held b block h q w =
-    w ∙ ap (λ (k : ℕ). writes 1 c (packetWrites k (replaced d k (b % 32) block)) d) (q ∙ h .place)
+pub block-written : (c : Cut) (e : Setting) (d : Disc) (b : ℕ) (block : List ℕ) {p : ℕ} {d′ : Disc} → p ≡ placeOf e d (packetOf b) → d′ ≡ writes 1 c (packetWrites p (replaced d p (b % 32) block)) d → d′ ≡ writes 1 c (packetWrites (placeOf e d (packetOf b)) (replaced d (placeOf e d (packetOf b)) (b % 32) block)) d
+block-written c e d b block q w =
+    w ∙ ap (λ (k : ℕ). writes 1 c (packetWrites k (replaced d k (b % 32) block)) d) q
 
 -- ---- line 12 of a packet
 
@@ -165,10 +162,8 @@ module _ (e : Setting) (b : ℕ) where
 
 -- once nothing stops it
 pub record SavesPacket (e : Setting) (d : Disc) (t : List ℕ) (held : Record) (b : ℕ) (packet : List ℕ) : Type 0 where
-  pub room : 2 * countHeld held ≤ length t
-  pub sum : e .start + b < 4294967296
-  pub place : locate (e .start) (entriesLent t held) (packetOf b) ≡ placeOf e d b
   pub on : placeOf e d b + 32 ≤ length (d .marks)
+  pub most : length (d .marks) ≤ 1048576
   pub shape : length (d .bytes) ≡ 2048 * length (d .marks)
   pub whole : length packet ≡ 65536
 
@@ -179,10 +174,8 @@ saves-packet e d t held b packet f g =
     let k = packet-tells e b (a .1) in
     let q : packetOf b ≡ b = packet-own b (k .0) in
     record {
-      room = room-held e d t _ held (a .0);
-      sum = sum-small e d t _ held (a .0) b (k .1);
-      place = place-lent e d t _ held (a .0) b ∙ ap (placeOf e d) q;
       on = omega (arith, place-on e d t _ held (a .0) b (k .1), ap (placeOf e d) q);
+      most = a .0 .few;
       shape = a .0 .shape;
       whole = packet-bytes t packet (a .0 .lengths);
     }
@@ -193,6 +186,6 @@ unfolding savePacketPlan
 packet-plan e d t held b packet f g = unless-go _ (sym f ∙ g)
 
 -- its writes
-pub packet-written : (c : Cut) (e : Setting) (d : Disc) (t : List ℕ) (held : Record) (b : ℕ) (packet : List ℕ) {p : ℕ} {d′ : Disc} → SavesPacket e d t held b packet → p ≡ locate (e .start) (entriesLent t held) (packetOf b) → d′ ≡ writes 1 c (upward 32 p packet 0) d → d′ ≡ writes 1 c (packetWrites (placeOf e d b) packet) d
+pub packet-written : (c : Cut) (e : Setting) (d : Disc) (b : ℕ) (packet : List ℕ) {p : ℕ} {d′ : Disc} → p ≡ placeOf e d b → d′ ≡ writes 1 c (upward 32 p packet 0) d → d′ ≡ writes 1 c (packetWrites (placeOf e d b) packet) d
 unfolding packetWrites
-packet-written c e d t held b packet h q w = w ∙ ap (λ (k : ℕ). writes 1 c (upward 32 k packet 0) d) (q ∙ h .place)
+packet-written c e d b packet q w = w ∙ ap (λ (k : ℕ). writes 1 c (upward 32 k packet 0) d) q

@@ -28,6 +28,7 @@ use Rattle.model.proofs.Sectors.{writes-append}
 use Rattle.model.proofs.SectorsRuns.{length-upward}
 use Rattle.model.proofs.SparingLaws.{used-and-free, free-on, written-count, written-table, resorted-length, resorted-fits, length-copies, copy-order-length}
 use Rattle.sparing.specs.Layout.{geometryIn}
+use Rattle.address.specs.declared.PhysicalAddress.{PhysicalAddress}
 use Rattle.sparing_table.specs.declared.FirstFree.{FirstFree}
 use Rattle.sparing_table.specs.declared.FirstFree.the-variants.{At, Nothing}
 use Rattle.sparing_table.specs.Table.{freeIn}
@@ -46,7 +47,7 @@ use Rattle.rewriting.proofs.Saves.{packet-bytes, packet-off, packet-outside, pa
 
 -- the place in an answer
 unfoldable placeIn : FirstFree → ℕ
-placeIn (At m) = m
+placeIn (At m) = m .0
 placeIn Nothing = 0
 
 -- whether there is one
@@ -71,17 +72,17 @@ module _ (t : List ℕ) (held : Record) {r : ℕ} {f : FirstFree} (is : r ≡ co
   in-lent = found ∙ ap (λ (n : ℕ). freeIn (freeOf (entries (take (2 * n) t)))) is
 
   -- an entry is free
-  pub free-at : {m : ℕ} → f ≡ At m → m ≡ firstFree (freeOf (entriesLent t held))
+  pub free-at : {m : PhysicalAddress} → f ≡ At m → m .0 ≡ firstFree (freeOf (entriesLent t held))
   unfolding placeIn
   free-at h = sym (ap placeIn h) ∙ ap placeIn in-lent ∙ place-free (freeOf (entriesLent t held))
 
   -- none is
-  pub free-nowhere : f ≡ Nothing → 0 ≡ firstFree (freeOf (entriesLent t held))
+  pub free-nowhere : {m : PhysicalAddress} → m .0 ≡ 0 → f ≡ Nothing → m .0 ≡ firstFree (freeOf (entriesLent t held))
   unfolding placeIn
-  free-nowhere h = sym (ap placeIn h) ∙ ap placeIn in-lent ∙ place-free (freeOf (entriesLent t held))
+  free-nowhere z h = z ∙ sym (ap placeIn h) ∙ ap placeIn in-lent ∙ place-free (freeOf (entriesLent t held))
 
   -- whether one is
-  pub free-some : {m : ℕ} → f ≡ At m → true ≡ not (noEntry (freeOf (entriesLent t held)))
+  pub free-some : {m : PhysicalAddress} → f ≡ At m → true ≡ not (noEntry (freeOf (entriesLent t held)))
   unfolding someIn
   free-some h = sym (ap someIn h) ∙ ap someIn in-lent ∙ some-free (freeOf (entriesLent t held))
 
@@ -189,8 +190,9 @@ pub record Spares (e : Setting) (d : Disc) (t : List ℕ) (held : Record) (b : �
   pub laid : Laid e d (j .layout)
   pub same : geometryIn (j .layout) ≡ geometry e d
   pub copies : j .layout .count ≡ length (geometry e d .tables)
-  pub place : j .at < length (d .marks)
-  pub counted : counts d (geometryIn (j .layout)) (j .at) ≡ true
+  pub place : j .at .0 < length (d .marks)
+  pub counted : counts d (geometryIn (j .layout)) (j .at .0) ≡ true
+  pub most : length (d .marks) ≤ 1048576
   pub shape : length (d .bytes) ≡ 2048 * length (d .marks)
   pub bytes : length packet ≡ 65536
   pub count : countHeld held ≡ countOn e d
@@ -223,7 +225,8 @@ spares e d t held b packet j r g =
       same = is;
       copies = r .judged .copies g;
       place = r .place g;
-      counted = ap (λ (y : Geometry). counts d y (j .at)) is ∙ r .counted g;
+      counted = ap (λ (y : Geometry). counts d y (j .at .0)) is ∙ r .counted g;
+      most = h .few;
       shape = h .shape;
       bytes = packet-bytes t packet (h .lengths);
       count = n;

@@ -18,8 +18,8 @@ use Rattle.current.specs.Looked.{JudgedAs}
 -- what a sparing is judged to be: where the verdict says Go, a sector of the disc with a copy that counts, too
 pub record SparingJudgedAs (v : Verdict) (e : Setting) (d : Disc) (r : Judged) : Type 0 where
   pub judged : JudgedAs v e d r
-  pub place : r .verdict ≡ Go → r .at < length (d .marks)
-  pub counted : r .verdict ≡ Go → counts d (geometry e d) (r .at) ≡ true
+  pub place : r .verdict ≡ Go → r .at .0 < length (d .marks)
+  pub counted : r .verdict ≡ Go → counts d (geometry e d) (r .at .0) ≡ true
 
 -- the writes of a sparing: the packet's bytes upward from sector p on, then a table's sector to the copies, those of sequence n last
 unfoldable pub sparingWrites : Disc → Geometry → ℕ → ℕ → List ℕ → List ℕ → List Write

@@ -1,6 +1,8 @@
 // Sparing a packet of a rewritable disc (document 01, "Calls and their sector writes"). The call examines what
 // it gets and refuses with the first line of document 01 that applies; a refusal leaves every lent byte as it
 // came. It has no requires.
+use address::LogicalAddress;
+use address::PhysicalAddress;
 use current::Judged;
 use model::Cut;
 use model::Record;
@@ -37,17 +39,17 @@ const PACKET: u32 = 32;
 // The most that a sequence can be.
 const LAST: u32 = 0xffffffff;
 
-// The mapped start of the free entry of lowest index, 0 where none is free. Inside the layers: line 11 has
+// The mapped start of the free entry of lowest index; where none is free it is nowhere. Inside the layers: line 11 has
 // been tested.
-fn free_place(table: &[u32], held: Record) -> u32
+fn free_place(table: &[u32], held: Record) -> PhysicalAddress
     requires { ⌜ 2 * countHeld held ≤ length (now table) ⌝ }
-    ensures { λ r. ⌜ r ≡ firstFree (freeOf (entriesLent (now (table .entry)) held)) ⌝ }
+    ensures { λ r. ⌜ r .0 ≡ firstFree (freeOf (entriesLent (now (table .entry)) held)) ⌝ }
 {
     let entries = current::entries_held(held);
     let free = sparing_table::first_free(table, entries);
     match free {
         FirstFree::At(m) => m,
-        FirstFree::Nothing => 0,
+        FirstFree::Nothing => copies::nowhere(),
     }
 }
 
@@ -65,14 +67,14 @@ fn has_free(table: &[u32], held: Record) -> bool
 }
 
 // Lines 12 and 17 to 20, of a volume of `count` tables. Inside the layers: line 11 has been tested.
-fn judge_sparing(count: u8, l: u32, table: &[u32], held: Record, b: u32) -> Verdict
+fn judge_sparing(count: u8, l: u32, table: &[u32], held: Record, b: LogicalAddress) -> Verdict
     requires { ⌜ 2 * countHeld held ≤ length (now table) ⌝ }
-    ensures { λ r. ⌜ ((e : Setting) (d : Disc) → e .span ≡ l → length (geometry e d .tables) ≡ count → entriesOn e d ≡ entriesLent (now (table .entry)) held → sequenceOn e d ≡ sequenceHeld held → r ≡ first (spareTests e d b)) ⌝ }
+    ensures { λ r. ⌜ ((e : Setting) (d : Disc) → e .span ≡ l → length (geometry e d .tables) ≡ count → entriesOn e d ≡ entriesLent (now (table .entry)) held → sequenceOn e d ≡ sequenceHeld held → r ≡ first (spareTests e d (b .0))) ⌝ }
 {
-    if b % PACKET != 0 {
+    if b.0 % PACKET != 0 {
         return Verdict::Stop(Refusal::NumberOutside);
     }
-    if l <= b {
+    if l <= b.0 {
         return Verdict::Stop(Refusal::NumberOutside);
     }
     if count < 2 {
@@ -101,27 +103,24 @@ fn judge_spare(
     l: u32,
     table: &[u32],
     held: Record,
-    b: u32,
+    b: LogicalAddress,
     packet: &[u8],
 ) -> Judged
-    ensures { λ r. ⌜ SparingJudgedAs (rewritableVerdict (setting (now (maps .entry)) s l) (discOf (now (disc .entry)) (now (marks .entry))) (now (table .entry)) (packetLent (now (table .entry)) (now (packet .entry))) held (spareTests (setting (now (maps .entry)) s l) (discOf (now (disc .entry)) (now (marks .entry))) b)) (setting (now (maps .entry)) s l) (discOf (now (disc .entry)) (now (marks .entry))) r ⌝ }
+    ensures { λ r. ⌜ SparingJudgedAs (rewritableVerdict (setting (now (maps .entry)) s l) (discOf (now (disc .entry)) (now (marks .entry))) (now (table .entry)) (packetLent (now (table .entry)) (now (packet .entry))) held (spareTests (setting (now (maps .entry)) s l) (discOf (now (disc .entry)) (now (marks .entry))) (b .0))) (setting (now (maps .entry)) s l) (discOf (now (disc .entry)) (now (marks .entry))) r ⌝ }
 {
     let lent = examine::are_lent(table, packet, PACKET_BYTES);
     let judged = current::judge(disc, marks, maps, s, l, table, lent, held);
     let verdict = judged.verdict;
-    let layout = judged.layout;
-    if let Verdict::Stop(why) = verdict {
-        return Judged {
-            verdict: Verdict::Stop(why),
-            layout,
-            at: 0,
-        };
+    if let Verdict::Stop(_) = verdict {
+        return judged;
     }
-    let own = judge_sparing(layout.count, l, table, held, b);
+    let layout = judged.layout;
+    let at = judged.at;
+    let own = judge_sparing(layout.count, layout.volume.span.length, table, held, b);
     Judged {
         verdict: own,
         layout,
-        at: judged.at,
+        at,
     }
 }
 
@@ -140,21 +139,21 @@ fn write_sparing(
     marks: &mut [u8],
     x: Layout,
     sequence: u32,
-    at: u32,
-    first: u32,
+    at: PhysicalAddress,
+    first: PhysicalAddress,
     packet: &[u8],
     sector: &[u8],
     cut: Cut,
 )
     requires { ⌜ (x .count ≤ 4) × (x .size ≤ 2048) ⌝ }
     requires { ⌜ (x .sectors ≡ length (now marks)) × TablesOn x ⌝ }
-    requires { ⌜ (at < length (now marks)) × (counts (discOf (now disc) (now marks)) (geometryIn x) at ≡ true) ⌝ }
-    requires { ⌜ (first + 32 ≤ length (now marks)) × (length (now disc) ≡ 2048 * length (now marks)) ⌝ }
+    requires { ⌜ (at .0 < length (now marks)) × (counts (discOf (now disc) (now marks)) (geometryIn x) (at .0) ≡ true) ⌝ }
+    requires { ⌜ (first .0 + 32 ≤ length (now marks)) × (length (now disc) ≡ 2048 * length (now marks)) × (length (now marks) ≤ 1048576) ⌝ }
     requires { ⌜ (length (now packet) ≡ 65536) × (length (now sector) ≡ 2048) ⌝ }
-    ensures { λ _. ⌜ discOf (now (disc .exit)) (now (marks .exit)) ≡ writes 1 cut (sparingWrites (discOf (now (disc .entry)) (now (marks .entry))) (geometryIn x) sequence first (now (packet .entry)) (now (sector .entry))) (discOf (now (disc .entry)) (now (marks .entry))) ⌝ }
+    ensures { λ _. ⌜ discOf (now (disc .exit)) (now (marks .exit)) ≡ writes 1 cut (sparingWrites (discOf (now (disc .entry)) (now (marks .entry))) (geometryIn x) sequence (first .0) (now (packet .entry)) (now (sector .entry))) (discOf (now (disc .entry)) (now (marks .entry))) ⌝ }
 {
     let places = packets::copy_order(disc, marks, x, sequence, at);
-    disc::write_upward(disc, marks, first as usize, PACKET as usize, packet, 1, cut);
+    disc::write_upward(disc, marks, first, PACKET, packet, 1, cut);
     packets::write_copies(
         disc,
         marks,
@@ -181,12 +180,14 @@ pub fn spare_packet(
 ) -> Reply
     ensures { λ r. ⌜ Meets (sparePlan (setting (now (maps .entry)) s l) (discOf (now (disc .entry)) (now (marks .entry))) (now (table .entry)) held b (now (packet .entry))) cut (discOf (now (disc .entry)) (now (marks .entry))) (now (table .entry)) r (discOf (now (disc .exit)) (now (marks .exit))) (now (table .exit)) ⌝ }
 {
+    let b = LogicalAddress(b);
     let judged = judge_spare(disc, marks, maps, s, l, table, held, b, packet);
     let verdict = judged.verdict;
     if let Verdict::Stop(why) = verdict {
         return Reply::Refused(why);
     }
     let layout = judged.layout;
+    let copy = judged.at;
     let entries = current::entries_held(held);
     let sequence = current::sequence_held(held);
     let next = next_sequence(sequence);
@@ -198,7 +199,7 @@ pub fn spare_packet(
         marks,
         layout,
         sequence,
-        judged.at,
+        copy,
         first,
         packet,
         &sector,

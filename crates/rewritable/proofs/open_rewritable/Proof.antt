@@ -55,16 +55,16 @@ part-fill-table-start c = search needs
 
 part-fill-table-end : tie.Need-part-fill-table-end
 part-fill-table-end c =
-    let z = c .before .before .before .before .before .before .before .before .before .before in
-    open-place (settingOf z) (discOf z) (z .args .table .now) (c .before .before .before .before .is-lent .ensures) (c .before .before .before .look .ensures) (c .before .enum-told .given .1) .0
+    let z = c .before .before .before .before .before .before .before .before .before .before .before in
+    open-place (settingOf z) (discOf z) (z .args .table .now) (c .before .before .before .before .before .is-lent .ensures) (c .before .before .before .before .look .ensures) (c .before .before .enum-told .given .1) .0
 
 fill-table-requires : tie.Need-fill-table-requires
 fill-table-requires c κs =
-    let z = c .before .before .before .before .before .before .before .before .before .before .before .before in
-    let q = c .before .before .before .before .before .before .is-lent .ensures in
-    let s = c .before .before .before .before .before .look .ensures in
-    let h = c .before .before .before .enum-told .given .1 in
-    let is = part-sector (z .args .disc .now) (z .args .marks .now) (c .before .before .before .before .before .look .result .at) in
+    let z = c .before .before .before .before .before .before .before .before .before .before .before .before .before in
+    let q = c .before .before .before .before .before .before .before .is-lent .ensures in
+    let s = c .before .before .before .before .before .before .look .ensures in
+    let h = c .before .before .before .before .enum-told .given .1 in
+    let is = part-sector (z .args .disc .now) (z .args .marks .now) (c .before .before .before .before .before .before .look .result .at .0) in
     let room = open-room (settingOf z) (discOf z) (z .args .table .now) q s h in (
       ap length is ∙ open-sector (settingOf z) (discOf z) (z .args .table .now) q s h,
       (omega (arith, ap countIn is, room .0), omega (arith, ap countIn is, room .1)),
@@ -75,9 +75,9 @@ same-length-2 c = search needs
 
 returns-2 : tie.Need-returns-2
 returns-2 c =
-    let z = c .before .before .before .before .before .before .before .before .before .before .before .before .before .before .before in
-    open-opened (settingOf z) (discOf z) (z .args .table .now) (c .before .before .before .before .before .before .before .before .before .is-lent .ensures) (c .before .before .before .before .before .before .before .before .look .ensures) (c .before .before .before .before .before .before .enum-told .given .1)
-    (part-sector (z .args .disc .now) (z .args .marks .now) (c .before .before .before .before .before .before .before .before .look .result .at))
+    let z = c .before .before .before .before .before .before .before .before .before .before .before .before .before .before .before .before in
+    open-opened (settingOf z) (discOf z) (z .args .table .now) (c .before .before .before .before .before .before .before .before .before .before .is-lent .ensures) (c .before .before .before .before .before .before .before .before .before .look .ensures) (c .before .before .before .before .before .before .before .enum-told .given .1)
+    (part-sector (z .args .disc .now) (z .args .marks .now) (c .before .before .before .before .before .before .before .before .before .look .result .at .0))
     (c .before .before .fill-table .ensures)
 
 pub open-rewritable-spec : {M : Type 1} → statement M

@@ -28,7 +28,7 @@ Saving z = SavesBlock (settingOf z) (discOf z) (z .args .table .now) (z .args .h
 safe : (c : tie.After-enum-told) → Saving (c .before .before .before .before .before .before .before .before .before .before)
 safe c =
     let z = c .before .before .before .before .before .before .before .before .before .before in
-    saves-block (settingOf z) (discOf z) (z .args .table .now) (z .args .held) (z .args .b) (z .args .block .now) (c .before .before .judge-block .ensures) (c .enum-told .given .1)
+    saves-block (settingOf z) (discOf z) (z .args .table .now) (z .args .held) (z .args .b) (z .args .block .now) (c .before .before .judge-block .ensures .verdict) (c .enum-told .given .1)
 
 -- its plan there
 abbrev Planning : tie.Start → Type 0
@@ -42,7 +42,11 @@ Planning z =
 plan : (c : tie.After-enum-told) → Planning (c .before .before .before .before .before .before .before .before .before .before)
 plan c =
     let z = c .before .before .before .before .before .before .before .before .before .before in
-    block-plan (settingOf z) (discOf z) (z .args .table .now) (z .args .held) (z .args .b) (z .args .block .now) (c .before .before .judge-block .ensures) (c .enum-told .given .1)
+    block-plan (settingOf z) (discOf z) (z .args .table .now) (z .args .held) (z .args .b) (z .args .block .now) (c .before .before .judge-block .ensures .verdict) (c .enum-told .given .1)
+
+-- where its packet is
+placed : (c : tie.After-enum-told) → let z = c .before .before .before .before .before .before .before .before .before .before in c .before .before .judge-block .result .first .0 ≡ placeOf (settingOf z) (discOf z) (packetOf (z .args .b))
+placed c = c .before .before .judge-block .ensures .place (c .enum-told .given .1)
 
 judge-block-requires : tie.Need-judge-block-requires
 judge-block-requires c κs = search needs
@@ -58,24 +62,16 @@ same-length-2 c = search needs
 
 returns : tie.Need-returns
 unfolding saveBlockPlan
-returns c = refused _ _ _ _ (unless-stop _ (sym (c .before .before .before .judge-block .ensures) ∙ c .before .verdict .given .1))
+returns c = refused _ _ _ _ (unless-stop _ (sym (c .before .before .before .judge-block .ensures .verdict) ∙ c .before .verdict .given .1))
 
 enum-told : tie.Need-enum-told
 enum-told c = search needs
 
-packet-place-requires : tie.Need-packet-place-requires
-packet-place-requires c κs = let h = safe c in (h .room, h .sum)
-
-cast-first : tie.Need-cast-first
-cast-first c = search needs
-
-cast-i : tie.Need-cast-i
-cast-i c = search needs
-
 write-block-requires : tie.Need-write-block-requires
 write-block-requires c κs =
-    let h = safe (c .before .before .before) in
-    ((omega (arith, h .on, c .before .before .packet-place .ensures, h .place), omega arith), (h .shape, h .whole))
+    let k = c .before .before .before .before in
+    let h = safe k in
+    ((omega (arith, h .on, placed k), omega arith, h .most), (h .shape, h .whole))
 
 is-struck-requires : tie.Need-is-struck-requires
 is-struck-requires c κs = search needs
@@ -88,9 +84,9 @@ same-length-4 c = search needs
 
 returns-2 : tie.Need-returns-2
 returns-2 c =
-    let z = c .before .before .before .before .before .before .before .before .before .before .before .before .before .before .before .before .before .before .before .before in
-    cut-short _ _ _ _ (plan (c .before .before .before .before .before .before .before .before .before .before)) (packet-struck _ _ _ (c .before .is-struck .ensures) (c .if1 .taken))
-    (block-written _ (settingOf z) (discOf z) (z .args .table .now) (z .args .held) (z .args .b) (z .args .block .now) (safe (c .before .before .before .before .before .before .before .before .before .before)) (c .before .before .before .before .before .before .before .before .before .packet-place .ensures) (c .before .before .before .before .before .before .write-block .ensures))
+    let z = c .before .before .before .before .before .before .before .before .before .before .before .before .before .before .before .before .before .before .before .before .before in
+    cut-short _ _ _ _ (plan (c .before .before .before .before .before .before .before .before .before .before .before)) (packet-struck _ _ _ (c .before .is-struck .ensures) (c .if1 .taken))
+    (block-written _ (settingOf z) (discOf z) (z .args .b) (z .args .block .now) (placed (c .before .before .before .before .before .before .before .before .before .before .before)) (c .before .before .before .before .before .before .write-block .ensures))
 
 same-length-5 : tie.Need-same-length-5
 same-length-5 c = search needs
@@ -100,9 +96,9 @@ same-length-6 c = search needs
 
 returns-3 : tie.Need-returns-3
 returns-3 c =
-    let z = c .before .before .before .before .before .before .before .before .before .before .before .before .before .before .before .before .before .before .before .before in
-    carried _ _ _ _ (plan (c .before .before .before .before .before .before .before .before .before .before)) (packet-struck _ _ _ (c .before .is-struck .ensures) (c .if1 .left))
-    (block-written _ (settingOf z) (discOf z) (z .args .table .now) (z .args .held) (z .args .b) (z .args .block .now) (safe (c .before .before .before .before .before .before .before .before .before .before)) (c .before .before .before .before .before .before .before .before .before .packet-place .ensures) (c .before .before .before .before .before .before .write-block .ensures))
+    let z = c .before .before .before .before .before .before .before .before .before .before .before .before .before .before .before .before .before .before .before .before .before in
+    carried _ _ _ _ (plan (c .before .before .before .before .before .before .before .before .before .before .before)) (packet-struck _ _ _ (c .before .is-struck .ensures) (c .if1 .left))
+    (block-written _ (settingOf z) (discOf z) (z .args .b) (z .args .block .now) (placed (c .before .before .before .before .before .before .before .before .before .before .before)) (c .before .before .before .before .before .before .write-block .ensures))
     refl
     refl
 
@@ -116,9 +112,6 @@ save-block-spec =
     same-length-2
     returns
     enum-told
-    packet-place-requires
-    cast-first
-    cast-i
     write-block-requires
     is-struck-requires
     same-length-3

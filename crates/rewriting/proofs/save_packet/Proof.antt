@@ -26,7 +26,7 @@ Saving z = SavesPacket (settingOf z) (discOf z) (z .args .table .now) (z .args .
 safe : (c : tie.After-enum-told) → Saving (c .before .before .before .before .before .before .before .before .before .before)
 safe c =
     let z = c .before .before .before .before .before .before .before .before .before .before in
-    saves-packet (settingOf z) (discOf z) (z .args .table .now) (z .args .held) (z .args .b) (z .args .packet .now) (c .before .before .judge-packet .ensures) (c .enum-told .given .1)
+    saves-packet (settingOf z) (discOf z) (z .args .table .now) (z .args .held) (z .args .b) (z .args .packet .now) (c .before .before .judge-packet .ensures .verdict) (c .enum-told .given .1)
 
 -- its plan there
 abbrev Planning : tie.Start → Type 0
@@ -37,7 +37,11 @@ Planning z =
 plan : (c : tie.After-enum-told) → Planning (c .before .before .before .before .before .before .before .before .before .before)
 plan c =
     let z = c .before .before .before .before .before .before .before .before .before .before in
-    packet-plan (settingOf z) (discOf z) (z .args .table .now) (z .args .held) (z .args .b) (z .args .packet .now) (c .before .before .judge-packet .ensures) (c .enum-told .given .1)
+    packet-plan (settingOf z) (discOf z) (z .args .table .now) (z .args .held) (z .args .b) (z .args .packet .now) (c .before .before .judge-packet .ensures .verdict) (c .enum-told .given .1)
+
+-- where its packet is
+placed : (c : tie.After-enum-told) → let z = c .before .before .before .before .before .before .before .before .before .before in c .before .before .judge-packet .result .first .0 ≡ placeOf (settingOf z) (discOf z) (z .args .b)
+placed c = c .before .before .judge-packet .ensures .place (c .enum-told .given .1)
 
 judge-packet-requires : tie.Need-judge-packet-requires
 judge-packet-requires c κs = search needs
@@ -53,24 +57,16 @@ same-length-2 c = search needs
 
 returns : tie.Need-returns
 unfolding savePacketPlan
-returns c = refused _ _ _ _ (unless-stop _ (sym (c .before .before .before .judge-packet .ensures) ∙ c .before .verdict .given .1))
+returns c = refused _ _ _ _ (unless-stop _ (sym (c .before .before .before .judge-packet .ensures .verdict) ∙ c .before .verdict .given .1))
 
 enum-told : tie.Need-enum-told
 enum-told c = search needs
 
-packet-place-requires : tie.Need-packet-place-requires
-packet-place-requires c κs = let h = safe c in (h .room, h .sum)
-
-cast-first : tie.Need-cast-first
-cast-first c = search needs
-
-cast-write-upward : tie.Need-cast-write-upward
-cast-write-upward c = search needs
-
 write-upward-requires : tie.Need-write-upward-requires
 write-upward-requires c κs =
-    let h = safe (c .before .before .before) in
-    (omega (arith, h .on, c .before .before .packet-place .ensures, h .place), (h .shape, (h .whole, omega arith)))
+    let k = c .before .before .before in
+    let h = safe k in
+    ((omega (arith, h .on, placed k), h .most), (h .shape, (h .whole, omega arith)))
 
 is-struck-requires : tie.Need-is-struck-requires
 is-struck-requires c κs = search needs
@@ -85,7 +81,7 @@ returns-2 : tie.Need-returns-2
 returns-2 c =
     let z = c .before .before .before .before .before .before .before .before .before .before .before .before .before .before .before .before .before .before .before .before in
     cut-short _ _ _ _ (plan (c .before .before .before .before .before .before .before .before .before .before)) (packet-struck _ _ _ (c .before .is-struck .ensures) (c .if1 .taken))
-    (packet-written _ (settingOf z) (discOf z) (z .args .table .now) (z .args .held) (z .args .b) (z .args .packet .now) (safe (c .before .before .before .before .before .before .before .before .before .before)) (c .before .before .before .before .before .before .before .before .before .packet-place .ensures) (c .before .before .before .before .before .before .write-upward .ensures))
+    (packet-written _ (settingOf z) (discOf z) (z .args .b) (z .args .packet .now) (placed (c .before .before .before .before .before .before .before .before .before .before)) (c .before .before .before .before .before .before .write-upward .ensures))
 
 same-length-5 : tie.Need-same-length-5
 same-length-5 c = search needs
@@ -97,7 +93,7 @@ returns-3 : tie.Need-returns-3
 returns-3 c =
     let z = c .before .before .before .before .before .before .before .before .before .before .before .before .before .before .before .before .before .before .before .before in
     carried _ _ _ _ (plan (c .before .before .before .before .before .before .before .before .before .before)) (packet-struck _ _ _ (c .before .is-struck .ensures) (c .if1 .left))
-    (packet-written _ (settingOf z) (discOf z) (z .args .table .now) (z .args .held) (z .args .b) (z .args .packet .now) (safe (c .before .before .before .before .before .before .before .before .before .before)) (c .before .before .before .before .before .before .before .before .before .packet-place .ensures) (c .before .before .before .before .before .before .write-upward .ensures))
+    (packet-written _ (settingOf z) (discOf z) (z .args .b) (z .args .packet .now) (placed (c .before .before .before .before .before .before .before .before .before .before)) (c .before .before .before .before .before .before .write-upward .ensures))
     refl
     refl
 
@@ -111,9 +107,6 @@ save-packet-spec =
     same-length-2
     returns
     enum-told
-    packet-place-requires
-    cast-first
-    cast-write-upward
     write-upward-requires
     is-struck-requires
     same-length-3

@@ -16,11 +16,14 @@ enum-known-free c = search needs
 enum-told : tie.Need-enum-told
 enum-told c = search needs
 
+nowhere-requires : tie.Need-nowhere-requires
+nowhere-requires c κs = search needs
+
 returns : tie.Need-returns
 returns c = let z = c .before .before .before .before .before .before in free-at (z .args .table .now) (z .args .held) (c .before .before .before .before .entries-held .ensures) (c .before .before .before .first-free .ensures) (c .before .free .given .1)
 
 returns-2 : tie.Need-returns-2
-returns-2 c = let z = c .before .before .before .before .before in free-nowhere (z .args .table .now) (z .args .held) (c .before .before .before .entries-held .ensures) (c .before .before .first-free .ensures) (c .enum-told .given .1)
+returns-2 c = let z = c .before .before .before .before .before .before in free-nowhere (z .args .table .now) (z .args .held) (c .before .before .before .before .entries-held .ensures) (c .before .before .before .first-free .ensures) (c .nowhere .ensures) (c .before .enum-told .given .1)
 
 pub free-place-spec : {M : Type 1} → statement M
-free-place-spec = tie.close (tie.spec entries-held-requires first-free-requires enum-known-free enum-told returns returns-2)
+free-place-spec = tie.close (tie.spec entries-held-requires first-free-requires enum-known-free enum-told nowhere-requires returns returns-2)

@@ -48,14 +48,14 @@ plan c =
     spare-plan (settingOf z) (discOf z) (z .args .table .now) (z .args .held) (z .args .b) (z .args .packet .now) (c .before .before .judge-spare .ensures .judged .verdict) (c .enum-told .given .1)
 
 -- the table's sector
-written : (c : tie.After-write-spared) → c .write-spared .last .0 ≡ writtenTable (sequenceOn (settingOf (c .before .before .before .before .before .before .before .before .before .before .before .before .before .before .before .before .before .before .before .before)) (discOf (c .before .before .before .before .before .before .before .before .before .before .before .before .before .before .before .before .before .before .before .before)) + 1) (sparedTable (settingOf (c .before .before .before .before .before .before .before .before .before .before .before .before .before .before .before .before .before .before .before .before)) (discOf (c .before .before .before .before .before .before .before .before .before .before .before .before .before .before .before .before .before .before .before .before)) (c .before .before .before .before .before .before .before .before .before .before .before .before .before .before .before .before .before .before .before .before .args .b))
+written : (c : tie.After-write-spared) → c .write-spared .last .0 ≡ writtenTable (sequenceOn (settingOf (c .before .before .before .before .before .before .before .before .before .before .before .before .before .before .before .before .before .before .before .before .before)) (discOf (c .before .before .before .before .before .before .before .before .before .before .before .before .before .before .before .before .before .before .before .before .before)) + 1) (sparedTable (settingOf (c .before .before .before .before .before .before .before .before .before .before .before .before .before .before .before .before .before .before .before .before .before)) (discOf (c .before .before .before .before .before .before .before .before .before .before .before .before .before .before .before .before .before .before .before .before .before)) (c .before .before .before .before .before .before .before .before .before .before .before .before .before .before .before .before .before .before .before .before .before .args .b))
 written c =
-    let z = c .before .before .before .before .before .before .before .before .before .before .before .before .before .before .before .before .before .before .before .before in
-    spare-sector (settingOf z) (discOf z) (z .args .table .now) (z .args .held) (z .args .b) (z .args .packet .now) _ (safe (c .before .before .before .before .before .before .before .before .before)) (c .before .before .before .before .before .before .before .entries-held .ensures) (c .before .before .before .before .before .before .sequence-held .ensures) (c .before .before .before .before .before .next-sequence .ensures .0) (c .write-spared .ensures)
+    let z = c .before .before .before .before .before .before .before .before .before .before .before .before .before .before .before .before .before .before .before .before .before in
+    spare-sector (settingOf z) (discOf z) (z .args .table .now) (z .args .held) (z .args .b) (z .args .packet .now) _ (safe (c .before .before .before .before .before .before .before .before .before .before)) (c .before .before .before .before .before .before .before .entries-held .ensures) (c .before .before .before .before .before .before .sequence-held .ensures) (c .before .before .before .before .before .next-sequence .ensures .0) (c .write-spared .ensures)
 
 -- the next sequence is one
-small : (c : tie.After-write-spared) → sequenceOn (settingOf (c .before .before .before .before .before .before .before .before .before .before .before .before .before .before .before .before .before .before .before .before)) (discOf (c .before .before .before .before .before .before .before .before .before .before .before .before .before .before .before .before .before .before .before .before)) + 1 < 4294967296
-small c = omega (arith, c .before .before .before .before .before .next-sequence .ensures .1, c .before .before .before .before .before .before .sequence-held .ensures, safe (c .before .before .before .before .before .before .before .before .before) .sequence)
+small : (c : tie.After-write-spared) → sequenceOn (settingOf (c .before .before .before .before .before .before .before .before .before .before .before .before .before .before .before .before .before .before .before .before .before)) (discOf (c .before .before .before .before .before .before .before .before .before .before .before .before .before .before .before .before .before .before .before .before .before)) + 1 < 4294967296
+small c = omega (arith, c .before .before .before .before .before .next-sequence .ensures .1, c .before .before .before .before .before .before .sequence-held .ensures, safe (c .before .before .before .before .before .before .before .before .before .before) .sequence)
 
 judge-spare-requires : tie.Need-judge-spare-requires
 judge-spare-requires c κs = search needs
@@ -86,18 +86,18 @@ sequence-held-requires : tie.Need-sequence-held-requires
 sequence-held-requires c κs = search needs
 
 next-sequence-requires : tie.Need-next-sequence-requires
-next-sequence-requires c κs = λ q. safe (c .before .before .before) .last (sym (c .sequence-held .ensures) ∙ q)
+next-sequence-requires c κs = λ q. safe (c .before .before .before .before) .last (sym (c .sequence-held .ensures) ∙ q)
 
 free-place-requires : tie.Need-free-place-requires
-free-place-requires c κs = safe (c .before .before .before .before .before) .room
+free-place-requires c κs = safe (c .before .before .before .before .before .before) .room
 
 slice-aggregate-write-spared : tie.Need-slice-aggregate-write-spared
 slice-aggregate-write-spared c = search needs
 
 write-spared-requires : tie.Need-write-spared-requires
 write-spared-requires c κs =
-    let z = c .before .before .before .before .before .before .before .before .before .before .before .before .before .before .before .before .before .before .before in
-    let h = safe (c .before .before .before .before .before .before .before .before) in
+    let z = c .before .before .before .before .before .before .before .before .before .before .before .before .before .before .before .before .before .before .before .before in
+    let h = safe (c .before .before .before .before .before .before .before .before .before) in
     let n = c .before .before .before .before .before .before .entries-held .ensures in
     (refl, (spare-asks (settingOf z) (discOf z) (z .args .table .now) (z .args .held) (z .args .b) (z .args .packet .now) _ h n, (spare-whole (settingOf z) (discOf z) (z .args .table .now) (z .args .held) (z .args .b) (z .args .packet .now) _ h n, spare-some (settingOf z) (discOf z) (z .args .table .now) (z .args .held) (z .args .b) (z .args .packet .now) _ h n)))
 
@@ -106,10 +106,10 @@ slice-aggregate-write-sparing c = search needs
 
 write-sparing-requires : tie.Need-write-sparing-requires
 write-sparing-requires c κs =
-    let z = c .before .before .before .before .before .before .before .before .before .before .before .before .before .before .before .before .before .before .before .before .before .before .before .before in
-    let h = safe (c .before .before .before .before .before .before .before .before .before .before .before .before .before) in
+    let z = c .before .before .before .before .before .before .before .before .before .before .before .before .before .before .before .before .before .before .before .before .before .before .before .before .before in
+    let h = safe (c .before .before .before .before .before .before .before .before .before .before .before .before .before .before) in
     let x = h .laid in
-    ((x .few, x .size), ((x .sectors, x .on), ((h .place, h .counted), ((spare-on (settingOf z) (discOf z) (z .args .table .now) (z .args .held) (z .args .b) (z .args .packet .now) _ h (c .before .before .before .before .before .before .before .free-place .ensures), h .shape), (h .bytes, c .before .before .before .before .write-spared .kept .0)))))
+    ((x .few, x .size), ((x .sectors, x .on), ((h .place, h .counted), ((spare-on (settingOf z) (discOf z) (z .args .table .now) (z .args .held) (z .args .b) (z .args .packet .now) _ h (c .before .before .before .before .before .before .before .free-place .ensures), h .shape, h .most), (h .bytes, c .before .before .before .before .write-spared .kept .0)))))
 
 cast-is-struck : tie.Need-cast-is-struck
 cast-is-struck c = search needs
@@ -131,9 +131,9 @@ same-length-6 c = search needs
 
 returns-2 : tie.Need-returns-2
 returns-2 c =
-    let z = c .before .before .before .before .before .before .before .before .before .before .before .before .before .before .before .before .before .before .before .before .before .before .before .before .before .before .before .before .before .before .before .before in
-    let h = safe (c .before .before .before .before .before .before .before .before .before .before .before .before .before .before .before .before .before .before .before .before .before) in
-    cut-short _ _ _ _ (plan (c .before .before .before .before .before .before .before .before .before .before .before .before .before .before .before .before .before .before .before .before .before)) (spare-struck (settingOf z) (discOf z) (z .args .table .now) (z .args .held) (z .args .b) (z .args .packet .now) _ h _ (c .before .is-struck .ensures) (c .if1 .taken))
+    let z = c .before .before .before .before .before .before .before .before .before .before .before .before .before .before .before .before .before .before .before .before .before .before .before .before .before .before .before .before .before .before .before .before .before in
+    let h = safe (c .before .before .before .before .before .before .before .before .before .before .before .before .before .before .before .before .before .before .before .before .before .before) in
+    cut-short _ _ _ _ (plan (c .before .before .before .before .before .before .before .before .before .before .before .before .before .before .before .before .before .before .before .before .before .before)) (spare-struck (settingOf z) (discOf z) (z .args .table .now) (z .args .held) (z .args .b) (z .args .packet .now) _ h _ (c .before .is-struck .ensures) (c .if1 .taken))
     (spare-written (settingOf z) (discOf z) (z .args .table .now) (z .args .held) (z .args .b) (z .args .packet .now) _ h _ (c .before .before .before .before .before .before .before .before .before .before .before .before .before .before .before .before .before .before .sequence-held .ensures) (c .before .before .before .before .before .before .before .before .before .before .before .before .before .before .before .free-place .ensures) (written (c .before .before .before .before .before .before .before .before .before .before .before .before)) (c .before .before .before .before .before .before .before .write-sparing .ensures))
 
 slice-aggregate-fill-table : tie.Need-slice-aggregate-fill-table
@@ -141,8 +141,8 @@ slice-aggregate-fill-table c = search needs
 
 fill-table-requires : tie.Need-fill-table-requires
 fill-table-requires c κs =
-    let z = c .before .before .before .before .before .before .before .before .before .before .before .before .before .before .before .before .before .before .before .before .before .before .before .before .before .before .before .before .before .before .before .before .before .before in
-    (c .before .before .before .before .before .before .before .before .before .before .before .before .before .before .write-spared .kept .0, spare-room (settingOf z) (discOf z) (z .args .table .now) (z .args .held) (z .args .b) (z .args .packet .now) _ (safe (c .before .before .before .before .before .before .before .before .before .before .before .before .before .before .before .before .before .before .before .before .before .before .before)) (written (c .before .before .before .before .before .before .before .before .before .before .before .before .before .before)) (small (c .before .before .before .before .before .before .before .before .before .before .before .before .before .before)))
+    let z = c .before .before .before .before .before .before .before .before .before .before .before .before .before .before .before .before .before .before .before .before .before .before .before .before .before .before .before .before .before .before .before .before .before .before .before in
+    (c .before .before .before .before .before .before .before .before .before .before .before .before .before .before .write-spared .kept .0, spare-room (settingOf z) (discOf z) (z .args .table .now) (z .args .held) (z .args .b) (z .args .packet .now) _ (safe (c .before .before .before .before .before .before .before .before .before .before .before .before .before .before .before .before .before .before .before .before .before .before .before .before)) (written (c .before .before .before .before .before .before .before .before .before .before .before .before .before .before)) (small (c .before .before .before .before .before .before .before .before .before .before .before .before .before .before)))
 
 same-length-7 : tie.Need-same-length-7
 same-length-7 c = search needs
@@ -155,9 +155,9 @@ same-length-9 c = search needs
 
 returns-3 : tie.Need-returns-3
 returns-3 c =
-    let z = c .before .before .before .before .before .before .before .before .before .before .before .before .before .before .before .before .before .before .before .before .before .before .before .before .before .before .before .before .before .before .before .before .before .before .before .before .before in
-    let h = safe (c .before .before .before .before .before .before .before .before .before .before .before .before .before .before .before .before .before .before .before .before .before .before .before .before .before .before) in
-    carried _ _ _ _ (plan (c .before .before .before .before .before .before .before .before .before .before .before .before .before .before .before .before .before .before .before .before .before .before .before .before .before .before)) (spare-struck (settingOf z) (discOf z) (z .args .table .now) (z .args .held) (z .args .b) (z .args .packet .now) _ h _ (c .before .before .before .before .before .before .is-struck .ensures) (c .before .before .before .before .before .if1 .left))
+    let z = c .before .before .before .before .before .before .before .before .before .before .before .before .before .before .before .before .before .before .before .before .before .before .before .before .before .before .before .before .before .before .before .before .before .before .before .before .before .before in
+    let h = safe (c .before .before .before .before .before .before .before .before .before .before .before .before .before .before .before .before .before .before .before .before .before .before .before .before .before .before .before) in
+    carried _ _ _ _ (plan (c .before .before .before .before .before .before .before .before .before .before .before .before .before .before .before .before .before .before .before .before .before .before .before .before .before .before .before)) (spare-struck (settingOf z) (discOf z) (z .args .table .now) (z .args .held) (z .args .b) (z .args .packet .now) _ h _ (c .before .before .before .before .before .before .is-struck .ensures) (c .before .before .before .before .before .if1 .left))
     (spare-written (settingOf z) (discOf z) (z .args .table .now) (z .args .held) (z .args .b) (z .args .packet .now) _ h _ (c .before .before .before .before .before .before .before .before .before .before .before .before .before .before .before .before .before .before .before .before .before .before .before .sequence-held .ensures) (c .before .before .before .before .before .before .before .before .before .before .before .before .before .before .before .before .before .before .before .before .free-place .ensures) (written (c .before .before .before .before .before .before .before .before .before .before .before .before .before .before .before .before .before)) (c .before .before .before .before .before .before .before .before .before .before .before .before .write-sparing .ensures))
     (spare-record (settingOf z) (discOf z) (z .args .table .now) (z .args .held) (z .args .b) (z .args .packet .now) _ h (c .before .before .before .before .before .before .before .before .before .before .before .before .before .before .before .before .before .before .before .before .before .before .before .before .entries-held .ensures) (c .before .before .before .before .before .before .before .before .before .before .before .before .before .before .before .before .before .before .before .before .before .before .before .sequence-held .ensures) (c .before .before .before .before .before .before .before .before .before .before .before .before .before .before .before .before .before .before .before .before .before .before .next-sequence .ensures .0))
     (spare-filled (settingOf z) (discOf z) (z .args .table .now) (z .args .held) (z .args .b) (z .args .packet .now) _ h (written (c .before .before .before .before .before .before .before .before .before .before .before .before .before .before .before .before .before)) (small (c .before .before .before .before .before .before .before .before .before .before .before .before .before .before .before .before .before)) (c .before .before .fill-table .ensures))

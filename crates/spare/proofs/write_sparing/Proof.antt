@@ -5,6 +5,7 @@ use native.Mathlib.Omega.{arith}
 use borrow.Author.Needs.{needs}
 use Rattle.model.specs.Disc.{disc}
 use Rattle.sparing.specs.Layout.{geometryIn}
+use Rattle.packets.specs.Order.{numbersOf}
 use Rattle.spare.proofs.Spares.{sparing-written}
 use Rattle.spare.proofs.write_sparing.Statement.{statement}
 use Rattle.spare.proofs.write_sparing.Tie as tie
@@ -12,11 +13,8 @@ use Rattle.spare.proofs.write_sparing.Tie as tie
 copy-order-requires : tie.Need-copy-order-requires
 copy-order-requires c κs = let p = c .before .before .before .before .before .before .pre in (p .0, (p .1 .1 .1 .0 .1, (p .1 .0, p .1 .1 .0)))
 
-cast-write-upward : tie.Need-cast-write-upward
-cast-write-upward c = search needs
-
 write-upward-requires : tie.Need-write-upward-requires
-write-upward-requires c κs = let p = c .before .before .before .before .before .before .before .before .before .pre in (p .1 .1 .1 .0 .0, (p .1 .1 .1 .0 .1, (p .1 .1 .1 .1 .0, omega arith)))
+write-upward-requires c κs = let p = c .before .before .before .before .before .before .before .before .before .pre in ((p .1 .1 .1 .0 .0, p .1 .1 .1 .0 .2), (p .1 .1 .1 .0 .1, (p .1 .1 .1 .1 .0, omega arith)))
 
 cast-write-copies : tie.Need-cast-write-copies
 cast-write-copies c = search needs
@@ -39,14 +37,13 @@ same-length-2 c = search needs
 returns : tie.Need-returns
 returns c =
     let z = c .before .before .before .before .before .before .before .before .before .before .before .before .before .before .before .before .before .before .before .before .before .before in
-    sparing-written _ (disc (z .args .disc .now) (z .args .marks .now)) _ _ (geometryIn (z .args .x)) (z .args .sequence) (z .args .first) (z .args .x .count) _ _ (c .before .before .before .before .before .before .before .before .before .before .before .before .before .before .before .copy-order .result) (c .before .before .before .before .before .before .before .before .before .before .before .before .write-upward .ensures) (c .before .before .before .before .before .before .before .before .before .before .before .before .before .before .before .copy-order .ensures .0) (c .before .before .before .before .write-copies .ensures)
+    sparing-written _ (disc (z .args .disc .now) (z .args .marks .now)) _ _ (geometryIn (z .args .x)) (z .args .sequence) (z .args .first .0) (z .args .x .count) _ _ (numbersOf (c .before .before .before .before .before .before .before .before .before .before .before .before .before .before .before .copy-order .result)) (c .before .before .before .before .before .before .before .before .before .before .before .before .write-upward .ensures) (c .before .before .before .before .before .before .before .before .before .before .before .before .before .before .before .copy-order .ensures .0) (c .before .before .before .before .write-copies .ensures)
 
 pub write-sparing-spec : {M : Type 1} → statement M
 write-sparing-spec =
     tie.close
     (tie.spec
     copy-order-requires
-    cast-write-upward
     write-upward-requires
     cast-write-copies
     add-write-copies
