@@ -105,7 +105,7 @@ fn verify_goes_through_a_shelf() {
     make_rewritable(&folder, "r.img");
     let (status, out, err) = folder.run(&["verify", "d.img", "r.img"]);
     assert_eq!((status, err.as_str()), (0, ""));
-    has(&out, "d.img clean: write-once, blocks 2 used, 1 unused, 9.8 % full");
+    has(&out, "d.img clean: write-once, 2 blocks used and 1 unused, 9.8 % full");
     has(&out, "r.img clean: rewritable, 64 blocks, 0 of 2 spares used");
     has(&out, "2 images: 2 clean");
     // not clean: blocks that cannot be read, copies that are not current, what was passed over, what does not open, what is not there
@@ -121,7 +121,7 @@ fn verify_goes_through_a_shelf() {
     folder.write("m.img.marks", b"tuormik marks\nrecorded 0 299\nunreadable 296 1\n");
     let (status, out, err) = folder.run(&["verify", "d.img", "r.img", "e.img", "f.img", "m.img", "g.img"]);
     assert_eq!((status, err.as_str()), (1, ""));
-    has(&out, "d.img clean: write-once, blocks 2 used, 1 unused, 9.8 % full");
+    has(&out, "d.img clean: write-once, 2 blocks used and 1 unused, 9.8 % full");
     has(
         &out,
         "r.img NOT CLEAN: the copies of the sparing table in sectors 32 and 64 are not current; 1 block cannot be read: block 8 (sector 296, \

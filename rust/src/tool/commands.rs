@@ -5,7 +5,7 @@ use super::commits::{self, chain};
 use super::media::Layout;
 use super::passed::{need_force, Passed};
 use super::picture::Picture;
-use super::progress::Progress;
+use super::progress::{Progress, Waiting};
 use super::refused::{self, Asked};
 use super::report::commit_row;
 use super::states::View;
@@ -30,6 +30,7 @@ pub fn known(args: &Args, own: &[&str]) -> Done {
 
 /// The image of a path, with the marks and the volume that the options give.
 pub fn load(args: &Args, path: &Path) -> Result<Image, Failure> {
+    let _waiting = Waiting::new(format!("reading {}", path.display()));
     Image::load(path, args.path("--marks"), |bytes| args.volume(bytes))
 }
 
@@ -42,6 +43,7 @@ fn load_next(args: &mut Args) -> Result<Image, Failure> {
 /// The same, to be stored: it is locked from here on.
 fn load_to_write(args: &mut Args) -> Result<Image, Failure> {
     let path = args.next_path("IMAGE")?;
+    let _waiting = Waiting::new(format!("reading {}", path.display()));
     Image::load_to_write(&path, args.path("--marks"), |bytes| args.volume(bytes))
 }
 
@@ -201,16 +203,21 @@ fn effect_name(effect: Effect) -> &'static str {
     }
 }
 
+fn store(image: &mut Image) -> Done {
+    let _waiting = Waiting::new("storing the image".to_string());
+    Ok(image.store()?)
+}
+
 /// Stores the image once a call is done, and where the power was to fail in it too: then it is the disc as the cut left it.
 fn finish(image: &mut Image, answer: Result<String, Failure>, cut: Cut, out: &mut dyn Write) -> Done {
     match answer {
         Ok(words) => {
-            image.store()?;
+            store(image)?;
             writeln!(out, "{words}")?;
             Ok(())
         }
         Err(Failure::Cut(call)) => {
-            image.store()?;
+            store(image)?;
             let (at, effect) = (grouped(cut.at), effect_name(cut.effect));
             Err(Failure::Cut(format!(
                 "the power failed at write {at} of {call}, which became {effect}; the image was stored as the cut left it"
@@ -383,7 +390,7 @@ pub fn make(args: &mut Args, out: &mut dyn Write) -> Done {
     let mut disc = image.disc();
     disc.make(&spares).map_err(|error| refused::by_making(disc.to_read(), &spares, error))?;
     let is_described = !args.has("--no-descriptors") && describe(&mut image, partition);
-    image.store()?;
+    store(&mut image)?;
     writeln!(out, "made {}: {}, S {}, L {}", path.display(), counted(sectors as usize, "sector"), grouped(start), grouped(length))?;
     if !is_described {
         writeln!(out, "it has no descriptors: give S, L and the kind to the other commands by hand")?;

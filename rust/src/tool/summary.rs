@@ -258,7 +258,9 @@ impl Opened {
     pub fn gist(&self) -> String {
         match self {
             Opened::WriteOnce { entries, used, per_mille, .. } => {
-                format!("write-once, blocks {}, {}.{} % full", blocks_words(*entries as usize, *used), per_mille / 10, per_mille % 10)
+                let unused = *entries as usize - used;
+                let also = if unused > 0 { format!(" and {} unused", grouped(unused)) } else { String::new() };
+                format!("write-once, {} used{also}, {}.{} % full", counted(*used, "block"), per_mille / 10, per_mille % 10)
             }
             Opened::Rewritable { blocks, entries, used, .. } => {
                 format!(
