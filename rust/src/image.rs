@@ -332,10 +332,10 @@ fn need_replaceable(path: &Path) -> Result<(), Error> {
 fn read_image<E: From<Error>>(pair: Pair, must_have_marks: bool, find: impl FnOnce(&[u8]) -> Result<Volume, E>) -> Result<Image, E> {
     let contents = journal::read_pair(&System, &pair)?;
     let wrong = |words: String| Error::wrong(&pair.image, words);
-    let mut bytes = contents.image.ok_or_else(|| Error::file(&pair.image, ErrorKind::NotFound.into()))?;
+    let mut bytes = contents.image.ok_or_else(|| wrong("there is no such file".into()))?;
     need_sectors(bytes.len()).map_err(wrong)?;
     if must_have_marks && contents.marks.is_none() {
-        return Err(Error::file(&pair.marks, ErrorKind::NotFound.into()).into());
+        return Err(Error::wrong(&pair.marks, "there is no such file").into());
     }
     let (volume, sectors) = (find(&bytes)?, bytes.len() / SECTOR);
     need_whole(&volume, sectors).map_err(wrong)?;
@@ -356,15 +356,11 @@ fn read_image<E: From<Error>>(pair: Pair, must_have_marks: bool, find: impl FnOn
 fn need_sectors(length: usize) -> Result<(), String> {
     match length {
         0 => Err("it is empty: a disc has one sector at least".into()),
-        _ if length >= MOST_BYTES => {
-            Err(format!("it has more than {} bytes, and so more sectors than a disc of 1,048,576", grouped(MOST_BYTES - 1)))
+        _ if length >= MOST_BYTES => Err(format!("it has more than {} bytes, the most that a disc has", grouped(MOST_BYTES - 1))),
+        _ if !length.is_multiple_of(SECTOR) => {
+            let (sectors, rest) = (grouped(length / SECTOR), grouped(length % SECTOR));
+            Err(format!("its {} bytes are no multiple of 2,048: {sectors} sectors and {rest} bytes", grouped(length)))
         }
-        _ if !length.is_multiple_of(SECTOR) => Err(format!(
-            "its {} bytes are no multiple of 2,048: {} sectors and {} bytes",
-            grouped(length),
-            grouped(length / SECTOR),
-            grouped(length % SECTOR)
-        )),
         _ => Ok(()),
     }
 }
@@ -380,11 +376,8 @@ fn need_whole(volume: &Volume, sectors: usize) -> Result<(), String> {
     let end = tables.iter().map(|&table| u64::from(table) + PACKET as u64).fold(start + length, u64::max);
     // what is not aligned, or on no disc, the layer turns down
     if is_aligned && (sectors as u64) < end && end <= MOST_SECTORS as u64 {
-        return Err(format!(
-            "it has {} sectors, and its partition and sparing tables end at {}: the rest was cut off",
-            grouped(sectors),
-            grouped(end)
-        ));
+        let (sectors, end) = (grouped(sectors), grouped(end));
+        return Err(format!("it has {sectors} sectors, and its partition and sparing tables end at {end}: the rest was cut off"));
     }
     Ok(())
 }

@@ -4,7 +4,7 @@
 use std::os::unix::fs::PermissionsExt;
 use std::path::{Path, PathBuf};
 use std::process::{Child, Command, Output, Stdio};
-use tuormik::descriptors::find_volume;
+use tuormik::descriptors::{find_volume, Volume};
 use tuormik::image::{Error, Image, MARKS_FORMAT};
 
 /// A folder of one test.
@@ -112,7 +112,6 @@ fn two_tools_at_once_lose_nothing() {
 #[test]
 fn who_holds_an_image_is_named() {
     let folder = Folder::with_disc("held");
-    let find = |bytes: &[u8]| find_volume(bytes).map_err(|words| Error::Wrong { path: "d.img".into(), words });
     let held = Image::load_to_write(&folder.path("d.img"), None, find).expect("an image");
     let holder = format!("process {}", std::process::id());
     folder.refuses(&["save", "d.img", "new", "text"], &["d.img", &holder]);
@@ -127,10 +126,55 @@ fn who_holds_an_image_is_named() {
     assert_eq!(folder.names(), ["d.img", "text"]);
 }
 
+/// The volume of `d.img`.
+fn find(bytes: &[u8]) -> Result<Volume, Error> {
+    find_volume(bytes).map_err(|words| Error::Wrong { path: "d.img".into(), words })
+}
+
+/// A store that cannot write the marks after the image and they have changed together.
+#[test]
+fn a_store_that_was_stopped_is_read_and_finished() {
+    let folder = Folder::with_disc("stopped");
+    folder.does(&["save", "d.img", "new", "text"]);
+    let in_the_way = folder.path(&format!("d.img.marks.tuormik-new-{}", std::process::id()));
+    std::fs::create_dir(&in_the_way).expect("a folder");
+    let mut image = Image::load_to_write(&folder.path("d.img"), None, find).expect("an image");
+    let mut open = image.disc().open().expect("it opens");
+    // a block of zeros that is not committed is told by marks only
+    open.save_virtual(1, &[0; 2048]).expect("it is saved");
+    assert!(matches!(image.store(), Err(Error::Unfinished { .. })));
+    drop(image);
+    assert!(folder.names().contains(&"d.img.tuormik-store".to_string()) && !folder.path("d.img.marks").exists());
+    let before = folder.files();
+    folder.does(&["info", "d.img"]);
+    let image = Image::load(&folder.path("d.img"), None, find).expect("an image");
+    assert_eq!(image.to_read().open().expect("it opens").record().passed_over, 1);
+    assert_eq!(folder.files(), before);
+    std::fs::remove_dir(&in_the_way).expect("a folder");
+    folder.does(&["commit", "d.img"]);
+    assert_eq!(folder.names(), ["d.img", "d.img.marks", "text"]);
+    assert!(folder.does(&["read", "d.img", "0"]).starts_with("one"));
+}
+
+#[test]
+fn marks_of_another_name_go_with_the_image() {
+    let folder = Folder::with_disc("named");
+    std::fs::create_dir(folder.path("other")).expect("a folder");
+    folder.write("other/m", b"tuormik marks\nunreadable 257 1\n");
+    folder.does(&["save", "d.img", "new", "text", "--marks", "other/m"]);
+    let text = String::from_utf8(std::fs::read(folder.path("other/m")).expect("a file")).expect("text");
+    assert!(text.contains("image ") && text.contains("unreadable 257 1\n"), "{text}");
+    folder.does(&["save", "d.img", "new", "text", "--marks", "other/m"]);
+    assert_eq!(folder.names(), ["d.img", "other", "text"]);
+    assert_eq!(std::fs::read_dir(folder.path("other")).expect("a folder").count(), 1);
+    // those marks belong to the image as it was stored with them
+    folder.does(&["save", "d.img", "new", "text"]);
+    folder.refuses(&["info", "d.img", "--marks", "other/m"], &["belong to other bytes"]);
+}
+
 #[test]
 fn what_another_program_changed_meanwhile_stays() {
     let folder = Folder::with_disc("meanwhile");
-    let find = |bytes: &[u8]| find_volume(bytes).map_err(|words| Error::Wrong { path: "d.img".into(), words });
     let mut image = Image::load_to_write(&folder.path("d.img"), None, find).expect("an image");
     std::thread::sleep(std::time::Duration::from_millis(20));
     let other = [image.bytes.as_slice(), &[1; 2048]].concat();

@@ -113,10 +113,11 @@ impl Note {
         note.map(Some).ok_or_else(|| Error::wrong(&path, "it should tell of a store that was stopped, and cannot be read"))
     }
 
-    /// The bytes that the image has by the note, and whether they are still under the new file's name.
+    /// The bytes that the image has by the note, and whether they are still under the new file's name. A file of that name that is not
+    /// the one that the note tells of counts as none.
     fn image(&self, files: &dyn Files, image: &Path) -> Result<(Option<Vec<u8>>, bool), Error> {
         let (new, old) = (with_ending(image, &self.ending), read(files, image)?);
-        let Some(bytes) = read(files, &new)? else {
+        let Some(bytes) = read(files, &new)?.filter(|bytes| fingerprint(bytes) == self.is) else {
             return Ok((old, false));
         };
         let print = old.as_deref().map(fingerprint);
@@ -194,7 +195,9 @@ fn put_in_place(files: &dyn Files, image: &Path, note: &Note, has_new: bool) -> 
         }
     }
     sync(files, image)?;
-    sync(files, &note.marks_path)?;
+    if note.marks != NewMarks::Kept {
+        sync(files, &note.marks_path)?;
+    }
     let path = Note::path(image);
     files.remove(&path).map_err(|e| Error::file(&path, e))?;
     sync(files, image)
@@ -204,7 +207,7 @@ fn put_in_place(files: &dyn Files, image: &Path, note: &Note, has_new: bool) -> 
 pub(super) fn finish(files: &dyn Files, image: &Path) -> Result<(), Error> {
     if let Some(note) = Note::find(files, image)? {
         let (bytes, has_new) = note.image(files, image)?;
-        // where another program replaced the image after the store did, the note's marks are no longer of use
+        // where the image is not the note's, the note's marks are of no use
         let is_of_note = bytes.as_deref().map(fingerprint) == Some(note.is);
         let note = if is_of_note { note } else { Note { marks: NewMarks::Kept, ..note } };
         put_in_place(files, image, &note, has_new)?;
@@ -246,7 +249,7 @@ fn read_once(files: &dyn Files, pair: &Pair) -> Result<Contents, Error> {
         return Ok(Contents { image: read(files, &pair.image)?, marks: read(files, &pair.marks)? });
     };
     let (image, _) = note.image(files, &pair.image)?;
-    // marks in another file than the note's are none of its business, nor is an image that came after it
+    // marks in another file than the note's are not told by it, nor are those of an image that came after it
     let is_of_note = note.marks_path == pair.marks && image.as_deref().map(fingerprint) == Some(note.is);
     let marks = match note.marks {
         NewMarks::Text(text) if is_of_note => Some(text),
@@ -429,7 +432,8 @@ mod tests {
         }
     }
 
-    /// The file system itself, killed after some calls that change it.
+    /// The file system itself, killed after some calls that change it. What a process has written stays where it is killed, so nothing is
+    /// brought down to the medium.
     struct Killed {
         left: Cell<usize>,
     }
@@ -451,11 +455,11 @@ mod tests {
             System.read(path)
         }
 
-        fn write(&self, path: &Path, bytes: &[u8], like: &Path) -> io::Result<()> {
+        fn write(&self, path: &Path, bytes: &[u8], _: &Path) -> io::Result<()> {
             self.call()?;
             std::fs::write(path, &bytes[..bytes.len() / 2])?;
             self.call()?;
-            System.write(path, bytes, like)
+            std::fs::write(path, bytes)
         }
 
         fn rename(&self, from: &Path, to: &Path) -> io::Result<()> {
@@ -468,9 +472,8 @@ mod tests {
             System.remove(path)
         }
 
-        fn sync_folder(&self, folder: &Path) -> io::Result<()> {
-            self.call()?;
-            System.sync_folder(folder)
+        fn sync_folder(&self, _: &Path) -> io::Result<()> {
+            self.call()
         }
 
         fn names(&self, folder: &Path) -> io::Result<Vec<OsString>> {
@@ -586,7 +589,7 @@ mod tests {
         // a store is 15 calls, and finishing one that was killed up to 11
         const CALLS: [usize; 2] = [15, 26];
         for (first, second) in (0..=CALLS[0]).flat_map(|first| (0..=CALLS[1]).map(move |second| (first, second))) {
-            one.store(&System, &pair).expect("it is stored");
+            one.store(&killed(usize::MAX), &pair).expect("it is stored");
             let is_two = two.store(&killed(first), &pair).is_ok();
             let found = seen(&System, &pair);
             assert!(found == two.contents() || found == one.contents() && !is_two, "killed after {first}: {found:?}");

@@ -7,7 +7,7 @@
 use super::files::{if_there, with_ending};
 use super::Error;
 use std::fs::{self, File, OpenOptions, TryLockError};
-use std::io::{self, Read, Write};
+use std::io::{self, ErrorKind, Read, Write};
 use std::os::unix::fs::MetadataExt;
 use std::path::{Path, PathBuf};
 use std::time::{Duration, Instant};
@@ -29,7 +29,12 @@ impl Lock {
         let path = with_ending(image, ".tuormik-lock");
         let begun = Instant::now();
         loop {
-            let wrong = |e| Error::file(&path, e);
+            let wrong = |e: io::Error| match e.kind() {
+                ErrorKind::PermissionDenied | ErrorKind::ReadOnlyFilesystem => {
+                    Error::wrong(image, "nothing can be written in its folder, so it is not replaced")
+                }
+                _ => Error::file(&path, e),
+            };
             let mut file = OpenOptions::new().read(true).write(true).create(true).truncate(false).open(&path).map_err(wrong)?;
             match file.try_lock() {
                 Ok(()) if is_named(&file, &path).map_err(wrong)? => {
