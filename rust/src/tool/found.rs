@@ -286,6 +286,9 @@ pub fn too_many_entries(disc: DiscRef) -> String {
     }
 }
 
+/// How many sectors are named one by one.
+const MOST_NAMED: usize = 4;
+
 /// What an opening passed over, from one sector up to another, in words.
 pub fn passed_over(disc: DiscRef, from: usize, to: usize) -> String {
     let marks = disc.marks.get(from..to).unwrap_or_default();
@@ -300,7 +303,9 @@ pub fn passed_over(disc: DiscRef, from: usize, to: usize) -> String {
     let [blank, recorded, unreadable] = counts;
     let kinds = [(recorded, "recorded sector"), (unreadable, "unreadable sector"), (blank, "blank sector")];
     let mut words: Vec<String> = kinds.iter().filter(|(n, _)| *n > 0).map(|(n, what)| counted(*n, what)).collect();
-    words.append(&mut named);
+    let more = named.len().saturating_sub(MOST_NAMED);
+    words.extend(named.into_iter().rev().take(MOST_NAMED));
+    words.extend((more > 0).then(|| format!("{} more of these", grouped(more))));
     joined(&words)
 }
 

@@ -2,12 +2,11 @@
 
 use super::args::Args;
 use super::commands::{known, load};
-use super::commits::{self, Commit};
 use super::picture::Picture;
 use super::states::{Run, View};
 use super::summary::Summary;
-use super::words::{from_to, grouped};
-use super::{verify, Done, Failure};
+use super::words::from_to;
+use super::{commits, verify, Done, Failure};
 use std::fmt::Write as _;
 use std::io::Write;
 use std::path::Path;
@@ -74,7 +73,7 @@ fn put_blocks(text: &mut String, image: &Image) -> Done {
         let found = commits::chain(image)?;
         let _ = writeln!(text, "<h2>History</h2>\n<p>The commits, the newest first.</p>");
         let heads = ["VAT ICB", "sector", "blocks", "sectors between it and the next"];
-        put_table(text, &heads, found.iter().map(|commit| commit_row(commit, start)));
+        put_table(text, &heads, found.iter().map(|commit| commit.numbers(start).to_vec()));
     }
     let _ = writeln!(text, "<h2>Blocks</h2>");
     if rows.is_empty() {
@@ -83,11 +82,6 @@ fn put_blocks(text: &mut String, image: &Image) -> Done {
         put_table(text, &["blocks", "where", "state"], rows.into_iter());
     }
     Ok(())
-}
-
-pub fn commit_row(commit: &Commit, start: u32) -> Vec<String> {
-    let at = u64::from(start) + u64::from(commit.icb);
-    vec![grouped(commit.icb), grouped(at), grouped(commit.record.entries()), grouped(commit.record.passed_over)]
 }
 
 fn run_row(run: &Run) -> Vec<String> {
