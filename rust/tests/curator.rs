@@ -267,16 +267,9 @@ fn a_map_has_labels_live_blocks_and_runs() {
     for label in [">0</text>", ">32</text>", ">384</text>"] {
         assert!(svg.contains(label), "{label} is not in\n{svg}");
     }
-    // a full disc is one path a kind
-    folder.does(&["make", "full.img", "--sectors", "333,000", "--write-once", "--no-descriptors"]);
-    let marks = "tuormik marks\nrecorded 0 333,000\nunreadable 100,000 1\nunreadable 0x30d40 3000\n";
-    folder.write("m", marks.as_bytes());
-    let by_hand = ["--start", "288", "--length", "332712", "--write-once", "--marks", "m"];
-    let out = folder.does(&[&["map", "full.img", "full.svg"], &by_hand[..]].concat());
-    has(&out, "full.svg: 329,998 recorded, 1 VAT ICB, 3,001 unreadable");
-    let svg = String::from_utf8(folder.bytes("full.svg")).expect("text");
-    assert!(svg.len() < 16_384, "{} bytes", svg.len());
-    assert!(svg.contains("M672 97h1v1h-1z"), "{svg}");
+    // numbers in a marks file too are taken in each form
+    folder.write("m", b"tuormik marks\nunreadable 296 1\nunreadable 0x10 0x2\nrecorded 0 1\n");
+    has(&folder.does(&["map", "d.img", "m.svg", "--marks", "m"]), "m.svg: 101 blank, 289 recorded, 1 live, 6 VAT ICB, 3 unreadable");
 }
 
 #[test]
