@@ -231,6 +231,9 @@ fn a_page_whole_in_itself() {
     assert_eq!(page.matches("<tr>").count(), page.matches("</tr>").count());
     folder.does(&["report", "d.img", "--output", "page.html"]);
     assert_eq!(folder.bytes("page.html"), page.as_bytes());
+    assert!(!page.contains("passed over above"), "{page}");
+    folder.does(&["save", "d.img", "new", "c", "--no-commit"]);
+    assert!(folder.does(&["report", "d.img"]).contains("<p>1 sector was passed over above the last VAT ICB: "));
     // the image is not written over
     let before = folder.bytes("d.img");
     folder.usage(&["report", "d.img", "--output", "d.img"]);

@@ -1,7 +1,7 @@
 //! What an opening passed over above the last VAT ICB, and what to do about it.
 
 use super::states::View;
-use super::words::grouped;
+use super::words::{grouped, wrapped};
 use super::{found, Done, Failure};
 use std::io::Write;
 use tuormik::{possible_icbs, Held, Open};
@@ -41,17 +41,28 @@ impl Passed {
     }
 
     /// A warning where something was passed over.
-    pub fn warn(&self, out: &mut dyn Write) -> Done {
-        if let Some(block) = self.possible {
-            writeln!(out, "warning       {}.", self.were_passed())?;
-            writeln!(out, "              Block {} among them holds a File Entry of file type 0: it may be", self.place(block))?;
-            writeln!(out, "              a newer VAT that breaks a rule of 01. Do not commit: the disc would end with the older VAT,")?;
-            writeln!(out, "              and on a CD-R that cannot be undone.")?;
-        } else if self.count > 0 {
-            writeln!(out, "warning       {}: blocks saved and not committed, or a", self.were_passed())?;
-            writeln!(out, "              write that was cut. 'tuormik commit' ends the disc with a VAT again.")?;
+    pub fn warning(&self) -> Option<String> {
+        match (self.count, self.possible) {
+            (0, _) => None,
+            (_, Some(block)) => Some(format!(
+                "{}. Block {} among them holds a File Entry of file type 0: it may be a newer VAT that breaks a rule of 01. Do not commit: \
+                 the disc would end with the older VAT, and on a CD-R that cannot be undone.",
+                self.were_passed(),
+                self.place(block)
+            )),
+            (_, None) => Some(format!(
+                "{}: blocks saved and not committed, or a write that was cut. 'tuormik commit' ends the disc with a VAT again.",
+                self.were_passed()
+            )),
         }
-        Ok(())
+    }
+
+    /// Writes the warning, if there is one.
+    pub fn warn(&self, out: &mut dyn Write) -> Done {
+        match self.warning() {
+            Some(words) => Ok(out.write_all(wrapped("warning", &words).as_bytes())?),
+            None => Ok(()),
+        }
     }
 }
 

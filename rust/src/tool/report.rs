@@ -52,9 +52,16 @@ fn page(path: &Path, image: &Image) -> Result<String, Failure> {
     );
     let class = if verdict.is_clean() { "verdict" } else { "verdict bad" };
     let _ = writeln!(text, "<p class=\"{class}\">{}</p>", escaped(&verdict.words()));
+    let opened = summary.opened.as_ref().ok();
+    if let Some(words) = opened.and_then(|opened| opened.passed()).and_then(|passed| passed.warning()) {
+        let _ = writeln!(text, "<p>{}</p>", escaped(&words));
+    }
     put_table(&mut text, &[], summary.lines().into_iter().map(|(name, words)| vec![name.to_string(), words]));
     let picture = Picture::new(image)?;
-    let _ = writeln!(text, "<h2>The disc</h2>\n<p>Each field is a sector; the line runs around the partition.</p>");
+    let _ = writeln!(
+        text,
+        "<h2>The disc</h2>\n<p>Each field is a sector. Live are the blocks of the current table; the line runs around the partition.</p>"
+    );
     text.push_str(&picture.svg());
     if summary.opened.is_ok() {
         put_blocks(&mut text, image)?;

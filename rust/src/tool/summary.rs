@@ -5,8 +5,7 @@ use super::passed::Passed;
 use super::room::new_blocks;
 use super::states::View;
 use super::words::{counted, grouped, joined, parts};
-use super::{commits, found, refused, Done, Failure};
-use std::io::Write;
+use super::{commits, found, refused, Failure};
 use tuormik::image::{mark_name, Image};
 use tuormik::{read_maps, Held, Maps, OpenRef, Refusal, BLANK, NONE, RECORDED, UNREADABLE};
 
@@ -234,11 +233,11 @@ impl Opened {
         }
     }
 
-    /// Warns where an opening passed something over.
-    pub fn warn(&self, out: &mut dyn Write) -> Done {
+    /// What the opening passed over; nothing on a rewritable disc.
+    pub fn passed(&self) -> Option<&Passed> {
         match self {
-            Opened::WriteOnce { passed, .. } => passed.warn(out),
-            Opened::Rewritable { .. } => Ok(()),
+            Opened::WriteOnce { passed, .. } => Some(passed),
+            Opened::Rewritable { .. } => None,
         }
     }
 
