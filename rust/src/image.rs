@@ -356,11 +356,15 @@ fn read_image<E: From<Error>>(pair: Pair, must_have_marks: bool, find: impl FnOn
 fn need_sectors(length: usize) -> Result<(), String> {
     match length {
         0 => Err("it is empty: a disc has one sector at least".into()),
-        _ if length >= MOST_BYTES => Err(format!("it has more than {} bytes, the most that a disc has", grouped(MOST_BYTES - 1))),
-        _ if !length.is_multiple_of(SECTOR) => {
-            let (sectors, rest) = (grouped(length / SECTOR), grouped(length % SECTOR));
-            Err(format!("its {} bytes are no multiple of 2,048: {sectors} sectors and {rest} bytes", grouped(length)))
+        _ if length >= MOST_BYTES => {
+            Err(format!("it has more than {} bytes, and so more sectors than a disc of 1,048,576", grouped(MOST_BYTES - 1)))
         }
+        _ if !length.is_multiple_of(SECTOR) => Err(format!(
+            "its {} bytes are no multiple of 2,048: {} sectors and {} bytes",
+            grouped(length),
+            grouped(length / SECTOR),
+            grouped(length % SECTOR)
+        )),
         _ => Ok(()),
     }
 }
@@ -376,8 +380,11 @@ fn need_whole(volume: &Volume, sectors: usize) -> Result<(), String> {
     let end = tables.iter().map(|&table| u64::from(table) + PACKET as u64).fold(start + length, u64::max);
     // what is not aligned, or on no disc, the layer turns down
     if is_aligned && (sectors as u64) < end && end <= MOST_SECTORS as u64 {
-        let (sectors, end) = (grouped(sectors), grouped(end));
-        return Err(format!("it has {sectors} sectors, and its partition and sparing tables end at {end}: the rest was cut off"));
+        return Err(format!(
+            "it has {} sectors, and its partition and sparing tables end at {}: the rest was cut off",
+            grouped(sectors),
+            grouped(end)
+        ));
     }
     Ok(())
 }

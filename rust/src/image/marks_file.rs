@@ -78,8 +78,7 @@ fn read_line(line: &str, marks: &mut [u8], bytes: &[u8]) -> Result<(), String> {
             let end = from.checked_add(count).filter(|&end| end <= MOST_SECTORS).ok_or_else(wrong)?;
             let sectors = marks.len();
             if end > sectors && mark != BLANK {
-                let (last, sectors) = (grouped(end - 1), grouped(sectors));
-                return Err(format!("it names sectors up to {last}, and the image has {sectors}"));
+                return Err(format!("it names sectors up to {}, and the image has {}", grouped(end - 1), grouped(sectors)));
             }
             if let Some(named) = marks.get_mut(from..end.min(sectors)) {
                 named.fill(mark);
