@@ -63,7 +63,7 @@ fn info_tells_what_was_passed_over() {
     let mut image = folder.bytes("d.img");
     image[SECTOR * (288 + 14) + 8] ^= 1;
     folder.write("d.img", &image);
-    std::fs::remove_file(folder.0.join("d.img.marks")).expect("a marks file");
+    std::fs::remove_file(folder.path("d.img.marks")).expect("a marks file");
     let info = folder.does(&["info", "d.img"]);
     has(&info, "which are 3 recorded sectors and sector 302 with a File Entry of file type 0 that breaks a rule for a VAT ICB");
 }
@@ -112,7 +112,7 @@ fn verify_goes_through_a_shelf() {
     folder.write("text", b"text");
     folder.is_cut(&["save", "r.img", "3", "text", "--cut", "9:unreadable"], "write 9 of the save of block 3, which became unreadable");
     folder.is_cut(&["spare", "r.img", "32", "--cut", "33:whole"], "write 33 of the sparing of the packet of block 32, which became whole");
-    std::fs::copy(folder.0.join("d.img"), folder.0.join("e.img")).expect("a copy");
+    std::fs::copy(folder.path("d.img"), folder.path("e.img")).expect("a copy");
     folder.does(&["save", "e.img", "new", "text", "--no-commit"]);
     let mut image = folder.bytes("d.img");
     image[SECTOR * 288..].fill(0);
@@ -141,19 +141,19 @@ fn export_of_any_commit() {
     let list = "block,logical,sector,state,file\n0,6,294,recorded,block-0000.bin\n1,,,unused,\n2,8,296,recorded,block-0002.bin\n";
     assert_eq!(String::from_utf8_lossy(&folder.bytes("now/list.csv")), list);
     assert!(folder.bytes("now/block-0000.bin").starts_with(b"c\0"));
-    assert_eq!(std::fs::read_dir(folder.0.join("now")).expect("a folder").count(), 3);
+    assert_eq!(std::fs::read_dir(folder.path("now")).expect("a folder").count(), 3);
     // as the first commit left it
     has(&folder.does(&["export", "d.img", "then", "--at", "3"]), "exported 2 of 2 blocks to then; list.csv lists all");
     assert_eq!([folder.bytes("then/block-0000.bin"), folder.bytes("then/block-0001.bin")].concat(), folder.bytes("two"));
     // a folder that is not empty stays as it is; an empty one is taken
     assert!(folder.usage(&["export", "d.img", "now"]).starts_with("now: the folder is not empty"));
-    std::fs::create_dir(folder.0.join("empty")).expect("a folder");
+    std::fs::create_dir(folder.path("empty")).expect("a folder");
     folder.does(&["export", "d.img", "empty", "--at", "0"]);
     assert_eq!(folder.bytes("empty/list.csv"), b"block,logical,sector,state,file\n");
     assert!(folder
         .usage(&["export", "d.img", "other", "--at", "2"])
         .starts_with("no commit has its VAT ICB at block 2: the disc has 6 commits"));
-    assert!(!folder.0.join("other").exists());
+    assert!(!folder.path("other").exists());
     // blocks that cannot be read are listed and skipped
     folder.write("m", b"tuormik marks\nrecorded 0 299\nunreadable 296 1\n");
     let out = folder.does(&["export", "d.img", "damaged", "--marks", "m"]);
@@ -203,7 +203,7 @@ fn diff_of_two_discs_and_of_two_commits() {
     told(1, "d.img@3", "d.img", "block 0 differs\nblock 1 went\nblock 2 appeared\n3 blocks: 1 different, 1 appeared, 1 went\n");
     told(0, "d.img", "d.img@0xa", "3 blocks: 3 alike\n");
     // a block that cannot be read on one of them
-    std::fs::copy(folder.0.join("d.img"), folder.0.join("e.img")).expect("a copy");
+    std::fs::copy(folder.path("d.img"), folder.path("e.img")).expect("a copy");
     folder.write("e.img.marks", b"tuormik marks\nrecorded 0 299\nunreadable 296 1\n");
     told(1, "d.img", "e.img", "block 2 cannot be compared: it cannot be read\n3 blocks: 2 alike, 1 not to be compared\n");
     // a file of the whole name is meant where there is one
@@ -293,7 +293,7 @@ fn discs_by_their_medium() {
     for wrong in [&["--media", "dvd"][..], &["--media", "cdrw", "--sectors", "639"], &["--media", "cdr", "--start", "288"]] {
         folder.usage(&[&["make", "x.img"], wrong].concat());
     }
-    assert!(!folder.0.join("x.img").exists());
+    assert!(!folder.path("x.img").exists());
 }
 
 /// A number is taken in each of its forms wherever one is taken, and printed in one.
