@@ -258,6 +258,10 @@ fn a_disc_that_is_turned_down_is_drawn_from_its_marks() {
     assert!(out.contains("drawn from the marks alone, since the disc was turned down: no VAT was found"), "{out}");
     let page = folder.does(&["report", "e.img"]);
     assert!(page.contains("<svg") && page.contains("NOT CLEAN: no VAT was found"), "{page}");
+    // a partition that is none is drawn with no edge
+    let out = folder.does(&["map", "e.img", "e.svg", "--start", "0", "--length", "0", "--write-once"]);
+    assert!(out.contains("turned down: the partition has no sectors: L is 0 (01, line 2)"), "{out}");
+    assert!(String::from_utf8_lossy(&folder.bytes("e.svg")).contains("400 sectors; the partition has none of them"));
 }
 
 #[test]

@@ -67,13 +67,14 @@ fn list_words(maps: &[u8]) -> String {
 pub fn cut_map(maps: &[u8]) -> String {
     let mut at = 0;
     loop {
+        let place = grouped(at);
         match maps[at..] {
             [] => return format!("the map list of {} breaks off", counted(maps.len(), "byte")),
-            [_] => return format!("the map list breaks off: the map at its byte {at} has 1 byte"),
-            [_, 0, ..] => return format!("the map at byte {at} of the map list says that its length is 0"),
+            [_] => return format!("the map list breaks off: the map at its byte {place} has 1 byte"),
+            [_, 0, ..] => return format!("the map at byte {place} of the map list says that its length is 0"),
             [_, length, ..] if usize::from(length) > maps.len() - at => {
                 let left = counted(maps.len() - at, "byte");
-                return format!("the map list breaks off: the map at its byte {at} says {length} bytes, and {left} are left");
+                return format!("the map list breaks off: the map at its byte {place} says {length} bytes, and {left} are left");
             }
             [_, length, ..] => at += usize::from(length),
         }

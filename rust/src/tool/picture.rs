@@ -119,10 +119,13 @@ impl Picture {
         words.join(", ")
     }
 
-    pub fn title(&self) -> String {
+    fn title(&self) -> String {
         let (start, length) = (self.volume.start as usize, self.volume.length as usize);
-        let partition = from_to(start, (start + length).saturating_sub(1), "sector");
-        format!("{}; the partition is {partition}", counted(self.kinds.len(), "sector"))
+        let partition = match length {
+            0 => "has none of them".to_string(),
+            _ => format!("is {}", from_to(start, start + length - 1, "sector")),
+        };
+        format!("{}; the partition {partition}", counted(self.kinds.len(), "sector"))
     }
 }
 

@@ -79,8 +79,8 @@ impl Summary {
     pub fn lines(&self) -> Vec<(&'static str, String)> {
         let mut lines = Vec::new();
         match &self.maps {
-            Some(Maps::WriteOnce { partition }) => lines.push(("kind", format!("write-once, partition {partition}"))),
-            Some(Maps::Rewritable { partition, .. }) => lines.push(("kind", format!("rewritable, partition {partition}"))),
+            Some(Maps::WriteOnce { partition }) => lines.push(("kind", format!("write-once, partition {}", grouped(*partition)))),
+            Some(Maps::Rewritable { partition, .. }) => lines.push(("kind", format!("rewritable, partition {}", grouped(*partition)))),
             None => {}
         }
         if let Ok(opened) = &self.opened {
