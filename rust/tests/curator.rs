@@ -66,6 +66,13 @@ fn info_tells_what_was_passed_over() {
     std::fs::remove_file(folder.path("d.img.marks")).expect("a marks file");
     let info = folder.does(&["info", "d.img"]);
     has(&info, "which are 3 recorded sectors and sector 302 with a File Entry of file type 0 that breaks a rule for a VAT ICB");
+    // so is one of a later version of UDF, and no commit goes over it
+    image[SECTOR * 302..][..2].copy_from_slice(&266u16.to_le_bytes());
+    image[SECTOR * 302 + 27] = 248;
+    folder.write("d.img", &image);
+    let words = "block 14 (sector 302) was passed over and has a VAT of UDF 2.01: an Extended File Entry (tag 266) of file type 248";
+    folder.turns_away(&["commit", "d.img"], &[words, "--force"]);
+    assert!(folder.does(&["info", "d.img", "--json"]).contains(r#""possible_newer_vat": 14"#));
 }
 
 #[test]

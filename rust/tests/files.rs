@@ -302,7 +302,7 @@ fn what_may_be_a_newer_vat_is_not_committed_over() {
     bytes[2048 * 290 + 4] ^= 1;
     folder.write("d.img", &bytes);
     let info = folder.does(&["info", "d.img"]);
-    assert!(info.contains("Block 2 (sector 290)") && info.contains("Do not commit"), "{info}");
+    assert!(info.contains("block 2 (sector 290)") && info.contains("Do not commit"), "{info}");
     assert!(!info.contains("tuormik commit"), "{info}");
     for words in [&["commit", "d.img"][..], &["save", "d.img", "new", "text"], &["commit", "d.img", "--cut", "1:old"]] {
         folder.turns_away(words, &["block 2 (sector 290)", "cannot be undone", "--force"]);

@@ -223,7 +223,7 @@ const FILE_TYPE_AT: usize = 27;
 const INFORMATION_LENGTH_AT: usize = 56;
 const VAT_FILE_TYPE_200: u8 = 248;
 
-/// What a sector has that is, or was meant to be, the ICB of a VAT.
+/// What a sector has that may be, or was meant to be, the ICB of a VAT.
 fn icb_words(bytes: &[u8]) -> Option<&'static str> {
     match (number_at(bytes, 0, 2), bytes.get(FILE_TYPE_AT).copied()?) {
         (EXTENDED_FILE_ENTRY, VAT_FILE_TYPE_200) => Some("a VAT of UDF 2.01: an Extended File Entry (tag 266) of file type 248"),
@@ -232,6 +232,11 @@ fn icb_words(bytes: &[u8]) -> Option<&'static str> {
         (FILE_ENTRY, 0) => Some("a File Entry of file type 0 that breaks a rule for a VAT ICB"),
         _ => None,
     }
+}
+
+/// What a sector has that may be the ICB of a VAT.
+pub fn icb_at(disc: DiscRef, at: usize) -> &'static str {
+    icb_words(sector(disc, at)).unwrap_or("no File Entry")
 }
 
 /// The sectors of the partition that are not blank, the highest first, with their marks.

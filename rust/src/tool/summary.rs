@@ -214,7 +214,7 @@ impl Opened {
                 ("nwa", Json::number(*next)),
                 ("last_icb", Json::number(*last)),
                 ("passed_over", Json::number(passed.count)),
-                ("possible_newer_vat", passed.possible.map_or(Json::None, Json::number)),
+                ("possible_newer_vat", passed.possible.as_ref().map_or(Json::None, |possible| Json::number(possible.block))),
             ],
             Opened::Rewritable { blocks, entries, used, sequence, stale } => {
                 let [recorded, unreadable, blank] = blocks.map(Json::number);
