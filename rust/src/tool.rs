@@ -257,8 +257,8 @@ they make no file system.
         help: "tuormik export IMAGE FOLDER [--at ICB]
 
 Writes each block as a file into FOLDER, which must be empty or not there yet, and a list, list.csv, with each block's number, its logical
-block, its sector, its state and its file. Blocks that are unused or cannot be read are listed and skipped. The list is written last, so
-where it stands the export came to its end.
+block, its sector, its state and its file. Blocks that are unused or cannot be read are listed and skipped. The list is written last: an
+export that was stopped leaves none.
   --at ICB             as the commit left them whose VAT ICB is at this logical block ('tuormik history' lists them)
 ",
         run: export::export,

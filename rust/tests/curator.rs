@@ -63,9 +63,16 @@ fn info_tells_what_was_passed_over() {
     let mut image = folder.bytes("d.img");
     image[SECTOR * (288 + 14) + 8] ^= 1;
     folder.write("d.img", &image);
-    std::fs::remove_file(folder.0.join("d.img.marks")).expect("a marks file");
+    std::fs::remove_file(folder.path("d.img.marks")).expect("a marks file");
     let info = folder.does(&["info", "d.img"]);
     has(&info, "which are 3 recorded sectors and sector 302 with a File Entry of file type 0 that breaks a rule for a VAT ICB");
+    // so is one of a later version of UDF, and no commit goes over it
+    image[SECTOR * 302..][..2].copy_from_slice(&266u16.to_le_bytes());
+    image[SECTOR * 302 + 27] = 248;
+    folder.write("d.img", &image);
+    let words = "block 14 (sector 302) was passed over and has a VAT of UDF 2.01: an Extended File Entry (tag 266) of file type 248";
+    folder.turns_away(&["commit", "d.img"], &[words, "--force"]);
+    assert!(folder.does(&["info", "d.img", "--json"]).contains(r#""possible_newer_vat": 14"#));
 }
 
 #[test]
@@ -105,14 +112,14 @@ fn verify_goes_through_a_shelf() {
     make_rewritable(&folder, "r.img");
     let (status, out, err) = folder.run(&["verify", "d.img", "r.img"]);
     assert_eq!((status, err.as_str()), (0, ""));
-    has(&out, "d.img clean: write-once, blocks 2 used, 1 unused, 9.8 % full");
+    has(&out, "d.img clean: write-once, 2 blocks used and 1 unused, 9.8 % full");
     has(&out, "r.img clean: rewritable, 64 blocks, 0 of 2 spares used");
     has(&out, "2 images: 2 clean");
     // not clean: blocks that cannot be read, copies that are not current, what was passed over, what does not open, what is not there
     folder.write("text", b"text");
     folder.is_cut(&["save", "r.img", "3", "text", "--cut", "9:unreadable"], "write 9 of the save of block 3, which became unreadable");
     folder.is_cut(&["spare", "r.img", "32", "--cut", "33:whole"], "write 33 of the sparing of the packet of block 32, which became whole");
-    std::fs::copy(folder.0.join("d.img"), folder.0.join("e.img")).expect("a copy");
+    std::fs::copy(folder.path("d.img"), folder.path("e.img")).expect("a copy");
     folder.does(&["save", "e.img", "new", "text", "--no-commit"]);
     let mut image = folder.bytes("d.img");
     image[SECTOR * 288..].fill(0);
@@ -121,7 +128,7 @@ fn verify_goes_through_a_shelf() {
     folder.write("m.img.marks", b"tuormik marks\nrecorded 0 299\nunreadable 296 1\n");
     let (status, out, err) = folder.run(&["verify", "d.img", "r.img", "e.img", "f.img", "m.img", "g.img"]);
     assert_eq!((status, err.as_str()), (1, ""));
-    has(&out, "d.img clean: write-once, blocks 2 used, 1 unused, 9.8 % full");
+    has(&out, "d.img clean: write-once, 2 blocks used and 1 unused, 9.8 % full");
     has(
         &out,
         "r.img NOT CLEAN: the copies of the sparing table in sectors 32 and 64 are not current; 1 block cannot be read: block 8 (sector 296, \
@@ -141,19 +148,19 @@ fn export_of_any_commit() {
     let list = "block,logical,sector,state,file\n0,6,294,recorded,block-0000.bin\n1,,,unused,\n2,8,296,recorded,block-0002.bin\n";
     assert_eq!(String::from_utf8_lossy(&folder.bytes("now/list.csv")), list);
     assert!(folder.bytes("now/block-0000.bin").starts_with(b"c\0"));
-    assert_eq!(std::fs::read_dir(folder.0.join("now")).expect("a folder").count(), 3);
+    assert_eq!(std::fs::read_dir(folder.path("now")).expect("a folder").count(), 3);
     // as the first commit left it
     has(&folder.does(&["export", "d.img", "then", "--at", "3"]), "exported 2 of 2 blocks to then; list.csv lists all");
     assert_eq!([folder.bytes("then/block-0000.bin"), folder.bytes("then/block-0001.bin")].concat(), folder.bytes("two"));
     // a folder that is not empty stays as it is; an empty one is taken
     assert!(folder.usage(&["export", "d.img", "now"]).starts_with("now: the folder is not empty"));
-    std::fs::create_dir(folder.0.join("empty")).expect("a folder");
+    std::fs::create_dir(folder.path("empty")).expect("a folder");
     folder.does(&["export", "d.img", "empty", "--at", "0"]);
     assert_eq!(folder.bytes("empty/list.csv"), b"block,logical,sector,state,file\n");
     assert!(folder
         .usage(&["export", "d.img", "other", "--at", "2"])
         .starts_with("no commit has its VAT ICB at block 2: the disc has 6 commits"));
-    assert!(!folder.0.join("other").exists());
+    assert!(!folder.path("other").exists());
     // blocks that cannot be read are listed and skipped
     folder.write("m", b"tuormik marks\nrecorded 0 299\nunreadable 296 1\n");
     let out = folder.does(&["export", "d.img", "damaged", "--marks", "m"]);
@@ -203,7 +210,7 @@ fn diff_of_two_discs_and_of_two_commits() {
     told(1, "d.img@3", "d.img", "block 0 differs\nblock 1 went\nblock 2 appeared\n3 blocks: 1 different, 1 appeared, 1 went\n");
     told(0, "d.img", "d.img@0xa", "3 blocks: 3 alike\n");
     // a block that cannot be read on one of them
-    std::fs::copy(folder.0.join("d.img"), folder.0.join("e.img")).expect("a copy");
+    std::fs::copy(folder.path("d.img"), folder.path("e.img")).expect("a copy");
     folder.write("e.img.marks", b"tuormik marks\nrecorded 0 299\nunreadable 296 1\n");
     told(1, "d.img", "e.img", "block 2 cannot be compared: it cannot be read\n3 blocks: 2 alike, 1 not to be compared\n");
     // a file of the whole name is meant where there is one
@@ -231,6 +238,9 @@ fn a_page_whole_in_itself() {
     assert_eq!(page.matches("<tr>").count(), page.matches("</tr>").count());
     folder.does(&["report", "d.img", "--output", "page.html"]);
     assert_eq!(folder.bytes("page.html"), page.as_bytes());
+    assert!(!page.contains("passed over above"), "{page}");
+    folder.does(&["save", "d.img", "new", "c", "--no-commit"]);
+    assert!(folder.does(&["report", "d.img"]).contains("<p>1 sector was passed over above the last VAT ICB: "));
     // the image is not written over
     let before = folder.bytes("d.img");
     folder.usage(&["report", "d.img", "--output", "d.img"]);
@@ -255,6 +265,10 @@ fn a_disc_that_is_turned_down_is_drawn_from_its_marks() {
     assert!(out.contains("drawn from the marks alone, since the disc was turned down: no VAT was found"), "{out}");
     let page = folder.does(&["report", "e.img"]);
     assert!(page.contains("<svg") && page.contains("NOT CLEAN: no VAT was found"), "{page}");
+    // a partition that is none is drawn with no edge
+    let out = folder.does(&["map", "e.img", "e.svg", "--start", "0", "--length", "0", "--write-once"]);
+    assert!(out.contains("turned down: the partition has no sectors: L is 0 (01, line 2)"), "{out}");
+    assert!(String::from_utf8_lossy(&folder.bytes("e.svg")).contains("400 sectors; the partition has none of them"));
 }
 
 #[test]
@@ -267,16 +281,9 @@ fn a_map_has_labels_live_blocks_and_runs() {
     for label in [">0</text>", ">32</text>", ">384</text>"] {
         assert!(svg.contains(label), "{label} is not in\n{svg}");
     }
-    // a full disc is one path a kind
-    folder.does(&["make", "full.img", "--sectors", "333,000", "--write-once", "--no-descriptors"]);
-    let marks = "tuormik marks\nrecorded 0 333,000\nunreadable 100,000 1\nunreadable 0x30d40 3000\n";
-    folder.write("m", marks.as_bytes());
-    let by_hand = ["--start", "288", "--length", "332712", "--write-once", "--marks", "m"];
-    let out = folder.does(&[&["map", "full.img", "full.svg"], &by_hand[..]].concat());
-    has(&out, "full.svg: 329,998 recorded, 1 VAT ICB, 3,001 unreadable");
-    let svg = String::from_utf8(folder.bytes("full.svg")).expect("text");
-    assert!(svg.len() < 16_384, "{} bytes", svg.len());
-    assert!(svg.contains("M672 97h1v1h-1z"), "{svg}");
+    // numbers in a marks file too are taken in each form
+    folder.write("m", b"tuormik marks\nunreadable 296 1\nunreadable 0x10 0x2\nrecorded 0 1\n");
+    has(&folder.does(&["map", "d.img", "m.svg", "--marks", "m"]), "m.svg: 101 blank, 289 recorded, 1 live, 6 VAT ICB, 3 unreadable");
 }
 
 #[test]
@@ -297,7 +304,7 @@ fn discs_by_their_medium() {
     for wrong in [&["--media", "dvd"][..], &["--media", "cdrw", "--sectors", "639"], &["--media", "cdr", "--start", "288"]] {
         folder.usage(&[&["make", "x.img"], wrong].concat());
     }
-    assert!(!folder.0.join("x.img").exists());
+    assert!(!folder.path("x.img").exists());
 }
 
 /// A number is taken in each of its forms wherever one is taken, and printed in one.

@@ -1,93 +1,17 @@
 //! The tool loses nothing: two tools at once, files that are not to be replaced, marks that do not belong, and input that is not what it
 //! should be.
 
+mod folder;
+
+use folder::{ended, Folder};
 use std::os::unix::fs::PermissionsExt;
-use std::path::{Path, PathBuf};
-use std::process::{Child, Command, Output, Stdio};
+use std::path::Path;
+use std::process::Command;
 use tuormik::descriptors::{find_volume, Volume};
 use tuormik::image::{Error, Image, MARKS_FORMAT};
 
-/// A folder of one test.
-struct Folder(PathBuf);
-
-impl Folder {
-    fn new(name: &str) -> Folder {
-        let path = std::env::temp_dir().join(format!("tuormik-files-{name}-{}", std::process::id()));
-        let _ = std::fs::remove_dir_all(&path);
-        std::fs::create_dir_all(&path).expect("a folder");
-        Folder(path.canonicalize().expect("a folder"))
-    }
-
-    /// A folder with a write-once disc `d.img`, and a file `text` to save.
-    fn with_disc(name: &str) -> Folder {
-        let folder = Folder::new(name);
-        folder.does(&["make", "d.img", "--sectors", "400", "--write-once"]);
-        folder.write("text", b"one");
-        folder
-    }
-
-    fn start(&self, words: &[&str]) -> Child {
-        let mut command = Command::new(env!("CARGO_BIN_EXE_tuormik"));
-        command.args(words).current_dir(&self.0).stdin(Stdio::null()).stdout(Stdio::piped()).stderr(Stdio::piped());
-        command.spawn().expect("the tool runs")
-    }
-
-    fn run(&self, words: &[&str]) -> (i32, String, String) {
-        ended(self.start(words))
-    }
-
-    /// Runs it and expects status 0.
-    fn does(&self, words: &[&str]) -> String {
-        let (status, out, err) = self.run(words);
-        assert_eq!(status, 0, "{words:?}: {err}");
-        out
-    }
-
-    /// Runs it and expects that it refuses with these words, and that no file has changed.
-    fn refuses(&self, words: &[&str], said: &[&str]) {
-        let before = self.files();
-        let (status, out, err) = self.run(words);
-        assert_ne!(status, 0, "{words:?} was done: {out}");
-        assert!(said.iter().all(|part| err.contains(part)), "{words:?}: {err}");
-        assert_eq!(self.files(), before, "{words:?} changed the files");
-    }
-
-    fn write(&self, name: &str, bytes: &[u8]) {
-        std::fs::write(self.0.join(name), bytes).expect("a file");
-    }
-
-    fn path(&self, name: &str) -> PathBuf {
-        self.0.join(name)
-    }
-
-    fn files(&self) -> Vec<(PathBuf, Option<Vec<u8>>)> {
-        let entries = std::fs::read_dir(&self.0).expect("a folder").map(|entry| entry.expect("an entry").path());
-        let mut files: Vec<_> = entries.map(|path| (path.clone(), std::fs::read(path).ok())).collect();
-        files.sort();
-        files
-    }
-
-    fn names(&self) -> Vec<String> {
-        self.files().iter().map(|(path, _)| path.file_name().unwrap_or_default().to_string_lossy().into_owned()).collect()
-    }
-
-    fn set_mode(&self, name: &str, mode: u32) {
-        std::fs::set_permissions(self.path(name), PermissionsExt::from_mode(mode)).expect("permissions");
-    }
-}
-
-impl Drop for Folder {
-    fn drop(&mut self) {
-        let _ = std::fs::remove_dir_all(&self.0);
-    }
-}
-
-fn ended(child: Child) -> (i32, String, String) {
-    let Output { status, stdout, stderr } = child.wait_with_output().expect("the tool ends");
-    let text = |bytes| String::from_utf8_lossy(bytes).into_owned();
-    let (out, err) = (text(&stdout), text(&stderr));
-    assert!(!err.contains("panicked"), "{err}");
-    (status.code().expect("a status"), out, err)
+fn set_mode(folder: &Folder, name: &str, mode: u32) {
+    std::fs::set_permissions(folder.path(name), PermissionsExt::from_mode(mode)).expect("permissions");
 }
 
 fn blocks(folder: &Folder, image: &str) -> usize {
@@ -114,7 +38,7 @@ fn who_holds_an_image_is_named() {
     let folder = Folder::with_disc("held");
     let held = Image::load_to_write(&folder.path("d.img"), None, find).expect("an image");
     let holder = format!("process {}", std::process::id());
-    folder.refuses(&["save", "d.img", "new", "text"], &["d.img", &holder]);
+    folder.turns_away(&["save", "d.img", "new", "text"], &["d.img", &holder]);
     // who only reads is not stopped
     folder.does(&["info", "d.img"]);
     drop(held);
@@ -169,7 +93,7 @@ fn marks_of_another_name_go_with_the_image() {
     assert_eq!(std::fs::read_dir(folder.path("other")).expect("a folder").count(), 1);
     // those marks belong to the image as it was stored with them
     folder.does(&["save", "d.img", "new", "text"]);
-    folder.refuses(&["info", "d.img", "--marks", "other/m"], &["belong to other bytes"]);
+    folder.turns_away(&["info", "d.img", "--marks", "other/m"], &["belong to other bytes"]);
 }
 
 #[test]
@@ -207,10 +131,10 @@ fn reading_needs_no_folder_that_can_be_written() {
     folder.does(&["save", "d.img", "new", "text"]);
     let changed = || std::fs::metadata(&folder.0).and_then(|folder| folder.modified()).expect("a time");
     let before = changed();
-    folder.set_mode(".", 0o555);
+    set_mode(&folder, ".", 0o555);
     folder.does(&["info", "d.img"]);
     assert!(folder.does(&["read", "d.img", "0"]).starts_with("one"));
-    folder.set_mode(".", 0o755);
+    set_mode(&folder, ".", 0o755);
     // no file came and went, as one could for who may write everywhere
     assert_eq!(changed(), before);
 }
@@ -219,20 +143,20 @@ fn reading_needs_no_folder_that_can_be_written() {
 fn read_only_files_stay_as_they_are() {
     let folder = Folder::with_disc("read-only");
     folder.does(&["save", "d.img", "new", "text"]);
-    folder.set_mode("d.img", 0o444);
+    set_mode(&folder, "d.img", 0o444);
     for words in [&["save", "d.img", "new", "text"][..], &["free", "d.img", "0"], &["commit", "d.img"]] {
-        folder.refuses(words, &["d.img", "read-only"]);
+        folder.turns_away(words, &["d.img", "read-only"]);
     }
-    folder.refuses(&["make", "d.img", "--sectors", "400", "--write-once", "--force"], &["d.img", "read-only"]);
-    folder.set_mode("text", 0o400);
-    folder.refuses(&["read", "d.img", "0", "--output", "text"], &["text", "read-only"]);
+    folder.turns_away(&["make", "d.img", "--sectors", "400", "--write-once", "--force"], &["d.img", "read-only"]);
+    set_mode(&folder, "text", 0o400);
+    folder.turns_away(&["read", "d.img", "0", "--output", "text"], &["text", "read-only"]);
     folder.does(&["read", "d.img", "0"]);
 }
 
 #[test]
 fn permissions_stay_as_they_are() {
     let folder = Folder::with_disc("permissions");
-    folder.set_mode("d.img", 0o640);
+    set_mode(&folder, "d.img", 0o640);
     folder.does(&["save", "d.img", "new", "text"]);
     let mode = std::fs::metadata(folder.path("d.img")).expect("a file").permissions().mode();
     assert_eq!(mode & 0o777, 0o640);
@@ -279,11 +203,11 @@ fn an_output_is_not_the_image_nor_its_marks() {
     std::os::unix::fs::symlink("d.img", folder.path("link")).expect("a link");
     std::fs::hard_link(folder.path("d.img"), folder.path("other.svg")).expect("a link");
     for output in ["d.img", "./d.img", "d.img.marks", "link"] {
-        folder.refuses(&["read", "d.img", "0", "--output", output], &["the image or its marks"]);
+        folder.turns_away(&["read", "d.img", "0", "--output", output], &["the image or its marks"]);
     }
-    folder.refuses(&["map", "d.img", "other.svg"], &["the image or its marks"]);
+    folder.turns_away(&["map", "d.img", "other.svg"], &["the image or its marks"]);
     std::fs::copy(folder.path("d.img.marks"), folder.path("m.svg")).expect("a copy");
-    folder.refuses(&["map", "d.img", "m.svg", "--marks", "m.svg"], &["the image or its marks"]);
+    folder.turns_away(&["map", "d.img", "m.svg", "--marks", "m.svg"], &["the image or its marks"]);
 }
 
 #[test]
@@ -298,10 +222,10 @@ fn making_leaves_no_stale_marks() {
     // marks whose image is not there are not replaced unasked, and what is no marks file never is
     folder.write("e.img.marks", b"tuormik marks\n");
     let make = ["make", "e.img", "--sectors", "400", "--write-once"];
-    folder.refuses(&make, &["e.img.marks", "there already"]);
+    folder.turns_away(&make, &["e.img.marks", "there already"]);
     folder.does(&[&make[..], &["--force"]].concat());
-    folder.refuses(&[&make[..], &["--force", "--marks", "text"]].concat(), &["text", "no marks file"]);
-    folder.refuses(&["make", "f.img", "--sectors", "400", "--write-once", "--marks", "f.img"], &["f.img"]);
+    folder.turns_away(&[&make[..], &["--force", "--marks", "text"]].concat(), &["text", "no marks file"]);
+    folder.turns_away(&["make", "f.img", "--sectors", "400", "--write-once", "--marks", "f.img"], &["f.img"]);
 }
 
 #[test]
@@ -310,10 +234,10 @@ fn marks_that_do_not_belong_are_refused_without_advice() {
     folder.does(&["save", "d.img", "new", "text"]);
     // sector 289 holds block 0
     folder.write("m", b"tuormik marks\nblank 289 1\n");
-    folder.refuses(&["info", "d.img", "--marks", "m"], &["sector 289 is called blank"]);
-    folder.refuses(&["save", "d.img", "new", "text", "--marks", "m"], &["sector 289 is called blank"]);
+    folder.turns_away(&["info", "d.img", "--marks", "m"], &["sector 289 is called blank"]);
+    folder.turns_away(&["save", "d.img", "new", "text", "--marks", "m"], &["sector 289 is called blank"]);
     folder.write("m", b"tuormik marks\nimage 0000000000000000\n");
-    folder.refuses(&["info", "d.img", "--marks", "m"], &["belong to other bytes"]);
+    folder.turns_away(&["info", "d.img", "--marks", "m"], &["belong to other bytes"]);
     assert!(!folder.run(&["info", "d.img", "--marks", "m"]).2.contains("take out"));
     // sectors that no line names follow the rule, also behind the last one that is named
     folder.write("m", b"tuormik marks\nunreadable 257 1\n");
@@ -334,19 +258,19 @@ fn dumps_that_are_too_short() {
     folder.does(&["save", "d.img", "new", "text"]);
     assert_eq!(blocks(&folder, "d.img"), 2);
     folder.write("d.img", &bytes[..2048 * 291 - 7]);
-    folder.refuses(&["info", "d.img"], &["595,961", "multiple of 2,048"]);
+    folder.turns_away(&["info", "d.img"], &["595,961", "multiple of 2,048"]);
     folder.write("empty", &[]);
-    folder.refuses(&["info", "empty", "--start", "0", "--length", "9", "--write-once"], &["empty"]);
+    folder.turns_away(&["info", "empty", "--start", "0", "--length", "9", "--write-once"], &["empty"]);
     // of a rewritable disc what is missing was there
     let make = ["make", "r.img", "--sectors", "640", "--tables", "0,32", "--spares", "96,128", "--length", "64"];
     folder.does(&make);
     let bytes = std::fs::read(folder.path("r.img")).expect("a file");
     folder.write("r.img", &bytes[..2048 * 340]);
-    folder.refuses(&["info", "r.img"], &["340 sectors", "end at 352"]);
+    folder.turns_away(&["info", "r.img"], &["340 sectors", "end at 352"]);
     folder.does(&["make", "t.img", "--sectors", "640", "--tables", "384,576", "--spares", "96,128", "--length", "64"]);
     let bytes = std::fs::read(folder.path("t.img")).expect("a file");
     folder.write("t.img", &bytes[..2048 * 600]);
-    folder.refuses(&["save", "t.img", "0", "text"], &["600 sectors", "end at 608"]);
+    folder.turns_away(&["save", "t.img", "0", "text"], &["600 sectors", "end at 608"]);
 }
 
 #[test]
@@ -355,15 +279,15 @@ fn input_that_is_not_what_it_should_be() {
     folder.does(&["save", "d.img", "new", "text"]);
     folder.does(&["make", "r.img", "--sectors", "640", "--tables", "0,32", "--spares", "96,128", "--length", "64"]);
     folder.write("empty", &[]);
-    folder.refuses(&["save", "d.img", "new", "empty"], &["empty"]);
-    folder.refuses(&["save", "r.img", "0", "empty", "--packet"], &["empty"]);
-    folder.refuses(&["save", "r.img", "0", "text", "--packet"], &["3 bytes", "65,536"]);
+    folder.turns_away(&["save", "d.img", "new", "empty"], &["empty"]);
+    folder.turns_away(&["save", "r.img", "0", "empty", "--packet"], &["empty"]);
+    folder.turns_away(&["save", "r.img", "0", "text", "--packet"], &["3 bytes", "65,536"]);
     folder.write("odd", &[1; 65_537]);
-    folder.refuses(&["save", "r.img", "0", "odd", "--packet"], &["65,537 bytes", "65,536"]);
-    folder.refuses(&["save", "d.img", "new", "/dev/zero"], &["/dev/zero", "229,376", "112 blocks"]);
-    folder.refuses(&["save", "r.img", "0", "/dev/zero"], &["/dev/zero", "131,072", "64 blocks"]);
-    folder.refuses(&["read", "d.img", "0", "0"], &["COUNT"]);
-    folder.refuses(&["free", "d.img", "0", "0"], &["COUNT"]);
+    folder.turns_away(&["save", "r.img", "0", "odd", "--packet"], &["65,537 bytes", "65,536"]);
+    folder.turns_away(&["save", "d.img", "new", "/dev/zero"], &["/dev/zero", "229,376", "112 blocks"]);
+    folder.turns_away(&["save", "r.img", "0", "/dev/zero"], &["/dev/zero", "131,072", "64 blocks"]);
+    folder.turns_away(&["read", "d.img", "0", "0"], &["COUNT"]);
+    folder.turns_away(&["free", "d.img", "0", "0"], &["COUNT"]);
     let endless = ["info", "/dev/zero", "--start", "0", "--length", "9", "--write-once"];
     refuses_quickly(&folder, &endless, "more than 2,147,483,648 bytes");
 }
@@ -378,10 +302,10 @@ fn what_may_be_a_newer_vat_is_not_committed_over() {
     bytes[2048 * 290 + 4] ^= 1;
     folder.write("d.img", &bytes);
     let info = folder.does(&["info", "d.img"]);
-    assert!(info.contains("Block 2 (sector 290)") && info.contains("Do not commit"), "{info}");
+    assert!(info.contains("block 2 (sector 290)") && info.contains("Do not commit"), "{info}");
     assert!(!info.contains("tuormik commit"), "{info}");
     for words in [&["commit", "d.img"][..], &["save", "d.img", "new", "text"], &["commit", "d.img", "--cut", "1:old"]] {
-        folder.refuses(words, &["block 2 (sector 290)", "cannot be undone", "--force"]);
+        folder.turns_away(words, &["block 2 (sector 290)", "cannot be undone", "--force"]);
     }
     folder.does(&["save", "d.img", "new", "text", "--force"]);
     folder.does(&["free", "d.img", "0"]);

@@ -6,14 +6,6 @@ use folder::Folder;
 
 const SECTOR: usize = 2048;
 
-/// A folder with a write-once disc of 400 sectors, and files to save.
-fn write_once(name: &str) -> Folder {
-    let folder = Folder::new(name);
-    folder.does(&["make", "d.img", "--sectors", "400", "--write-once"]);
-    folder.write("text", b"one");
-    folder
-}
-
 /// A folder with a rewritable disc of 640 sectors: partition at 288, 64 sectors, three tables, two spares.
 fn rewritable(name: &str) -> Folder {
     let folder = Folder::new(name);
@@ -39,7 +31,7 @@ fn refuse(folder: &Folder, line: u32, cases: &[(&[&str], &str)]) {
 
 #[test]
 fn a_message_has_the_sentence_first_and_then_the_line() {
-    let folder = write_once("refusal-form");
+    let folder = Folder::with_disc("refusal-form");
     let (status, out, err) = folder.run(&["read", "d.img", "2"]);
     assert_eq!((status, out.as_str()), (1, ""));
     let expected = "tuormik: block 2 does not exist: the disc has no blocks yet\n\
@@ -95,7 +87,7 @@ fn discs_that_cannot_be_made() {
 
 #[test]
 fn map_lists_by_hand() {
-    let folder = write_once("refusal-maps");
+    let folder = Folder::with_disc("refusal-maps");
     let by_hand = ["info", "d.img", "--start", "288", "--length", "112", "--maps", "maps"];
     let cases: [(u32, &[u8], &str); 4] = [
         (4, &[1], "the map list breaks off: the map at its byte 0 has 1 byte"),
@@ -123,7 +115,7 @@ fn map_lists_by_hand() {
 
 #[test]
 fn numbers_that_are_not_there() {
-    let folder = write_once("refusal-numbers");
+    let folder = Folder::with_disc("refusal-numbers");
     let cases: [(&[&str], &str); 2] = [
         (&["read", "d.img", "0"], "block 0 does not exist: the disc has no blocks yet"),
         (&["save", "d.img", "1", "text"], "block 1 cannot be saved yet: the disc has no blocks yet, and the next new one is 0"),
@@ -148,7 +140,7 @@ fn numbers_that_are_not_there() {
 
 #[test]
 fn sectors_that_cannot_be_read() {
-    let folder = write_once("refusal-marks");
+    let folder = Folder::with_disc("refusal-marks");
     folder.does(&["save", "d.img", "new", "text"]);
     folder.write("m", b"tuormik marks\nrecorded 0 291\nunreadable 289 1\n");
     let read = ["read", "d.img", "0", "--marks", "m"];
@@ -169,7 +161,7 @@ fn sectors_that_cannot_be_read() {
 
 #[test]
 fn a_block_that_would_pass_as_an_icb() {
-    let folder = write_once("refusal-icb");
+    let folder = Folder::with_disc("refusal-icb");
     folder.does(&["make", "e.img", "--sectors", "400", "--write-once"]);
     folder.does(&["commit", "e.img"]);
     // the ICB that e.img has at block 1, where the next write of d.img goes
@@ -203,7 +195,7 @@ fn no_room() {
 
 #[test]
 fn calls_for_the_other_kind() {
-    let folder = write_once("refusal-kind-once");
+    let folder = Folder::with_disc("refusal-kind-once");
     folder.write("packet", &[7; 65_536]);
     let cases: [(&[&str], &str); 2] = [
         (&["spare", "d.img", "0", "packet"], "the sparing of the packet of block 0 is for a rewritable disc, and this one is write-once"),
@@ -239,7 +231,7 @@ fn sparings() {
     for table in [0, 32, 64] {
         patch(&folder, "d.img", table, 52, &[255; 4]);
     }
-    std::fs::remove_file(folder.0.join("d.img.marks")).expect("a marks file");
+    std::fs::remove_file(folder.path("d.img.marks")).expect("a marks file");
     let sentence = "the sequence of the sparing table has come to its end, 4,294,967,295";
     refuse(&folder, 20, &[(&["spare", "d.img", "0", "packet"], sentence)]);
     folder.does(&["make", "e.img", "--sectors", "640", "--tables", "0,32", "--length", "64"]);
@@ -254,7 +246,7 @@ fn sparings() {
 
 #[test]
 fn what_a_write_once_disc_has_instead_of_a_vat() {
-    let folder = write_once("refusal-no-vat");
+    let folder = Folder::with_disc("refusal-no-vat");
     let info = ["info", "d.img"];
     // UDF 2.01: an Extended File Entry of file type 248
     patch(&folder, "d.img", 288, 0, &266u16.to_le_bytes());
@@ -285,7 +277,7 @@ fn what_a_rewritable_disc_has_instead_of_a_table() {
     // copies of one sequence with other entries: the free spares by turns
     patch(&folder, "d.img", 32, 60, &128u32.to_le_bytes());
     patch(&folder, "d.img", 32, 68, &96u32.to_le_bytes());
-    std::fs::remove_file(folder.0.join("d.img.marks")).expect("a marks file");
+    std::fs::remove_file(folder.path("d.img.marks")).expect("a marks file");
     let sentence = "the copies of the sparing table in sectors 0, 32 and 64 have sequence 0 and differ in their entries";
     refuse(&folder, 10, &[(&info, sentence)]);
     // UDF 1.50's identifier, none, and another
@@ -320,7 +312,7 @@ fn crc(bytes: &[u8]) -> u16 {
 /// A VAT of 4,097 entries: 16,424 bytes in blocks 1 to 9, its ICB at block 10.
 #[test]
 fn a_vat_with_too_many_entries() {
-    let folder = write_once("refusal-entries");
+    let folder = Folder::with_disc("refusal-entries");
     let mut image = folder.bytes("d.img");
     let file = 36 + 4 * 4097u32;
     let mut icb = image[SECTOR * 288..SECTOR * 289].to_vec();

@@ -2,9 +2,8 @@
 
 mod folder;
 
-use folder::{has, Folder};
+use folder::{ended, has, Folder};
 use std::path::Path;
-use std::process::Stdio;
 
 const COMMANDS: [&str; 15] =
     ["info", "verify", "list", "read", "save", "free", "commit", "spare", "make", "export", "diff", "report", "history", "map", "demo"];
@@ -98,7 +97,7 @@ fn a_block_of_zeros_needs_a_marks_file() {
     assert_eq!(folder.names(), ["d.img", "d.img.marks", "zeros"]);
     // marks that go with another image are not taken
     folder.does(&["make", "e.img", "--sectors", "401", "--write-once"]);
-    std::fs::copy(folder.0.join("d.img.marks"), folder.0.join("e.img.marks")).expect("a copy");
+    std::fs::copy(folder.path("d.img.marks"), folder.path("e.img.marks")).expect("a copy");
     folder.usage(&["info", "e.img"]);
     folder.does(&["commit", "d.img"]);
     has(&folder.does(&["info", "d.img"]), "passed over 0");
@@ -178,7 +177,7 @@ fn volumes_by_hand() {
     folder.write("empty", &[]);
     folder.usage(&["info", "empty", "--start", "0", "--length", "1", "--write-once"]);
     folder.refuses(2, &["info", "d.img", "--start", "4294967295", "--length", "4294967295", "--write-once"]);
-    assert!(!Path::new(&folder.0.join("e.img")).exists());
+    assert!(!Path::new(&folder.path("e.img")).exists());
 }
 
 /// Where the image cannot be replaced it stays as it was, and no half of a new one is left.
@@ -189,10 +188,10 @@ fn an_image_is_replaced_whole_or_not_at_all() {
     folder.write("text", b"one");
     let before = folder.bytes("d.img");
     // a folder stands where the store is to be told of
-    std::fs::create_dir(folder.0.join("d.img.tuormik-store")).expect("a folder");
+    std::fs::create_dir(folder.path("d.img.tuormik-store")).expect("a folder");
     folder.usage(&["save", "d.img", "new", "text"]);
     assert_eq!(folder.bytes("d.img"), before);
-    std::fs::remove_dir(folder.0.join("d.img.tuormik-store")).expect("a folder");
+    std::fs::remove_dir(folder.path("d.img.tuormik-store")).expect("a folder");
     // a half of one that a crash left is removed
     folder.write("d.img.tuormik-new-7", &[9; 100]);
     folder.does(&["save", "d.img", "new", "text"]);
@@ -214,9 +213,7 @@ fn the_demo_finds_every_block() {
 #[test]
 fn nobody_has_to_read_the_output() {
     let folder = Folder::new("pipe");
-    let mut child = folder.command(&["demo"]).stdout(Stdio::piped()).stderr(Stdio::piped()).spawn().expect("the tool runs");
+    let mut child = folder.start(&["demo"]);
     drop(child.stdout.take());
-    let output = child.wait_with_output().expect("the tool ends");
-    assert!(!String::from_utf8_lossy(&output.stderr).contains("panicked"));
-    assert_eq!(output.status.code(), Some(0));
+    assert_eq!(ended(child).0, 0);
 }

@@ -5,7 +5,7 @@ use super::{refused, words, Failure};
 use std::ffi::OsString;
 use std::path::{Path, PathBuf};
 use tuormik::descriptors::{find_volume, Volume};
-use tuormik::{read_maps, write_maps, Cut, Effect, Maps};
+use tuormik::{write_maps, Cut, Effect, Maps};
 
 /// A command's words: those in their places, and the options.
 #[derive(Default)]
@@ -34,6 +34,9 @@ pub const VALUES: [&str; 13] = [
     "--at",
     "--media",
 ];
+
+/// What becomes of a write at which the power fails, with its words.
+pub const EFFECTS: [(Effect, &str); 3] = [(Effect::Old, "old"), (Effect::Unreadable, "unreadable"), (Effect::Whole, "whole")];
 
 fn usage(words: String) -> Failure {
     Failure::Usage(words)
@@ -127,50 +130,54 @@ impl Args {
         };
         let word = word.to_string_lossy();
         let (at, effect) = word.split_once(':').unwrap_or((&word, "old"));
-        let effect = match effect {
-            "old" => Effect::Old,
-            "unreadable" => Effect::Unreadable,
-            "whole" => Effect::Whole,
-            _ => return Err(usage(format!("--cut {word}: a write becomes old, unreadable or whole"))),
-        };
-        Ok(Cut::at(number(at, "--cut")?, effect))
+        let effect = EFFECTS.iter().find(|(_, name)| *name == effect);
+        let (effect, _) = effect.ok_or_else(|| usage(format!("--cut {word}: a write becomes old, unreadable or whole")))?;
+        Ok(Cut::at(number(at, "--cut")?, *effect))
     }
 
-    /// The map list that the options give: a file, the kind, or the medium.
+    /// The map list that the options give: a file, or the kind.
     fn maps(&self) -> Result<Option<Vec<u8>>, Failure> {
         if let Some(path) = self.path("--maps") {
             return std::fs::read(path).map(Some).map_err(|e| Failure::file(path, &e));
         }
-        let partition = self.number("--partition")?.unwrap_or(0);
-        let partition = u16::try_from(partition).map_err(|_| usage(format!("--partition {partition} is above 65,535")))?;
-        let tables = match self.value("--media") {
-            Some(_) => Some(self.layout()?.tables).filter(|tables| !tables.is_empty()),
-            None => self.numbers("--tables")?,
-        };
-        let maps = match (self.has("--write-once") || self.has("--media"), tables) {
-            (true, Some(_)) if self.has("--write-once") => return Err(usage("--write-once and --tables are of different kinds".into())),
-            (_, Some(tables)) => Maps::Rewritable { partition, table_bytes: self.number("--table-bytes")?.unwrap_or(2048), tables },
-            (true, None) => Maps::WriteOnce { partition },
-            (false, None) => return Ok(None),
-        };
-        write_maps(&maps).map(Some).map_err(|error| refused::by_maps(&maps, error))
+        match (self.has("--write-once"), self.numbers("--tables")?) {
+            (true, Some(_)) => Err(usage("--write-once and --tables are of different kinds".into())),
+            (false, None) => Ok(None),
+            (_, tables) => self.maps_of(tables).map(Some),
+        }
     }
 
-    /// Where everything is on a disc to be made: as the medium has it, or as the options give it.
-    pub fn layout(&self) -> Result<Layout, Failure> {
-        let sectors = self.number("--sectors")?;
-        let Some(medium) = self.value("--media") else {
-            let sectors = sectors.ok_or_else(|| usage("how many sectors? --sectors N, or --media cdr or cdrw".into()))?;
-            let start = self.number("--start")?.unwrap_or(START);
-            let length = self.number("--length")?.unwrap_or(sectors.saturating_sub(start));
-            let spares = self.numbers("--spares")?.unwrap_or_default();
-            return Ok(Layout { sectors, start, length, tables: Vec::new(), spares });
+    /// The map list of a rewritable volume with tables, or of a write-once one.
+    fn maps_of(&self, tables: Option<Vec<u32>>) -> Result<Vec<u8>, Failure> {
+        let partition = self.number("--partition")?.unwrap_or(0);
+        let partition =
+            u16::try_from(partition).map_err(|_| usage(format!("--partition {} is above 65,535", words::grouped(partition))))?;
+        let table_bytes = self.number("--table-bytes")?.unwrap_or(2048);
+        let maps = match tables {
+            Some(tables) => Maps::Rewritable { partition, table_bytes, tables },
+            None => Maps::WriteOnce { partition },
         };
-        let own = ["--write-once", "--tables", "--table-bytes", "--start", "--length", "--spares", "--maps"];
-        match own.iter().find(|option| self.has(option)) {
-            Some(option) => Err(usage(format!("--media gives a disc all but its number of sectors, so {option} does not go with it"))),
-            None => layout(&medium.to_string_lossy(), sectors),
+        write_maps(&maps).map_err(|error| refused::by_maps(&maps, error))
+    }
+
+    /// Where everything is on a disc to be made, with its map list: as the medium has it, or as the options give it.
+    pub fn layout(&self) -> Result<(Layout, Vec<u8>), Failure> {
+        let sectors = self.number("--sectors")?;
+        if let Some(medium) = self.value("--media") {
+            let own = ["--write-once", "--tables", "--table-bytes", "--start", "--length", "--spares", "--maps"];
+            if let Some(option) = own.iter().find(|option| self.has(option)) {
+                return Err(usage(format!("--media gives a disc all but its number of sectors, so {option} does not go with it")));
+            }
+            let layout = layout(&medium.to_string_lossy(), sectors)?;
+            let maps = self.maps_of(layout.tables.clone())?;
+            return Ok((layout, maps));
         }
+        let sectors = sectors.ok_or_else(|| usage("how many sectors? --sectors N, or --media cdr or cdrw".into()))?;
+        let start = self.number("--start")?.unwrap_or(START);
+        let length = self.number("--length")?.unwrap_or(sectors.saturating_sub(start));
+        let (tables, spares) = (self.numbers("--tables")?, self.numbers("--spares")?.unwrap_or_default());
+        let maps = self.maps()?.ok_or_else(|| usage("which kind? --write-once, --tables T,.., --maps FILE or --media".into()))?;
+        Ok((Layout { sectors, start, length, tables, spares }, maps))
     }
 
     /// The volume: what the options give, and for the rest what the image's descriptors tell.
@@ -183,15 +190,6 @@ impl Args {
             usage(format!("{why}; give the volume by hand: --start S --length L and --write-once, --tables T,.. or --maps FILE"))
         })?;
         Ok(Volume { maps: maps.unwrap_or(found.maps), start: start.unwrap_or(found.start), length: length.unwrap_or(found.length) })
-    }
-
-    /// The volume that a disc to be made gets, and its partition number.
-    pub fn new_volume(&self, start: u32, length: u32) -> Result<(Volume, u16), Failure> {
-        let maps = self.maps()?.ok_or_else(|| usage("which kind? --write-once, --tables T,.., --maps FILE or --media".into()))?;
-        let partition = match read_maps(&maps).map_err(|error| refused::by_list(&maps, error))? {
-            Maps::WriteOnce { partition } | Maps::Rewritable { partition, .. } => partition,
-        };
-        Ok((Volume { maps, start, length }, partition))
     }
 }
 

@@ -1,24 +1,22 @@
 //! The commands over an image file.
 
-use super::args::Args;
+use super::args::{Args, EFFECTS};
 use super::commits::{self, chain};
 use super::media::Layout;
 use super::passed::{need_force, Passed};
 use super::picture::Picture;
-use super::progress::Progress;
+use super::progress::{Progress, Waiting};
 use super::refused::{self, Asked};
-use super::report::commit_row;
 use super::states::View;
 use super::summary::mark_words;
 use super::words::{counted, grouped, number};
 use super::{Done, Failure};
 use std::io::{Read, Write};
 use std::path::{Path, PathBuf};
-use tuormik::descriptors::{write_volume, DESCRIPTORS_END};
+use tuormik::descriptors::{write_volume, Volume, DESCRIPTORS_END};
 use tuormik::image::Image;
 use tuormik::{
-    read_maps, Cut, Effect, Error, Held, Maps, Open, Refusal, BLANK, MOST_ENTRIES, MOST_SECTORS, NONE, PACKET, PACKET_BYTES, RECORDED,
-    SECTOR,
+    read_maps, Cut, Error, Held, Maps, Open, Refusal, BLANK, MOST_ENTRIES, MOST_SECTORS, NONE, PACKET, PACKET_BYTES, RECORDED, SECTOR,
 };
 
 const VOLUME_OPTIONS: [&str; 8] = ["--marks", "--start", "--length", "--maps", "--tables", "--table-bytes", "--partition", "--write-once"];
@@ -30,6 +28,7 @@ pub fn known(args: &Args, own: &[&str]) -> Done {
 
 /// The image of a path, with the marks and the volume that the options give.
 pub fn load(args: &Args, path: &Path) -> Result<Image, Failure> {
+    let _waiting = Waiting::new(format!("reading {}", path.display()));
     Image::load(path, args.path("--marks"), |bytes| args.volume(bytes))
 }
 
@@ -42,6 +41,7 @@ fn load_next(args: &mut Args) -> Result<Image, Failure> {
 /// The same, to be stored: it is locked from here on.
 fn load_to_write(args: &mut Args) -> Result<Image, Failure> {
     let path = args.next_path("IMAGE")?;
+    let _waiting = Waiting::new(format!("reading {}", path.display()));
     Image::load_to_write(&path, args.path("--marks"), |bytes| args.volume(bytes))
 }
 
@@ -193,27 +193,25 @@ fn input_for(image: &Image, path: &Path, packet: bool) -> Result<Vec<u8>, Failur
     }
 }
 
-fn effect_name(effect: Effect) -> &'static str {
-    match effect {
-        Effect::Old => "old",
-        Effect::Unreadable => "unreadable",
-        Effect::Whole => "whole",
-    }
+fn store(image: &mut Image) -> Done {
+    let _waiting = Waiting::new("storing the image".to_string());
+    Ok(image.store()?)
 }
 
 /// Stores the image once a call is done, and where the power was to fail in it too: then it is the disc as the cut left it.
 fn finish(image: &mut Image, answer: Result<String, Failure>, cut: Cut, out: &mut dyn Write) -> Done {
     match answer {
         Ok(words) => {
-            image.store()?;
+            store(image)?;
             writeln!(out, "{words}")?;
             Ok(())
         }
         Err(Failure::Cut(call)) => {
-            image.store()?;
-            let (at, effect) = (grouped(cut.at), effect_name(cut.effect));
+            store(image)?;
+            let effect = EFFECTS.iter().find(|(effect, _)| *effect == cut.effect).map_or("", |(_, name)| name);
             Err(Failure::Cut(format!(
-                "the power failed at write {at} of {call}, which became {effect}; the image was stored as the cut left it"
+                "the power failed at write {} of {call}, which became {effect}; the image was stored as the cut left it",
+                grouped(cut.at)
             )))
         }
         Err(other) => Err(other),
@@ -374,16 +372,19 @@ pub fn make(args: &mut Args, out: &mut dyn Write) -> Done {
     ])?;
     let path = args.next_path("IMAGE")?;
     args.end()?;
-    let Layout { sectors, start, length, spares, .. } = args.layout()?;
+    let (Layout { sectors, start, length, spares, .. }, maps) = args.layout()?;
     if sectors as usize > MOST_SECTORS {
         return Err(refused::sectors(sectors as usize));
     }
-    let (volume, partition) = args.new_volume(start, length)?;
+    let partition = match read_maps(&maps).map_err(|error| refused::by_list(&maps, error))? {
+        Maps::WriteOnce { partition } | Maps::Rewritable { partition, .. } => partition,
+    };
+    let volume = Volume { maps, start, length };
     let mut image = Image::create(&path, args.path("--marks"), sectors as usize, volume, args.has("--force"))?;
     let mut disc = image.disc();
     disc.make(&spares).map_err(|error| refused::by_making(disc.to_read(), &spares, error))?;
     let is_described = !args.has("--no-descriptors") && describe(&mut image, partition);
-    image.store()?;
+    store(&mut image)?;
     writeln!(out, "made {}: {}, S {}, L {}", path.display(), counted(sectors as usize, "sector"), grouped(start), grouped(length))?;
     if !is_described {
         writeln!(out, "it has no descriptors: give S, L and the kind to the other commands by hand")?;
@@ -413,12 +414,12 @@ fn describe(image: &mut Image, partition: u16) -> bool {
 }
 
 /// Whether the packet of sectors 256 to 287 is a spare.
-fn is_spare_there(image: &mut Image) -> bool {
-    match image.disc().open() {
-        Ok(open) => match open.record().held {
-            Held::Rewritable { .. } => open.table().chunks_exact(2).any(|e| e[1] == 256),
-            Held::WriteOnce { .. } => false,
-        },
+fn is_spare_there(image: &Image) -> bool {
+    match image.to_read().open() {
+        Ok(open) => {
+            let view = View::from(&open);
+            !view.is_write_once() && view.spares().any(|(_, mapped)| mapped == 256)
+        }
         Err(_) => true,
     }
 }
@@ -430,9 +431,8 @@ pub fn history(args: &mut Args, out: &mut dyn Write) -> Done {
     let found = chain(&image)?;
     writeln!(out, "VAT ICB    sector       N  sectors between it and the next")?;
     for commit in &found {
-        if let [icb, sector, entries, between] = &commit_row(commit, image.volume.start)[..] {
-            writeln!(out, "{icb:>7}  {sector:>8}  {entries:>6}  {between:>6}")?;
-        }
+        let [icb, sector, entries, between] = commit.numbers(image.volume.start);
+        writeln!(out, "{icb:>7}  {sector:>8}  {entries:>6}  {between:>6}")?;
     }
     Passed::new((&commits::open(&image)?).into()).warn(out)
 }

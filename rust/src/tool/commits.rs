@@ -63,6 +63,14 @@ pub struct Commit {
     pub record: Record,
 }
 
+impl Commit {
+    /// Its block, its sector, its number of blocks, and the sectors between it and the next, as they are printed.
+    pub fn numbers(&self, start: u32) -> [String; 4] {
+        let sector = u64::from(start) + u64::from(self.icb);
+        [grouped(self.icb), grouped(sector), grouped(self.record.entries()), grouped(self.record.passed_over)]
+    }
+}
+
 /// The commits of a write-once disc, the newest first: each is found by opening again with L cut to the ICB of the one before.
 pub fn chain(image: &Image) -> Result<Vec<Commit>, Failure> {
     if let Ok(Maps::Rewritable { .. }) = read_maps(&image.volume.maps) {

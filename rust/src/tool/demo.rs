@@ -1,13 +1,11 @@
 //! The power cut at every sector write of a commit and of a sparing, on discs in memory.
 
-use super::args::Args;
+use super::args::{Args, EFFECTS};
 use super::refused::{self, Asked};
 use super::words::grouped;
 use super::{Done, Failure};
 use std::io::Write;
-use tuormik::{write_maps, Cut, Disc, Effect, Error, Maps, Open, BLANK, PACKET, SECTOR};
-
-const EFFECTS: [(Effect, &str); 3] = [(Effect::Old, "old"), (Effect::Unreadable, "unreadable"), (Effect::Whole, "whole")];
+use tuormik::{write_maps, Cut, Disc, Error, Maps, Open, BLANK, PACKET, SECTOR};
 
 /// A disc in memory.
 #[derive(Clone)]

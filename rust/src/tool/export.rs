@@ -6,10 +6,9 @@ use super::progress::Progress;
 use super::states::{Block, View};
 use super::words::{counted, grouped, parts};
 use super::{commits, Done, Failure};
-use std::fs;
+use std::fs::{self, File};
 use std::io::Write;
 use std::path::Path;
-use tuormik::image::write_file;
 
 const LIST: &str = "list.csv";
 
@@ -32,15 +31,15 @@ pub fn export(args: &mut Args, out: &mut dyn Write) -> Done {
         let name = if block.is_readable() { format!("block-{:0digits$}.bin", block.number) } else { String::new() };
         if block.is_readable() {
             let to = folder.join(&name);
-            fs::write(&to, commits::read(&open, block.number)?).map_err(|e| Failure::file(&to, &e))?;
+            write_new(&to, &commits::read(&open, block.number)?)?;
             read += 1;
         }
         list.push_str(&line(&block, &name));
         progress.tell(block.number as usize, count);
     }
     drop(progress);
-    // the list comes last: where it stands, the export came to its end
-    write_file(&folder.join(LIST), list.as_bytes())?;
+    // the list comes last: a tool that was stopped leaves none
+    image.write_output(&folder.join(LIST), list.as_bytes())?;
     let lost = view.blocks().filter(Block::is_lost).count();
     let skipped = parts(&[(count - read - lost, "unused"), (lost, "that cannot be read")]);
     let also = if skipped.is_empty() { String::new() } else { format!("; skipped: {skipped}") };
@@ -55,6 +54,12 @@ fn line(block: &Block, name: &str) -> String {
         None => Default::default(),
     };
     format!("{},{logical},{sector},{},{name}\n", block.number, block.state())
+}
+
+/// Writes a file that is not there yet.
+fn write_new(path: &Path, bytes: &[u8]) -> Done {
+    let written = File::create_new(path).and_then(|mut file| file.write_all(bytes));
+    written.map_err(|e| Failure::file(path, &e))
 }
 
 /// A new folder, or one that is there and empty.

@@ -67,13 +67,14 @@ fn list_words(maps: &[u8]) -> String {
 pub fn cut_map(maps: &[u8]) -> String {
     let mut at = 0;
     loop {
+        let place = grouped(at);
         match maps[at..] {
             [] => return format!("the map list of {} breaks off", counted(maps.len(), "byte")),
-            [_] => return format!("the map list breaks off: the map at its byte {at} has 1 byte"),
-            [_, 0, ..] => return format!("the map at byte {at} of the map list says that its length is 0"),
+            [_] => return format!("the map list breaks off: the map at its byte {place} has 1 byte"),
+            [_, 0, ..] => return format!("the map at byte {place} of the map list says that its length is 0"),
             [_, length, ..] if usize::from(length) > maps.len() - at => {
                 let left = counted(maps.len() - at, "byte");
-                return format!("the map list breaks off: the map at its byte {at} says {length} bytes, and {left} are left");
+                return format!("the map list breaks off: the map at its byte {place} says {length} bytes, and {left} are left");
             }
             [_, length, ..] => at += usize::from(length),
         }
@@ -222,7 +223,7 @@ const FILE_TYPE_AT: usize = 27;
 const INFORMATION_LENGTH_AT: usize = 56;
 const VAT_FILE_TYPE_200: u8 = 248;
 
-/// What a sector has that is, or was meant to be, the ICB of a VAT.
+/// What a sector has that may be, or was meant to be, the ICB of a VAT.
 fn icb_words(bytes: &[u8]) -> Option<&'static str> {
     match (number_at(bytes, 0, 2), bytes.get(FILE_TYPE_AT).copied()?) {
         (EXTENDED_FILE_ENTRY, VAT_FILE_TYPE_200) => Some("a VAT of UDF 2.01: an Extended File Entry (tag 266) of file type 248"),
@@ -231,6 +232,11 @@ fn icb_words(bytes: &[u8]) -> Option<&'static str> {
         (FILE_ENTRY, 0) => Some("a File Entry of file type 0 that breaks a rule for a VAT ICB"),
         _ => None,
     }
+}
+
+/// What a sector has that may be the ICB of a VAT.
+pub fn icb_at(disc: DiscRef, at: usize) -> &'static str {
+    icb_words(sector(disc, at)).unwrap_or("no File Entry")
 }
 
 /// The sectors of the partition that are not blank, the highest first, with their marks.
@@ -286,6 +292,9 @@ pub fn too_many_entries(disc: DiscRef) -> String {
     }
 }
 
+/// How many sectors are named one by one.
+const MOST_NAMED: usize = 4;
+
 /// What an opening passed over, from one sector up to another, in words.
 pub fn passed_over(disc: DiscRef, from: usize, to: usize) -> String {
     let marks = disc.marks.get(from..to).unwrap_or_default();
@@ -300,7 +309,9 @@ pub fn passed_over(disc: DiscRef, from: usize, to: usize) -> String {
     let [blank, recorded, unreadable] = counts;
     let kinds = [(recorded, "recorded sector"), (unreadable, "unreadable sector"), (blank, "blank sector")];
     let mut words: Vec<String> = kinds.iter().filter(|(n, _)| *n > 0).map(|(n, what)| counted(*n, what)).collect();
-    words.append(&mut named);
+    let more = named.len().saturating_sub(MOST_NAMED);
+    words.extend(named.into_iter().rev().take(MOST_NAMED));
+    words.extend((more > 0).then(|| format!("{} more of these", grouped(more))));
     joined(&words)
 }
 

@@ -29,7 +29,7 @@ fn as_text(args: &Args, path: &Path, out: &mut dyn Write) -> Done {
         writeln!(out, "{name:<12}  {words}")?;
     }
     match &summary.opened {
-        Ok(opened) => opened.warn(out),
+        Ok(opened) => opened.passed().map_or(Ok(()), |passed| passed.warn(out)),
         Err((words, why)) => Err(Failure::Refused(words.clone(), *why)),
     }
 }

@@ -1,7 +1,7 @@
 //! What an opening passed over above the last VAT ICB, and what to do about it.
 
 use super::states::View;
-use super::words::grouped;
+use super::words::{grouped, wrapped};
 use super::{found, Done, Failure};
 use std::io::Write;
 use tuormik::{possible_icbs, Held, Open};
@@ -12,8 +12,20 @@ pub struct Passed {
     /// What the sectors have, in words.
     pub words: String,
     /// The highest block that may be a newer VAT than the one that was found.
-    pub possible: Option<u32>,
-    start: u32,
+    pub possible: Option<Possible>,
+}
+
+/// A block that may be a newer VAT.
+pub struct Possible {
+    pub block: u32,
+    sector: usize,
+    has: &'static str,
+}
+
+impl Possible {
+    fn words(&self) -> String {
+        format!("block {} (sector {})", grouped(self.block), grouped(self.sector))
+    }
 }
 
 impl Passed {
@@ -24,13 +36,12 @@ impl Passed {
             Held::WriteOnce { next, last, .. } => found::passed_over(disc, start + last as usize + 1, start + next as usize),
             Held::Rewritable { .. } => String::new(),
         };
-        let possible = possible_icbs(disc.bytes, disc.marks, disc.start, record).last().copied();
-        Passed { count: record.passed_over, words, possible, start: disc.start }
-    }
-
-    /// A block's number and its sector.
-    fn place(&self, block: u32) -> String {
-        format!("{} (sector {})", grouped(block), grouped(u64::from(self.start) + u64::from(block)))
+        let highest = possible_icbs(disc.bytes, disc.marks, disc.start, record).last().copied();
+        let possible = highest.map(|block| {
+            let sector = start + block as usize;
+            Possible { block, sector, has: found::icb_at(disc, sector) }
+        });
+        Passed { count: record.passed_over, words, possible }
     }
 
     fn were_passed(&self) -> String {
@@ -41,28 +52,40 @@ impl Passed {
     }
 
     /// A warning where something was passed over.
-    pub fn warn(&self, out: &mut dyn Write) -> Done {
-        if let Some(block) = self.possible {
-            writeln!(out, "warning       {}.", self.were_passed())?;
-            writeln!(out, "              Block {} among them holds a File Entry of file type 0: it may be", self.place(block))?;
-            writeln!(out, "              a newer VAT that breaks a rule of 01. Do not commit: the disc would end with the older VAT,")?;
-            writeln!(out, "              and on a CD-R that cannot be undone.")?;
-        } else if self.count > 0 {
-            writeln!(out, "warning       {}: blocks saved and not committed, or a", self.were_passed())?;
-            writeln!(out, "              write that was cut. 'tuormik commit' ends the disc with a VAT again.")?;
+    pub fn warning(&self) -> Option<String> {
+        let were_passed = self.were_passed();
+        match (self.count, &self.possible) {
+            (0, _) => None,
+            (_, Some(possible)) => Some(format!(
+                "{were_passed}. Among them {} has {}: it may be a newer VAT. Do not commit: the disc would end with the older VAT, and on a \
+                 CD-R that cannot be undone.",
+                possible.words(),
+                possible.has
+            )),
+            (_, None) => Some(format!(
+                "{were_passed}: blocks saved and not committed, a write that was cut, or a newer VAT that cannot be read. A commit would end \
+                 the disc with the table that was found, without them."
+            )),
         }
-        Ok(())
+    }
+
+    /// Writes the warning, if there is one.
+    pub fn warn(&self, out: &mut dyn Write) -> Done {
+        match self.warning() {
+            Some(words) => Ok(out.write_all(wrapped("warning", &words).as_bytes())?),
+            None => Ok(()),
+        }
     }
 }
 
 /// A commit after which a VAT that may be newer is no longer found needs --force.
 pub fn need_force(open: &Open, is_forced: bool) -> Done {
-    let passed = Passed::new(open.into());
-    match passed.possible {
-        Some(block) if !is_forced => Err(Failure::Usage(format!(
-            "block {} was passed over and holds a File Entry of file type 0: it may be a newer VAT that breaks a rule of 01.\n\
+    match Passed::new(open.into()).possible {
+        Some(possible) if !is_forced => Err(Failure::Usage(format!(
+            "{} was passed over and has {}: it may be a newer VAT.\n\
              A commit would end the disc with the older VAT, and on a CD-R it cannot be undone. Nothing was written; --force commits.",
-            passed.place(block)
+            possible.words(),
+            possible.has
         ))),
         _ => Ok(()),
     }

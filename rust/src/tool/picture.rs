@@ -119,10 +119,13 @@ impl Picture {
         words.join(", ")
     }
 
-    pub fn title(&self) -> String {
+    fn title(&self) -> String {
         let (start, length) = (self.volume.start as usize, self.volume.length as usize);
-        let partition = from_to(start, (start + length).saturating_sub(1), "sector");
-        format!("{}; the partition is {partition}", counted(self.kinds.len(), "sector"))
+        let partition = match length {
+            0 => "has none of them".to_string(),
+            _ => format!("is {}", from_to(start, start + length - 1, "sector")),
+        };
+        format!("{}; the partition {partition}", counted(self.kinds.len(), "sector"))
     }
 }
 
@@ -320,6 +323,23 @@ mod tests {
         let mut text = String::new();
         put_run(&mut text, 0, 320_000, 1024);
         assert_eq!(text.matches('z').count(), 2);
+    }
+
+    /// A CD-R that is full but for its end, with a scratch and a lone unreadable sector.
+    #[test]
+    fn a_full_disc_is_a_small_file() {
+        let mut kinds = vec![Kind::Recorded; 333_000];
+        kinds[320_000..].fill(Kind::Blank);
+        kinds[200_000..203_000].fill(Kind::Unreadable);
+        kinds[100_000] = Kind::Unreadable;
+        kinds[319_999] = Kind::Icb;
+        let volume = Volume { maps: Vec::new(), start: 288, length: 332_712 };
+        let svg = Picture { kinds, volume, from_marks: None }.svg();
+        assert!(svg.len() < 8192, "{} bytes", svg.len());
+        // sector 100,000 is the 673rd of row 97, and its row and the four of the scratch are marked
+        assert!(svg.contains("M672 97h1v1h-1z"), "{svg}");
+        assert_eq!(svg.matches(r#"width="8" height="3""#).count(), 1 + 4);
+        assert!(svg.contains(">recorded: 316,998</text>") && svg.contains(">332,800</text>"), "{svg}");
     }
 
     #[test]

@@ -2,12 +2,11 @@
 
 use super::args::Args;
 use super::commands::{known, load};
-use super::commits::{self, Commit};
 use super::picture::Picture;
 use super::states::{Run, View};
 use super::summary::Summary;
-use super::words::{from_to, grouped};
-use super::{verify, Done, Failure};
+use super::words::from_to;
+use super::{commits, verify, Done, Failure};
 use std::fmt::Write as _;
 use std::io::Write;
 use std::path::Path;
@@ -53,9 +52,16 @@ fn page(path: &Path, image: &Image) -> Result<String, Failure> {
     );
     let class = if verdict.is_clean() { "verdict" } else { "verdict bad" };
     let _ = writeln!(text, "<p class=\"{class}\">{}</p>", escaped(&verdict.words()));
+    let opened = summary.opened.as_ref().ok();
+    if let Some(words) = opened.and_then(|opened| opened.passed()).and_then(|passed| passed.warning()) {
+        let _ = writeln!(text, "<p>{}</p>", escaped(&words));
+    }
     put_table(&mut text, &[], summary.lines().into_iter().map(|(name, words)| vec![name.to_string(), words]));
     let picture = Picture::new(image)?;
-    let _ = writeln!(text, "<h2>The disc</h2>\n<p>Each field is a sector; the line runs around the partition.</p>");
+    let _ = writeln!(
+        text,
+        "<h2>The disc</h2>\n<p>Each field is a sector. Live are the blocks of the current table; the line runs around the partition.</p>"
+    );
     text.push_str(&picture.svg());
     if summary.opened.is_ok() {
         put_blocks(&mut text, image)?;
@@ -74,7 +80,7 @@ fn put_blocks(text: &mut String, image: &Image) -> Done {
         let found = commits::chain(image)?;
         let _ = writeln!(text, "<h2>History</h2>\n<p>The commits, the newest first.</p>");
         let heads = ["VAT ICB", "sector", "blocks", "sectors between it and the next"];
-        put_table(text, &heads, found.iter().map(|commit| commit_row(commit, start)));
+        put_table(text, &heads, found.iter().map(|commit| commit.numbers(start).to_vec()));
     }
     let _ = writeln!(text, "<h2>Blocks</h2>");
     if rows.is_empty() {
@@ -83,11 +89,6 @@ fn put_blocks(text: &mut String, image: &Image) -> Done {
         put_table(text, &["blocks", "where", "state"], rows.into_iter());
     }
     Ok(())
-}
-
-pub fn commit_row(commit: &Commit, start: u32) -> Vec<String> {
-    let at = u64::from(start) + u64::from(commit.icb);
-    vec![grouped(commit.icb), grouped(at), grouped(commit.record.entries()), grouped(commit.record.passed_over)]
 }
 
 fn run_row(run: &Run) -> Vec<String> {

@@ -5,8 +5,7 @@ use super::passed::Passed;
 use super::room::new_blocks;
 use super::states::View;
 use super::words::{counted, grouped, joined, parts};
-use super::{commits, found, refused, Done, Failure};
-use std::io::Write;
+use super::{commits, found, refused, Failure};
 use tuormik::image::{mark_name, Image};
 use tuormik::{read_maps, Held, Maps, OpenRef, Refusal, BLANK, NONE, RECORDED, UNREADABLE};
 
@@ -80,8 +79,8 @@ impl Summary {
     pub fn lines(&self) -> Vec<(&'static str, String)> {
         let mut lines = Vec::new();
         match &self.maps {
-            Some(Maps::WriteOnce { partition }) => lines.push(("kind", format!("write-once, partition {partition}"))),
-            Some(Maps::Rewritable { partition, .. }) => lines.push(("kind", format!("rewritable, partition {partition}"))),
+            Some(Maps::WriteOnce { partition }) => lines.push(("kind", format!("write-once, partition {}", grouped(*partition)))),
+            Some(Maps::Rewritable { partition, .. }) => lines.push(("kind", format!("rewritable, partition {}", grouped(*partition)))),
             None => {}
         }
         if let Ok(opened) = &self.opened {
@@ -215,7 +214,7 @@ impl Opened {
                 ("nwa", Json::number(*next)),
                 ("last_icb", Json::number(*last)),
                 ("passed_over", Json::number(passed.count)),
-                ("possible_newer_vat", passed.possible.map_or(Json::None, Json::number)),
+                ("possible_newer_vat", passed.possible.as_ref().map_or(Json::None, |possible| Json::number(possible.block))),
             ],
             Opened::Rewritable { blocks, entries, used, sequence, stale } => {
                 let [recorded, unreadable, blank] = blocks.map(Json::number);
@@ -234,11 +233,11 @@ impl Opened {
         }
     }
 
-    /// Warns where an opening passed something over.
-    pub fn warn(&self, out: &mut dyn Write) -> Done {
+    /// What the opening passed over; nothing on a rewritable disc.
+    pub fn passed(&self) -> Option<&Passed> {
         match self {
-            Opened::WriteOnce { passed, .. } => passed.warn(out),
-            Opened::Rewritable { .. } => Ok(()),
+            Opened::WriteOnce { passed, .. } => Some(passed),
+            Opened::Rewritable { .. } => None,
         }
     }
 
@@ -258,7 +257,9 @@ impl Opened {
     pub fn gist(&self) -> String {
         match self {
             Opened::WriteOnce { entries, used, per_mille, .. } => {
-                format!("write-once, blocks {}, {}.{} % full", blocks_words(*entries as usize, *used), per_mille / 10, per_mille % 10)
+                let unused = *entries as usize - used;
+                let also = if unused > 0 { format!(" and {} unused", grouped(unused)) } else { String::new() };
+                format!("write-once, {} used{also}, {}.{} % full", counted(*used, "block"), per_mille / 10, per_mille % 10)
             }
             Opened::Rewritable { blocks, entries, used, .. } => {
                 format!(

@@ -32,9 +32,41 @@ pub fn parts(counts: &[(usize, &str)]) -> String {
     there.join(", ")
 }
 
+/// The width of a name before its words, and of lines that words are broken into.
+const NAME: usize = 14;
+const LINE: usize = 110;
+
+/// A name and its words, in as many lines as they take.
+pub fn wrapped(name: &str, words: &str) -> String {
+    let mut text = format!("{name:<NAME$}");
+    let mut wide = NAME;
+    for (i, word) in words.split(' ').enumerate() {
+        if i > 0 && wide + 1 + word.len() > LINE {
+            text.push_str(&format!("\n{:NAME$}", ""));
+            wide = NAME;
+        } else if i > 0 {
+            text.push(' ');
+            wide += 1;
+        }
+        text.push_str(word);
+        wide += word.len();
+    }
+    text + "\n"
+}
+
 #[cfg(test)]
 mod tests {
     use super::*;
+
+    #[test]
+    fn words_are_broken_into_lines() {
+        assert_eq!(wrapped("disc", "of few words"), "disc          of few words\n");
+        let text = wrapped("warning", &["word"; 40].join(" "));
+        let lines: Vec<&str> = text.lines().collect();
+        assert_eq!(lines.len(), 3);
+        assert!(lines.iter().all(|line| line.len() <= LINE) && lines[1].starts_with(&format!("{:NAME$}word", "")));
+        assert_eq!(text.matches("word").count(), 40);
+    }
 
     #[test]
     fn counts_and_ranges() {

@@ -3,7 +3,7 @@
 #![allow(dead_code, reason = "each file of tests uses its part")]
 
 use std::path::PathBuf;
-use std::process::{Command, Output, Stdio};
+use std::process::{Child, Command, Output, Stdio};
 
 /// A folder of one test.
 pub struct Folder(pub PathBuf);
@@ -13,21 +13,29 @@ impl Folder {
         let path = std::env::temp_dir().join(format!("tuormik-{name}-{}", std::process::id()));
         let _ = std::fs::remove_dir_all(&path);
         std::fs::create_dir_all(&path).expect("a folder");
-        Folder(path)
+        Folder(path.canonicalize().expect("a folder"))
+    }
+
+    /// A folder with a write-once disc `d.img` of 400 sectors, and a file `text` to save.
+    pub fn with_disc(name: &str) -> Folder {
+        let folder = Folder::new(name);
+        folder.does(&["make", "d.img", "--sectors", "400", "--write-once"]);
+        folder.write("text", b"one");
+        folder
     }
 
     pub fn command(&self, words: &[&str]) -> Command {
         let mut command = Command::new(env!("CARGO_BIN_EXE_tuormik"));
-        command.args(words).current_dir(&self.0).stdin(Stdio::null());
+        command.args(words).current_dir(&self.0).stdin(Stdio::null()).stdout(Stdio::piped()).stderr(Stdio::piped());
         command
     }
 
+    pub fn start(&self, words: &[&str]) -> Child {
+        self.command(words).spawn().expect("the tool runs")
+    }
+
     pub fn run(&self, words: &[&str]) -> (i32, String, String) {
-        let Output { status, stdout, stderr } = self.command(words).output().expect("the tool runs");
-        let text = |bytes| String::from_utf8_lossy(bytes).into_owned();
-        let (out, err) = (text(&stdout), text(&stderr));
-        assert!(!err.contains("panicked"), "{words:?}: {err}");
-        (status.code().expect("a status"), out, err)
+        ended(self.start(words))
     }
 
     /// Runs it and expects status 0.
@@ -60,19 +68,37 @@ impl Folder {
         err.strip_prefix("tuormik: ").expect("a message").to_string()
     }
 
+    /// Runs it and expects that it refuses with these words, and that no file has changed.
+    pub fn turns_away(&self, words: &[&str], said: &[&str]) {
+        let before = self.files();
+        let (status, out, err) = self.run(words);
+        assert_ne!(status, 0, "{words:?} was done: {out}");
+        assert!(said.iter().all(|part| err.contains(part)), "{words:?}: {err}");
+        assert_eq!(self.files(), before, "{words:?} changed the files");
+    }
+
+    pub fn path(&self, name: &str) -> PathBuf {
+        self.0.join(name)
+    }
+
+    /// The files, each with its bytes where it has any.
+    pub fn files(&self) -> Vec<(PathBuf, Option<Vec<u8>>)> {
+        let entries = std::fs::read_dir(&self.0).expect("a folder").map(|entry| entry.expect("an entry").path());
+        let mut files: Vec<_> = entries.map(|path| (path.clone(), std::fs::read(path).ok())).collect();
+        files.sort();
+        files
+    }
+
     pub fn write(&self, name: &str, bytes: &[u8]) {
-        std::fs::write(self.0.join(name), bytes).expect("a file");
+        std::fs::write(self.path(name), bytes).expect("a file");
     }
 
     pub fn bytes(&self, name: &str) -> Vec<u8> {
-        std::fs::read(self.0.join(name)).expect("a file")
+        std::fs::read(self.path(name)).expect("a file")
     }
 
     pub fn names(&self) -> Vec<String> {
-        let entries = std::fs::read_dir(&self.0).expect("a folder");
-        let mut names: Vec<String> = entries.map(|e| e.expect("an entry").file_name().to_string_lossy().into_owned()).collect();
-        names.sort();
-        names
+        self.files().iter().map(|(path, _)| path.file_name().unwrap_or_default().to_string_lossy().into_owned()).collect()
     }
 }
 
@@ -82,6 +108,16 @@ impl Drop for Folder {
     }
 }
 
+/// What a tool that was started comes to: its status, its output and its messages.
+pub fn ended(child: Child) -> (i32, String, String) {
+    let Output { status, stdout, stderr } = child.wait_with_output().expect("the tool ends");
+    let text = |bytes| String::from_utf8_lossy(bytes).into_owned();
+    let (out, err) = (text(&stdout), text(&stderr));
+    assert!(!err.contains("panicked"), "{err}");
+    (status.code().expect("a status"), out, err)
+}
+
+/// One of the lines of a text is this, but for its spaces.
 pub fn has(text: &str, line: &str) {
     let squeezed = |l: &str| l.split_whitespace().collect::<Vec<_>>().join(" ");
     assert!(text.lines().any(|l| squeezed(l) == line), "'{line}' is not in\n{text}");
