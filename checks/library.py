@@ -4,8 +4,8 @@ TUORMIK_STACK bytes of stack, besides what those functions take.
     python3 checks/library.py [LIBRARY]
 
 The stack is counted from the instructions, as `objdump` prints them: of each function all that it pushes and takes, whichever way it
-goes, and the most of what it calls. A function that takes no fixed number of bytes, or calls itself or what no symbol names, is an error,
-since nothing could be said of it. So the number told is at least what a call takes.
+goes, and the most of what it calls. A function that takes no fixed number of bytes, or calls itself or what no symbol names, or hands on
+the address of another, is an error, since nothing could be said of it. So the number told is at least what a call takes.
 
 It also tries itself on small pieces of C, one that is as it should be and wrong ones that have to be found wrong.
 """
@@ -65,11 +65,29 @@ def functions(library):
     return listed
 
 
-def target_of(operands, relocation, own, listed):
+def named(relocation):
+    """The name in a relocation, that of a function where it is the section of one."""
+    return re.sub(r"^\.text\.", "", re.sub(r"[-+]0x[0-9a-f]+$", "", relocation))
+
+
+def jump_tables(library):
+    """Function to the functions that its table of jumps leads to."""
+    tables, own = {}, None
+    for line in run("objdump", "-r", library).splitlines():
+        start = re.match(r"RELOCATION RECORDS FOR \[(.*)\]:$", line)
+        if start:
+            own = start.group(1)
+        elif own and own.startswith(".rodata.") and " R_X86_64_" in line:
+            tables.setdefault(own[len(".rodata."):], set()).add(named(line.split()[2]))
+    return tables
+
+
+def target_of(operands, relocation, own, listed, tables):
     """The function that a call or a jump goes to, its own where it stays there."""
     if relocation:
-        name = re.sub(r"-0x4$", "", relocation)
-        name = name if name in listed or name in ON_MEMORY else re.sub(r"^\.text\.", "", name)
+        name = named(relocation)
+    elif operands.startswith("*%") and tables.get(own) == {own}:
+        name = own
     else:
         found = re.search(r"<([^>+]*)(?:\+0x[0-9a-f]+)?>$", operands)
         name = found.group(1) if found else operands
@@ -78,7 +96,7 @@ def target_of(operands, relocation, own, listed):
     return name
 
 
-def taken(own, code, listed):
+def taken(own, code, listed, tables):
     """What a function takes by itself, and the functions that it calls."""
     depth, callees, before = RETURN_ADDRESS, set(), ""
     for mnemonic, operands, relocation in code:
@@ -86,10 +104,12 @@ def taken(own, code, listed):
         number = int(number.group(1), 16) if number else None
         if mnemonic.startswith("push"):
             depth += 8
-        elif mnemonic.startswith(("call", "jmp")):
-            target = target_of(operands, relocation, own, listed)
-            if mnemonic.startswith("call") or target != own:
-                callees.add(target)
+        elif mnemonic.startswith("call"):
+            callees.add(target_of(operands, relocation, own, listed, {}))
+        elif mnemonic.startswith("j"):
+            callees |= {target_of(operands, relocation, own, listed, tables)} - {own}
+        elif named(relocation) in listed:
+            raise ValueError("%s takes the address of %s" % (own, named(relocation)))
         elif operands.endswith(",%r11") and mnemonic.startswith("sub") and before == "%rsp,%r11":
             # the end of a loop that takes a page at a time
             depth += number
@@ -107,9 +127,9 @@ def taken(own, code, listed):
     return depth, callees
 
 
-def deepest(listed):
+def deepest(listed, tables):
     """Of each function the most bytes of stack that a call of it takes, with all that it calls."""
-    own = {name: taken(name, code, listed) for name, code in listed.items()}
+    own = {name: taken(name, code, listed, tables) for name, code in listed.items()}
     known = {}
 
     def visit(name, above):
@@ -130,7 +150,7 @@ def examined(library, bound):
     said = ["the library has variables: " + name for name in variables(library)]
     said += ["the library calls " + name for name in sorted(called_outside(library) - ON_MEMORY)]
     try:
-        calls = {name: depth for name, depth in deepest(functions(library)).items() if name.startswith("tuormik_")}
+        calls = {name: depth for name, depth in deepest(functions(library), jump_tables(library)).items() if name.startswith("tuormik_")}
     except ValueError as why:
         return said + [str(why)], {}
     if not calls:
@@ -154,6 +174,9 @@ WRONG = {
     "stack by a number": "#include <string.h>\n"
                          "int tuormik_try(const char *s, int n) { char a[n]; memset(a, *s, n); return memcmp(a, s, n); }",
     "a call of itself": "int tuormik_try(int n) { return n ? tuormik_try(n - 1) * tuormik_try(n / 2) + n : 1; }",
+    "a jump by a pointer": "int tuormik_try(int (*f)(int), int n) { return f(n); }",
+    "the address of a function": "int tuormik_try(int n) { return n; }\n"
+                                 "void *tuormik_tried(void) { return (void *)tuormik_try; }",
     "a call by a pointer": "int tuormik_try(int (*f)(int), int n) { return f(n) + n; }",
     "no call": "int try(void) { return 1; }",
 }
@@ -166,7 +189,7 @@ def tried(bound):
         for name, code in [("", GOOD)] + sorted(WRONG.items()):
             source, made = Path(room, "try.c"), Path(room, "try.o")
             source.write_text(code)
-            run("cc", "-O1", "-fno-builtin", "-fno-stack-protector", "-fcf-protection=none", "-w", "-c", str(source), "-o", str(made))
+            run("cc", "-O2", "-fno-builtin", "-fno-stack-protector", "-fcf-protection=none", "-w", "-c", str(source), "-o", str(made))
             found = examined(str(made), bound)[0]
             if code is GOOD and found:
                 said.append("checks/library.py: C code that is as it should be is found wrong: %s" % found)
