@@ -30,7 +30,8 @@ use Rattle.model.specs.Both.{openVerdict, recordOn, numbersOn, passedOn, opened
 use Rattle.write_once.specs.declared.Measured.{Measured}
 use Rattle.write_once.specs.Calls.{measuredBy, measuredNumber, fullnessOf, Measures, openOnceVerdict, openingOnce, openedOnce, readOnceVerdict, readingOnce, readOnceBytes}
 use Rattle.making.specs.WriteOnce.{makeOnceVerdict, madeOnce}
-use Rattle.rewritable.specs.Calls.{openRewritableVerdict, openingRewritable, openedRewritable, readBlockVerdict, readingBlock, readBlockBytes}
+use Rattle.current.specs.Looked.{lookVerdict}
+use Rattle.rewritable.specs.Calls.{openingRewritable, openedRewritable, readBlockVerdict, readingBlock, readBlockBytes}
 use Rattle.making.specs.Rewritable.{makeRewritableVerdict, rewritableWrites, madeRewritable}
 
 -- ---- the number that is told is the verdict's
@@ -145,14 +146,14 @@ module _ (e : Setting) (d : Disc) (w : writeOnce e ≡ true) where
 -- ---- a rewritable list
 
 module _ (e : Setting) (d : Disc) (w : writeOnce e ≡ false) where
-  open-again : (t : List ℕ) → openRewritableVerdict e d t ≡ openVerdict e d t
-  unfolding openRewritableVerdict openVerdict
+  open-again : (t : List ℕ) → lookVerdict e d (lentTable t) ≡ openVerdict e d t
+  unfolding lookVerdict openVerdict
   open-again t = again-tests (examined e d (lentTable t)) (openOnceTests e d) (copyTests e d) w
 
   opening-again : (t : List ℕ) → openingRewritable e d t ≡ opening e d t
   unfolding openingRewritable opening recordOn passedOn
   opening-again t =
-      ap₂ (λ (h : Record) (n : ℕ). openedBy (openRewritableVerdict e d t) h n) (again-is (foundRecord e d) (currentRecord e d) w) (again-is (passedOver e d) 0 w)
+      ap₂ (λ (h : Record) (n : ℕ). openedBy (lookVerdict e d (lentTable t)) h n) (again-is (foundRecord e d) (currentRecord e d) w) (again-is (passedOver e d) 0 w)
       ∙ ap (λ (v : Verdict). openedBy v (recordOn e d) (passedOn e d)) (open-again t)
 
   opened-again : (t : List ℕ) → openedRewritable e d t ≡ openedTable e d t
@@ -213,9 +214,9 @@ module _ (e : Setting) (d : Disc) where
       record { answer = h .0; number = ap openedNumber (h .0) ∙ opened-number (openVerdict e d t) _ _; table = h .1 }
 
   -- of reading
-  pub read-so : {t out out′ : List ℕ} {held : Record} {v : ℕ} {r : Given} → (r ≡ reading e d t held v out) × (out′ ≡ readBytes e d t held v out) → Reads (record { setting = e; disc = d }) t held v out r out′
+  pub read-so : {t out : List ℕ} {held : Record} {v : ℕ} {r : Given} {out′ : List ℕ} → (r ≡ reading e d t held v out) × (out′ ≡ readBytes e d t held v out) → Reads (record { setting = e; disc = d }) t held v out r out′
   unfolding reading
-  read-so {t} {out} {_} {held} {v} h =
+  read-so {t} {out} {held} {v} h =
       record { answer = h .0; number = ap givenNumber (h .0) ∙ given-number (readVerdict e d t held v out); bytes = h .1 }
 
   -- of making

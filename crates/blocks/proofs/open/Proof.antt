@@ -27,7 +27,7 @@ returns : tie.Need-returns
 returns c =
     let z = c .before .before .before .before .before .before .before .before .before .before in
     opened-so (settingOf z) (discOf z)
-    (opens-once (settingOf z) (discOf z) (sym (c .before .before .before .before .before .is-write-once .ensures _ _) ∙ c .before .before .before .before .if1 .taken) (z .args .table .now) (c .before .before .open-write-once .ensures))
+    (opens-once (settingOf z) (discOf z) (sym (c .before .before .before .before .before .is-write-once .ensures _ _) ∙ c .before .before .before .before .if1 .taken) (z .args .table .now) (c .before .before .open-write-once .ensures .0, c .before .before .open-write-once .ensures .1 .0))
 
 open-rewritable-requires : tie.Need-open-rewritable-requires
 open-rewritable-requires c κs = search needs
