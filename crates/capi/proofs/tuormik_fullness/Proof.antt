@@ -42,14 +42,14 @@ returns-3 c =
     let at-told = c .before in
     let at-call = at-told .before .before in
     let at-held = at-call .before in
-    full-told _ _ _ _ _ (at-held .before .before .if1 .left) (at-held .before .if2 .left) (at-held .read-record .ensures) (at-call .fullness .ensures) (at-told .measured .given .1)
+    full-told _ _ _ _ _ (at-held .before .before .if1 .left) (at-held .before .if2 .left) (at-held .read-record .ensures) (at-call .fullness .ensures .answer) (at-told .measured .given .1)
 
 returns-4 : tie.Need-returns-4
 returns-4 c =
     let at-told = c .before .before in
     let at-call = at-told .before .before in
     let at-held = at-call .before in
-    full-refused _ _ _ _ _ (at-held .before .before .if1 .left) (at-held .before .if2 .left) (at-held .read-record .ensures) (at-call .fullness .ensures) (at-told .measured2 .given .1) (c .number .ensures)
+    full-refused _ _ _ _ _ (at-held .before .before .if1 .left) (at-held .before .if2 .left) (at-held .read-record .ensures) (at-call .fullness .ensures .answer) (at-told .measured2 .given .1) (c .number .ensures)
 
 pub tuormik-fullness-spec : {M : Type 1} → statement M
 tuormik-fullness-spec =

@@ -20,7 +20,7 @@ same-length-2 c = search needs
 returns : tie.Need-returns
 returns c =
     let at-call = c .before .before .before .before .before in
-    (c .number-of-verdict .ensures ∙ ap verdictNumber (at-call .make .ensures .0), at-call .make .ensures .1)
+    (c .number-of-verdict .ensures ∙ ap verdictNumber (at-call .make .ensures .answer), at-call .make .ensures .disc)
 
 pub tuormik-make-spec : {M : Type 1} → statement M
 tuormik-make-spec =

@@ -30,7 +30,7 @@ returns-2 c =
     let at-kept = c .before .before .before in
     let at-call = at-kept .before .before .before .before in
     let at-test = at-call .before .before in
-    open-five _ _ _ _ (at-test .if1 .left) (at-call .«open» .ensures .0) (at-call .«open» .ensures .1) (at-kept .keep-opened .ensures) (c .number-of-opened .ensures)
+    open-five _ _ _ _ (at-test .if1 .left) (at-call .«open» .ensures .answer) (at-call .«open» .ensures .table) (at-kept .keep-opened .ensures) (c .number-of-opened .ensures)
 
 pub tuormik-open-spec : {M : Type 1} → statement M
 tuormik-open-spec =

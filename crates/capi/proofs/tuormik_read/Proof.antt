@@ -26,7 +26,7 @@ returns-2 : tie.Need-returns-2
 returns-2 c =
     let at-call = c .before .before .before in
     let at-held = at-call .before .before in
-    read-five _ _ _ _ _ _ (at-held .before .if1 .left) (at-held .read-record .ensures) (at-call .read .ensures .0) (at-call .read .ensures .1) (c .number-of-given .ensures)
+    read-five _ _ _ _ _ _ (at-held .before .if1 .left) (at-held .read-record .ensures) (at-call .read .ensures .answer) (at-call .read .ensures .bytes) (c .number-of-given .ensures)
 
 pub tuormik-read-spec : {M : Type 1} → statement M
 tuormik-read-spec =

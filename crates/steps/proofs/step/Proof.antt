@@ -63,7 +63,7 @@ same-length-9 c = search needs
 returns-3 : tie.Need-returns-3
 returns-3 c =
     let z = c .before .before .before .before .before .before .before .before .before .before .before .before .before .before in
-    open-step (settingOf z) (stateAt z) (z .args .kind) (z .args .number) (z .args .cut) (z .args .bytes .now) _ _ _ (c .before .before .before .before .before .before .before .if2 .left) (c .before .before .before .«open» .ensures .0) (c .before .before .before .«open» .ensures .1) (c .answer-of-opening .ensures)
+    open-step (settingOf z) (stateAt z) (z .args .kind) (z .args .number) (z .args .cut) (z .args .bytes .now) _ _ _ (c .before .before .before .before .before .before .before .if2 .left) (c .before .before .before .«open» .ensures .answer) (c .before .before .before .«open» .ensures .table) (c .answer-of-opening .ensures)
 
 pub step-spec : {M : Type 1} → statement M
 step-spec =

@@ -55,7 +55,7 @@ returns c =
     let z = c .before .before .before .before .before .before .before .before .before .before .before .before .before .before .before .before in
     let o = c .before .before .before .before .before .«open» in
     promised z _ _ _ _ (λ i. omega (arith, c .before .before .before .before .before .before .before .before .before .before .before .before .before .before .before .slice-known .given i))
-    (run-refused (settingOf z) (discAt z) (z .args .table .now) _ (z .args .numbers .now) (z .args .pool .now) (z .args .replies .now) _ (sym (o .ensures .0) ∙ c .before .opened .given .1) (o .ensures .1))
+    (run-refused (settingOf z) (discAt z) (z .args .table .now) _ (z .args .numbers .now) (z .args .pool .now) (z .args .replies .now) _ (sym (o .ensures .answer) ∙ c .before .opened .given .1) (o .ensures .table))
 
 same-length-4 : tie.Need-same-length-4
 same-length-4 c = search needs
@@ -74,7 +74,7 @@ returns-2 c =
     let z = c .before .before .before .before .before .before .before .before .before .before .before .before .before .before .before .before .before .before .before .before .before .before .before .before .before .before .before .before .before in
     let o = c .before .before .before .before .before .before .before .before .before .before .before .before .before .before .before .before .before .before .«open» in
     promised z _ _ _ _ (λ i. omega (arith, c .before .before .before .before .before .before .before .before .before .before .before .before .before .before .before .before .before .before .before .before .before .before .before .before .before .before .before .before .slice-known .given i))
-    (c .before .before .before .before .before .before .before .before .carry .ensures ∙ run-ended (settingOf z) (discAt z) (z .args .table .now) _ (z .args .numbers .now) (z .args .pool .now) (z .args .replies .now) _ _ (sym (o .ensures .0) ∙ c .before .before .before .before .before .before .before .before .before .before .before .before .before .before .opened2 .given .1) (o .ensures .1))
+    (c .before .before .before .before .before .before .before .before .carry .ensures ∙ run-ended (settingOf z) (discAt z) (z .args .table .now) _ (z .args .numbers .now) (z .args .pool .now) (z .args .replies .now) _ _ (sym (o .ensures .answer) ∙ c .before .before .before .before .before .before .before .before .before .before .before .before .before .before .opened2 .given .1) (o .ensures .table))
 
 pub run-spec : {M : Type 1} → statement M
 run-spec =
