@@ -16,8 +16,8 @@ from pathlib import Path
 ROOT = Path(__file__).resolve().parent.parent
 SOURCE = "crates/capi/src/lib.rt"
 REFUSALS = "crates/refusal/src/lib.rt"
-ANSWERS = "crates/numbers/src/lib.rt"
-CALLS = "crates/steps/src/lib.rt"
+ANSWERS = "crates/call_numbers/src/lib.rt"
+CALLS = "crates/list_step/src/lib.rt"
 HEADER = "include/tuormik.h"
 DECLARED = "rust/src/ffi.rs"
 RUST_REFUSALS = "rust/src/refusal.rs"

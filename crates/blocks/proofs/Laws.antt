@@ -27,12 +27,12 @@ use Rattle.model.specs.Examine.{Setting, volume, isOnce, writeOnce, geometry, e
 use Rattle.model.specs.Once.{nextOn, newestFile, openOnceTests, foundRecord, passedOver, fullnessVerdict}
 use Rattle.model.specs.Rewrite.{tableOn, copyTests, currentRecord, heldCurrent, rewritableVerdict, placeOf, blockTest, copiesTo}
 use Rattle.model.specs.Both.{openVerdict, recordOn, numbersOn, passedOn, openedBy, filledBy, opening, openedTable, entrySector, blockSector, readOnceTests, readRewritableTests, readLent, readVerdict, givenBy, blockBy, reading, readBytes, spareEntries, makeTests, makeVerdict, makeWrites, madeBy, made}
-use Rattle.write_once.specs.declared.Measured.{Measured}
-use Rattle.write_once.specs.Calls.{measuredBy, measuredNumber, fullnessOf, Measures, openOnceVerdict, openingOnce, openedOnce, readOnceVerdict, readingOnce, readOnceBytes}
-use Rattle.making.specs.WriteOnce.{makeOnceVerdict, madeOnce}
-use Rattle.current.specs.Looked.{lookVerdict}
-use Rattle.rewritable.specs.Calls.{openingRewritable, openedRewritable, readBlockVerdict, readingBlock, readBlockBytes}
-use Rattle.making.specs.Rewritable.{makeRewritableVerdict, rewritableWrites, madeRewritable}
+use Rattle.once_open.specs.declared.Measured.{Measured}
+use Rattle.once_open.specs.Calls.{measuredBy, measuredNumber, fullnessOf, Measures, openOnceVerdict, openingOnce, openedOnce, readOnceVerdict, readingOnce, readOnceBytes}
+use Rattle.make_volume.specs.WriteOnce.{makeOnceVerdict, madeOnce}
+use Rattle.sparing_current.specs.Looked.{lookVerdict}
+use Rattle.rewrite_open.specs.Calls.{openingRewritable, openedRewritable, readBlockVerdict, readingBlock, readBlockBytes}
+use Rattle.make_volume.specs.Rewritable.{makeRewritableVerdict, rewritableWrites, madeRewritable}
 
 -- ---- the number that is told is the verdict's
 

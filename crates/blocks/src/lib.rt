@@ -8,14 +8,14 @@ use model::Given;
 use model::Opened;
 use model::Record;
 use model::Reply;
+use once_open::Measured;
 use refusal::Verdict;
-use write_once::Measured;
 ghost use mathlib.Core.Path.{_≡_};
 ghost use Prim.Native.Nat.{ℕ};
 ghost use Rattle.model.specs.Disc.{disc as discOf};
 ghost use Rattle.model.specs.Examine.{setting, writeOnce};
 ghost use Rattle.model.specs.Lent.{lent, Opens, Reads, Makes, Saves, Frees, Commits, SavesBlock, SavesPacket, Spares};
-ghost use Rattle.write_once.specs.Calls.{Measures};
+ghost use Rattle.once_open.specs.Calls.{Measures};
 
 // The bytes of a rewritable volume's map list.
 const REWRITABLE: usize = 64;
@@ -49,9 +49,9 @@ pub fn open(disc: &[u8], marks: &[u8], maps: &[u8], s: u32, l: u32, table: &mut 
         (now (table .entry)) r (now (table .exit)) ⌝ }
 {
     if is_write_once(maps) {
-        return write_once::open_write_once(disc, marks, maps, s, l, table);
+        return once_open::open_write_once(disc, marks, maps, s, l, table);
     }
-    rewritable::open_rewritable(disc, marks, maps, s, l, table)
+    rewrite_open::open_rewritable(disc, marks, maps, s, l, table)
 }
 
 // Reads block number v into the lent bytes.
@@ -70,9 +70,9 @@ pub fn read(
         (now (table .entry)) held v (now (out .entry)) r (now (out .exit)) ⌝ }
 {
     if is_write_once(maps) {
-        return write_once::read_virtual(disc, marks, maps, s, l, table, held, v, out);
+        return once_open::read_virtual(disc, marks, maps, s, l, table, held, v, out);
     }
-    rewritable::read_block(disc, marks, maps, s, l, table, held, v, out)
+    rewrite_open::read_block(disc, marks, maps, s, l, table, held, v, out)
 }
 
 // Makes the volume: a blank write-once partition gets an empty VAT; a rewritable one gets packets of zeros, the
@@ -89,9 +89,9 @@ pub fn make(
         (now (spares .entry)) r (discOf (now (disc .exit)) (now (marks .exit))) ⌝ }
 {
     if is_write_once(maps) {
-        return making::make_write_once(disc, marks, maps, s, l);
+        return make_volume::make_write_once(disc, marks, maps, s, l);
     }
-    making::make_rewritable(disc, marks, maps, s, l, spares)
+    make_volume::make_rewritable(disc, marks, maps, s, l, spares)
 }
 
 // ---- write-once discs
@@ -113,7 +113,7 @@ pub fn save_virtual(
         (now (table .entry)) held v (now (block .entry)) cut
         r (discOf (now (disc .exit)) (now (marks .exit))) (now (table .exit)) ⌝ }
 {
-    recording::save_virtual(disc, marks, maps, s, l, table, held, v, block, cut)
+    once_save::save_virtual(disc, marks, maps, s, l, table, held, v, block, cut)
 }
 
 // Frees virtual block v: its entry becomes unused. It writes nothing to the disc.
@@ -130,7 +130,7 @@ pub fn free_virtual(
     ensures { λ r. ⌜ Frees (lent (now (disc .entry)) (now (marks .entry)) (now (maps .entry)) s l)
         (now (table .entry)) held v r (now (table .exit)) ⌝ }
 {
-    write_once::free_virtual(disc, marks, maps, s, l, table, held, v)
+    once_open::free_virtual(disc, marks, maps, s, l, table, held, v)
 }
 
 // Commits: writes the VAT and its ICB at NWA.
@@ -147,7 +147,7 @@ pub fn commit(
     ensures { λ r. ⌜ Commits (lent (now (disc .entry)) (now (marks .entry)) (now (maps .entry)) s l)
         (now (table .entry)) held cut r (discOf (now (disc .exit)) (now (marks .exit))) ⌝ }
 {
-    committing::commit(disc, marks, maps, s, l, table, held, cut)
+    once_commit::commit(disc, marks, maps, s, l, table, held, cut)
 }
 
 // How full the partition is, in per mille.
@@ -163,7 +163,7 @@ pub fn fullness(
     ensures { λ r. ⌜ Measures (lent (now (disc .entry)) (now (marks .entry)) (now (maps .entry)) s l)
         (now (table .entry)) held r ⌝ }
 {
-    write_once::fullness(disc, marks, maps, s, l, table, held)
+    once_open::fullness(disc, marks, maps, s, l, table, held)
 }
 
 // ---- rewritable discs
@@ -184,7 +184,7 @@ pub fn save_block(
     ensures { λ r. ⌜ SavesBlock (lent (now (disc .entry)) (now (marks .entry)) (now (maps .entry)) s l)
         (now (table .entry)) held b (now (block .entry)) cut r (discOf (now (disc .exit)) (now (marks .exit))) ⌝ }
 {
-    rewriting::save_block(disc, marks, maps, s, l, table, held, b, block, cut)
+    rewrite_save::save_block(disc, marks, maps, s, l, table, held, b, block, cut)
 }
 
 // Saves the packet that begins at block b.
@@ -203,7 +203,7 @@ pub fn save_packet(
     ensures { λ r. ⌜ SavesPacket (lent (now (disc .entry)) (now (marks .entry)) (now (maps .entry)) s l)
         (now (table .entry)) held b (now (packet .entry)) cut r (discOf (now (disc .exit)) (now (marks .exit))) ⌝ }
 {
-    rewriting::save_packet(disc, marks, maps, s, l, table, held, b, packet, cut)
+    rewrite_save::save_packet(disc, marks, maps, s, l, table, held, b, packet, cut)
 }
 
 // Spares the packet that begins at block b: its bytes go to a free spare, and the table to every copy.
@@ -223,5 +223,5 @@ pub fn spare_packet(
         (now (table .entry)) held b (now (packet .entry)) cut
         r (discOf (now (disc .exit)) (now (marks .exit))) (now (table .exit)) ⌝ }
 {
-    spare::spare_packet(disc, marks, maps, s, l, table, held, b, packet, cut)
+    rewrite_spare::spare_packet(disc, marks, maps, s, l, table, held, b, packet, cut)
 }

@@ -16,10 +16,10 @@ use Rattle.model.specs.Disc.{Disc}
 use Rattle.model.specs.Examine.{Setting}
 use Rattle.model.specs.Plan.{Plan, refuse, replyOf, discAfter, tableAfter, Meets}
 use Rattle.model.specs.Both.{opening, openedTable, reading, readBytes}
-use Rattle.write_once.specs.declared.Measured.{Measured}
-use Rattle.write_once.specs.Calls.{fullnessOf, measuredNumber}
+use Rattle.once_open.specs.declared.Measured.{Measured}
+use Rattle.once_open.specs.Calls.{fullnessOf, measuredNumber}
 use Rattle.model.specs.Told.{replyNumber, openedNumber, givenNumber}
-use Rattle.numbers.specs.Numbers.{recordOf, recordAfter, recordOpened, lengthRefusal}
+use Rattle.call_numbers.specs.Numbers.{recordOf, recordAfter, recordOpened, lengthRefusal}
 use Rattle.capi.specs.Calls.{lentPlan, Seen, lentOpening, lentOpenedTable, lentReading, lentReadBytes, lentFullness, measuredAfter}
 
 -- one number, set

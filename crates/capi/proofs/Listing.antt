@@ -23,7 +23,7 @@ use Rattle.maps.specs.Kinds.{readMaps, volumeWith, tablesInRange}
 use Rattle.maps.specs.Written.{kindInRange}
 use Rattle.maps_written.specs.Writing.{writeTests, writeVerdict, writtenOr, mapBytes}
 use Rattle.model.proofs.Basics.{cond-elim}
-use Rattle.vat_file.specs.File.{lookedUp}
+use Rattle.vat_look_up.specs.File.{lookedUp}
 use Rattle.maps.specs.Numbers.{fourOf, kindNumbers, volumeNumbers}
 use Rattle.address.specs.Told.{logicalNumber}
 use Rattle.capi.proofs.Laws.{one-set}

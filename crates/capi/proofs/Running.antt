@@ -10,10 +10,10 @@ use Rattle.refusal.specs.Number.{numberOf}
 use Rattle.model.specs.declared.Record.{Record}
 use Rattle.model.specs.Disc.{Disc}
 use Rattle.model.specs.Examine.{Setting}
-use Rattle.store.specs.declared.Ran.{Ran}
-use Rattle.store.specs.Outcome.{outcome, ran, ranNumber}
-use Rattle.store.specs.Promise.{DemandMet}
-use Rattle.numbers.specs.Numbers.{numbersOf, lengthRefusal}
+use Rattle.list_run.specs.declared.Ran.{Ran}
+use Rattle.list_run.specs.Outcome.{outcome, ran, ranNumber}
+use Rattle.list_run.specs.Promise.{DemandMet}
+use Rattle.call_numbers.specs.Numbers.{numbersOf, lengthRefusal}
 use Rattle.capi.specs.Run.{ranRecord, lentRan, SeenRun}
 
 module _ (e : Setting) (d : Disc) (t k calls pool replies : List ℕ) where

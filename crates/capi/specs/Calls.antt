@@ -19,9 +19,9 @@ use Rattle.model.specs.Lent.{Lent}
 use Rattle.model.specs.Once.{savePlan, freePlan, commitPlan}
 use Rattle.model.specs.Rewrite.{saveBlockPlan, savePacketPlan, sparePlan}
 use Rattle.model.specs.Both.{opening, openedTable, reading, readBytes}
-use Rattle.write_once.specs.declared.Measured.{Measured}
-use Rattle.write_once.specs.Calls.{fullnessOf}
-use Rattle.numbers.specs.Numbers.{recordOf, recordAfter, lengthRefusal}
+use Rattle.once_open.specs.declared.Measured.{Measured}
+use Rattle.once_open.specs.Calls.{fullnessOf}
+use Rattle.call_numbers.specs.Numbers.{recordOf, recordAfter, lengthRefusal}
 
 -- whether a lent record has its length
 abbrev pub isRecord : List ℕ → Bool

@@ -15,7 +15,7 @@ use Rattle.maps.specs.declared.Volume.{Volume}
 use Rattle.maps.specs.Kinds.{readMaps, volumeWith}
 use Rattle.maps.specs.Numbers.{fourOf, volumeNumbers}
 use Rattle.maps_written.specs.Writing.{writeVerdict}
-use Rattle.vat_file.specs.File.{lookedUp}
+use Rattle.vat_look_up.specs.File.{lookedUp}
 
 -- ---- a map list read: the eight numbers of a volume
 

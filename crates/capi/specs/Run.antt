@@ -6,11 +6,11 @@ use mathlib.Core.Bool.{cond}
 use mathlib.Core.List.{List}
 use Rattle.model.specs.Disc.{Disc}
 use Rattle.model.specs.Examine.{Setting}
-use Rattle.store.specs.declared.Ran.{Ran}
+use Rattle.list_run.specs.declared.Ran.{Ran}
 use Rattle.model.specs.Lent.{Lent}
-use Rattle.store.specs.Promise.{DemandMet}
-use Rattle.store.specs.Outcome.{Outcome, outcome, ran, ranNumber}
-use Rattle.numbers.specs.Numbers.{numbersOf, lengthRefusal}
+use Rattle.list_run.specs.Promise.{DemandMet}
+use Rattle.list_run.specs.Outcome.{Outcome, outcome, ran, ranNumber}
+use Rattle.call_numbers.specs.Numbers.{numbersOf, lengthRefusal}
 use Rattle.capi.specs.Calls.{isRecord}
 
 -- the lent record after it: the record in force, with passed over of the last opening that was accepted

@@ -6,12 +6,12 @@
 use address::Span;
 use address::ToLogical;
 use address::VirtualAddress;
+use list_run::Ran;
 use maps::Kind;
 use maps::Volume;
+use once_open::Measured;
 use refusal::Refusal;
 use refusal::Verdict;
-use store::Ran;
-use write_once::Measured;
 ghost use mathlib.Core.Path.{_≡_};
 ghost use mathlib.Core.Bool.{cond};
 ghost use mathlib.Core.List.{List};
@@ -28,8 +28,8 @@ ghost use Rattle.model.specs.Told.{openedNumber, givenNumber};
 ghost use Rattle.refusal.specs.Number.{verdictNumber};
 ghost use Rattle.maps.specs.Numbers.{volumeNumbers};
 ghost use Rattle.address.specs.Told.{logicalNumber};
-ghost use Rattle.write_once.specs.Calls.{measuredNumber};
-ghost use Rattle.numbers.specs.Numbers.{cutOf, recordOpened};
+ghost use Rattle.once_open.specs.Calls.{measuredNumber};
+ghost use Rattle.call_numbers.specs.Numbers.{cutOf, recordOpened};
 ghost use Rattle.capi.specs.Calls.{SeenSave, SeenFree, SeenCommit, SeenSaveBlock, SeenSavePacket, SeenSpare, lentOpening, lentOpenedTable, lentReading, lentReadBytes, lentFullness, measuredAfter};
 ghost use Rattle.capi.specs.Lists.{mapsVerdict, volumeAfter, volumeFor, lentVerdict, lentLookUp, logicalAfter};
 ghost use Rattle.capi.specs.Run.{SeenRuns, SeenDemand};
@@ -62,12 +62,12 @@ pub extern "C" fn tuormik_open(
     ensures { λ _. ⌜ now (kept .exit) ≡ recordOpened (lentOpening (setting (now (maps .entry)) s l)
         (discOf (now (disc .entry)) (now (marks .entry))) (now (table .entry)) (now (kept .entry))) (now (kept .entry)) ⌝ }
 {
-    if kept.len() != numbers::RECORD {
-        return numbers::number_of_lengths(disc, marks, maps, s, l);
+    if kept.len() != call_numbers::RECORD {
+        return call_numbers::number_of_lengths(disc, marks, maps, s, l);
     }
     let opened = blocks::open(disc, marks, maps, s, l, table);
-    numbers::keep_opened(kept, opened);
-    numbers::number_of_opened(opened)
+    call_numbers::keep_opened(kept, opened);
+    call_numbers::number_of_opened(opened)
 }
 
 // Reads block number v into the lent bytes.
@@ -88,12 +88,12 @@ pub extern "C" fn tuormik_read(
     ensures { λ _. ⌜ now (out .exit) ≡ lentReadBytes (setting (now (maps .entry)) s l)
         (discOf (now (disc .entry)) (now (marks .entry))) (now (table .entry)) (now (kept .entry)) v (now (out .entry)) ⌝ }
 {
-    if kept.len() != numbers::RECORD {
-        return numbers::number_of_lengths(disc, marks, maps, s, l);
+    if kept.len() != call_numbers::RECORD {
+        return call_numbers::number_of_lengths(disc, marks, maps, s, l);
     }
-    let held = numbers::read_record(kept);
+    let held = call_numbers::read_record(kept);
     let given = blocks::read(disc, marks, maps, s, l, table, held, v, out);
-    numbers::number_of_given(given)
+    call_numbers::number_of_given(given)
 }
 
 // Makes a volume.
@@ -111,7 +111,7 @@ pub extern "C" fn tuormik_make(
         (discOf (now (disc .entry)) (now (marks .entry))) (now (spares .entry)) ⌝ }
 {
     let verdict = blocks::make(disc, marks, maps, s, l, spares);
-    numbers::number_of_verdict(verdict)
+    call_numbers::number_of_verdict(verdict)
 }
 
 // ---- write-once
@@ -135,14 +135,14 @@ pub extern "C" fn tuormik_save_virtual(
         (now (table .entry)) (now (kept .entry)) v (now (block .entry)) (cutOf at effect)
         r (discOf (now (disc .exit)) (now (marks .exit))) (now (table .exit)) (now (kept .exit)) ⌝ }
 {
-    if kept.len() != numbers::RECORD {
-        return numbers::number_of_lengths(disc, marks, maps, s, l);
+    if kept.len() != call_numbers::RECORD {
+        return call_numbers::number_of_lengths(disc, marks, maps, s, l);
     }
-    let held = numbers::read_record(kept);
-    let cut = numbers::cut_of(at, effect);
+    let held = call_numbers::read_record(kept);
+    let cut = call_numbers::cut_of(at, effect);
     let reply = blocks::save_virtual(disc, marks, maps, s, l, table, held, v, block, cut);
-    numbers::keep_record(kept, reply);
-    numbers::number_of_reply(reply)
+    call_numbers::keep_record(kept, reply);
+    call_numbers::number_of_reply(reply)
 }
 
 // Frees virtual block v.
@@ -160,13 +160,13 @@ pub extern "C" fn tuormik_free_virtual(
     ensures { λ r. ⌜ SeenFree (lent (now (disc .entry)) (now (marks .entry)) (now (maps .entry)) s l)
         (now (table .entry)) (now (kept .entry)) v r (now (table .exit)) (now (kept .exit)) ⌝ }
 {
-    if kept.len() != numbers::RECORD {
-        return numbers::number_of_lengths(disc, marks, maps, s, l);
+    if kept.len() != call_numbers::RECORD {
+        return call_numbers::number_of_lengths(disc, marks, maps, s, l);
     }
-    let held = numbers::read_record(kept);
+    let held = call_numbers::read_record(kept);
     let reply = blocks::free_virtual(disc, marks, maps, s, l, table, held, v);
-    numbers::keep_record(kept, reply);
-    numbers::number_of_reply(reply)
+    call_numbers::keep_record(kept, reply);
+    call_numbers::number_of_reply(reply)
 }
 
 // Commits the table.
@@ -185,14 +185,14 @@ pub extern "C" fn tuormik_commit(
     ensures { λ r. ⌜ SeenCommit (lent (now (disc .entry)) (now (marks .entry)) (now (maps .entry)) s l)
         (now (table .entry)) (now (kept .entry)) (cutOf at effect) r (discOf (now (disc .exit)) (now (marks .exit))) (now (kept .exit)) ⌝ }
 {
-    if kept.len() != numbers::RECORD {
-        return numbers::number_of_lengths(disc, marks, maps, s, l);
+    if kept.len() != call_numbers::RECORD {
+        return call_numbers::number_of_lengths(disc, marks, maps, s, l);
     }
-    let held = numbers::read_record(kept);
-    let cut = numbers::cut_of(at, effect);
+    let held = call_numbers::read_record(kept);
+    let cut = call_numbers::cut_of(at, effect);
     let reply = blocks::commit(disc, marks, maps, s, l, table, held, cut);
-    numbers::keep_record(kept, reply);
-    numbers::number_of_reply(reply)
+    call_numbers::keep_record(kept, reply);
+    call_numbers::number_of_reply(reply)
 }
 
 // Tells how full the partition is, in per mille.
@@ -212,18 +212,18 @@ pub extern "C" fn tuormik_fullness(
     ensures { λ _. ⌜ now (result .exit) ≡ measuredAfter (lentFullness (setting (now (maps .entry)) s l)
         (discOf (now (disc .entry)) (now (marks .entry))) (now (table .entry)) (now (kept .entry)) (now (result .entry))) (now (result .entry)) ⌝ }
 {
-    if kept.len() != numbers::RECORD {
-        return numbers::number_of_lengths(disc, marks, maps, s, l);
+    if kept.len() != call_numbers::RECORD {
+        return call_numbers::number_of_lengths(disc, marks, maps, s, l);
     }
     if result.len() != ONE {
-        return numbers::number_of_lengths(disc, marks, maps, s, l);
+        return call_numbers::number_of_lengths(disc, marks, maps, s, l);
     }
-    let held = numbers::read_record(kept);
+    let held = call_numbers::read_record(kept);
     let measured = blocks::fullness(disc, marks, maps, s, l, table, held);
     match measured {
         Measured::PerMille(n) => {
             result[0] = n;
-            numbers::DONE
+            call_numbers::DONE
         }
         Measured::Refused(why) => refusal::number(why),
     }
@@ -250,14 +250,14 @@ pub extern "C" fn tuormik_save_block(
         (now (table .entry)) (now (kept .entry)) b (now (block .entry)) (cutOf at effect)
         r (discOf (now (disc .exit)) (now (marks .exit))) (now (kept .exit)) ⌝ }
 {
-    if kept.len() != numbers::RECORD {
-        return numbers::number_of_lengths(disc, marks, maps, s, l);
+    if kept.len() != call_numbers::RECORD {
+        return call_numbers::number_of_lengths(disc, marks, maps, s, l);
     }
-    let held = numbers::read_record(kept);
-    let cut = numbers::cut_of(at, effect);
+    let held = call_numbers::read_record(kept);
+    let cut = call_numbers::cut_of(at, effect);
     let reply = blocks::save_block(disc, marks, maps, s, l, table, held, b, block, cut);
-    numbers::keep_record(kept, reply);
-    numbers::number_of_reply(reply)
+    call_numbers::keep_record(kept, reply);
+    call_numbers::number_of_reply(reply)
 }
 
 // Saves the packet that begins at logical block b.
@@ -279,14 +279,14 @@ pub extern "C" fn tuormik_save_packet(
         (now (table .entry)) (now (kept .entry)) b (now (packet .entry)) (cutOf at effect)
         r (discOf (now (disc .exit)) (now (marks .exit))) (now (kept .exit)) ⌝ }
 {
-    if kept.len() != numbers::RECORD {
-        return numbers::number_of_lengths(disc, marks, maps, s, l);
+    if kept.len() != call_numbers::RECORD {
+        return call_numbers::number_of_lengths(disc, marks, maps, s, l);
     }
-    let held = numbers::read_record(kept);
-    let cut = numbers::cut_of(at, effect);
+    let held = call_numbers::read_record(kept);
+    let cut = call_numbers::cut_of(at, effect);
     let reply = blocks::save_packet(disc, marks, maps, s, l, table, held, b, packet, cut);
-    numbers::keep_record(kept, reply);
-    numbers::number_of_reply(reply)
+    call_numbers::keep_record(kept, reply);
+    call_numbers::number_of_reply(reply)
 }
 
 // Spares the packet that begins at logical block b: its bytes go to a free spare, and the table to its copies.
@@ -308,14 +308,14 @@ pub extern "C" fn tuormik_spare_packet(
         (now (table .entry)) (now (kept .entry)) b (now (packet .entry)) (cutOf at effect)
         r (discOf (now (disc .exit)) (now (marks .exit))) (now (table .exit)) (now (kept .exit)) ⌝ }
 {
-    if kept.len() != numbers::RECORD {
-        return numbers::number_of_lengths(disc, marks, maps, s, l);
+    if kept.len() != call_numbers::RECORD {
+        return call_numbers::number_of_lengths(disc, marks, maps, s, l);
     }
-    let held = numbers::read_record(kept);
-    let cut = numbers::cut_of(at, effect);
+    let held = call_numbers::read_record(kept);
+    let cut = call_numbers::cut_of(at, effect);
     let reply = blocks::spare_packet(disc, marks, maps, s, l, table, held, b, packet, cut);
-    numbers::keep_record(kept, reply);
-    numbers::number_of_reply(reply)
+    call_numbers::keep_record(kept, reply);
+    call_numbers::number_of_reply(reply)
 }
 
 // ---- map lists and VAT files
@@ -334,7 +334,7 @@ fn put_volume(result: &mut [u32], volume: Volume)
     let kind = volume.kind;
     match kind {
         Kind::WriteOnce { partition } => {
-            result[0] = numbers::WRITE_ONCE;
+            result[0] = call_numbers::WRITE_ONCE;
             result[1] = partition as u32;
             result[2] = 0;
             result[3] = 0;
@@ -344,7 +344,7 @@ fn put_volume(result: &mut [u32], volume: Volume)
             tables: count,
             size,
         } => {
-            result[0] = numbers::REWRITABLE;
+            result[0] = call_numbers::REWRITABLE;
             result[1] = partition as u32;
             result[2] = count as u32;
             result[3] = size;
@@ -368,7 +368,7 @@ pub extern "C" fn tuormik_read_maps(maps: &[u8], result: &mut [u32]) -> u32
         Verdict::Go => {
             let volume = read.volume;
             put_volume(result, volume);
-            numbers::DONE
+            call_numbers::DONE
         }
         Verdict::Stop(why) => refusal::number(why),
     }
@@ -418,7 +418,7 @@ fn write_rewritable(partition: u16, size: u32, tables: &[u32], out: &mut [u8]) -
         },
         tables: [a, b, c, d],
     };
-    numbers::number_of_verdict(maps_written::write_maps(volume, out))
+    call_numbers::number_of_verdict(maps_written::write_maps(volume, out))
 }
 
 // Writes the map list of a write-once volume.
@@ -435,7 +435,7 @@ fn write_once_maps(partition: u16, out: &mut [u8]) -> u32
         kind: Kind::WriteOnce { partition },
         tables: [0; 4],
     };
-    numbers::number_of_verdict(maps_written::write_maps(volume, out))
+    call_numbers::number_of_verdict(maps_written::write_maps(volume, out))
 }
 
 // Writes a map list.
@@ -451,10 +451,10 @@ pub extern "C" fn tuormik_write_maps(
     ensures { λ _. ⌜ now (out .exit) ≡ writtenOr (lentVerdict kind partition size (now (tables .entry)) (now (out .entry)))
         (volumeFor kind partition size (now (tables .entry))) (now (out .entry)) ⌝ }
 {
-    if kind == numbers::WRITE_ONCE {
+    if kind == call_numbers::WRITE_ONCE {
         return write_once_maps(partition, out);
     }
-    if kind == numbers::REWRITABLE {
+    if kind == call_numbers::REWRITABLE {
         return write_rewritable(partition, size, tables, out);
     }
     refusal::number(Refusal::NeitherKind)
@@ -469,11 +469,11 @@ pub extern "C" fn tuormik_look_up(file: &[u8], v: u32, result: &mut [u32]) -> u3
     if result.len() != ONE {
         return refusal::number(Refusal::LentLength);
     }
-    let found = vat_file::look_up(file, VirtualAddress(v));
+    let found = vat_look_up::look_up(file, VirtualAddress(v));
     match found {
         ToLogical::At(b) => {
             result[0] = b.0;
-            numbers::DONE
+            call_numbers::DONE
         }
         ToLogical::Refused(why) => refusal::number(why),
     }
@@ -502,14 +502,14 @@ pub extern "C" fn tuormik_run(
         (now (table .entry)) (now (kept .entry)) (now (calls .entry)) (now (bytes .entry)) (now (replies .entry))
         (discOf (now (disc .exit)) (now (marks .exit))) (now (table .exit)) ⌝ }
 {
-    if kept.len() != numbers::RECORD {
-        return numbers::number_of_lengths(disc, marks, maps, s, l);
+    if kept.len() != call_numbers::RECORD {
+        return call_numbers::number_of_lengths(disc, marks, maps, s, l);
     }
-    let ran = store::run(disc, marks, maps, s, l, table, calls, bytes, replies);
+    let ran = list_run::run(disc, marks, maps, s, l, table, calls, bytes, replies);
     match ran {
         Ran::Ended { held, passed } => {
-            numbers::put_record(kept, held, passed);
-            numbers::DONE
+            call_numbers::put_record(kept, held, passed);
+            call_numbers::DONE
         }
         Ran::Refused(why) => refusal::number(why),
     }

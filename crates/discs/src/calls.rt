@@ -6,9 +6,9 @@ use model::Given;
 use model::Opened;
 use model::Record;
 use model::Reply;
+use once_open::Measured;
 use refusal::Refusal;
 use refusal::Verdict;
-use write_once::Measured;
 
 // The first four letters of each name, as numbers of 4 bytes.
 const MAKE: u32 = 0x656b616d;

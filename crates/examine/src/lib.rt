@@ -197,8 +197,8 @@ fn stopped(why: Refusal) -> Examined
 pub fn examine(disc: &[u8], marks: &[u8], maps: &[u8], s: u32, l: u32, lent: bool) -> Examined
     ensures { λ r. ⌜ r ≡ examinedOf (setting (now (maps .entry)) s l) (discOf (now (disc .entry)) (now (marks .entry))) lent ⌝ }
 {
-    let shapely = marks::is_shapely(disc, marks);
-    let inside = marks::is_inside(marks, s, l);
+    let shapely = disc_marks::is_shapely(disc, marks);
+    let inside = disc_marks::is_inside(marks, s, l);
     if !shapely {
         return stopped(Refusal::DiscShape);
     }
@@ -274,7 +274,7 @@ fn is_held(marks: &[u8], s: u32, l: u32, table: &[u32], held: Record) -> bool
             if next <= last {
                 return false;
             }
-            if !marks::is_next(marks, s, l, LogicalAddress(next)) {
+            if !disc_marks::is_next(marks, s, l, LogicalAddress(next)) {
                 return false;
             }
             are_below(table, entries, LogicalAddress(next))

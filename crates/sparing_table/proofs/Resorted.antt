@@ -15,7 +15,7 @@ use Rattle.fields.proofs.Laws.{part-take, length-part}
 use Rattle.model.specs.Vat.{none}
 use Rattle.model.specs.Sparing.{Entry, entries, flat, isFree, usedOf, freeOf, inserted, firstFree, rest, resorted}
 use Rattle.model.specs.Rewrite.{noEntry}
-use Rattle.sparing.proofs.Entries.{entries-drop}
+use Rattle.sparing_copy.proofs.Entries.{entries-drop}
 use Rattle.sparing_table.specs.Table.{lentEntry, has, above, placeWhere}
 use Rattle.sparing_table.specs.Written.{sparedNumbers}
 use Rattle.sparing_table.proofs.Table.{lent-end, entry-found, free-found, free-at}

@@ -22,8 +22,8 @@ use Rattle.model.proofs.SparingLaws.{packet-own}
 use Rattle.sparing_table.specs.declared.FirstFree.the-variants.{At, Nothing}
 use Rattle.address.specs.declared.PhysicalAddress.{PhysicalAddress}
 use Rattle.sparing_table.specs.Table.{lentEntry, has, placeWhere, freeIn}
-use Rattle.sparing.proofs.Words.{getD-words}
-use Rattle.sparing.proofs.Entries.{entries-step, entries-end}
+use Rattle.sparing_copy.proofs.Words.{getD-words}
+use Rattle.sparing_copy.proofs.Entries.{entries-step, entries-end}
 
 -- ---- the entries of the lent table
 

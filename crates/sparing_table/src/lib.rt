@@ -4,14 +4,14 @@
 // All functions here are inside the layers: where one has a `requires`, the callers have tested it.
 use address::LogicalAddress;
 use address::PhysicalAddress;
-use sparing::COUNT_AT;
-use sparing::ENTRIES_AT;
-use sparing::ENTRY;
-use sparing::FREE;
-use sparing::NUMBER;
-use sparing::REGID;
-use sparing::REGID_AT;
-use sparing::SEQUENCE_AT;
+use sparing_copy::COUNT_AT;
+use sparing_copy::ENTRIES_AT;
+use sparing_copy::ENTRY;
+use sparing_copy::FREE;
+use sparing_copy::NUMBER;
+use sparing_copy::REGID;
+use sparing_copy::REGID_AT;
+use sparing_copy::SEQUENCE_AT;
 ghost use mathlib.Core.Path.{_≡_};
 ghost use mathlib.Core.Bool.{false};
 ghost use mathlib.Core.List.{[], _∷_, _++_};
@@ -46,7 +46,7 @@ pub fn is_same(b: &[u8], table: &[u32], r: u32) -> bool
     requires { ⌜ (r ≡ countIn (now b)) × (56 + 8 * r ≤ 2048) × (2 * r ≤ length (now table)) ⌝ }
     ensures { λ s. ⌜ s ≡ same (take (2 * r) (now (table .entry))) (tableIn (now (b .entry))) ⌝ }
 {
-    let n = 2 * sparing::wide32(r);
+    let n = 2 * sparing_copy::wide32(r);
     let mut i: usize = 0;
     while i < n {
         if table[i] != number_at(b, i) {
@@ -63,7 +63,7 @@ pub fn fill_table(b: &[u8], table: &mut [u32])
     requires { ⌜ (56 + 8 * countIn (now b) ≤ 2048) × (2 * countIn (now b) ≤ length (now table)) ⌝ }
     ensures { λ _. ⌜ now (table .exit) ≡ filledFrom (tableIn (now (b .entry))) (now (table .entry)) ⌝ }
 {
-    let n = 2 * sparing::wide16(fields::read16(b, COUNT_AT));
+    let n = 2 * sparing_copy::wide16(fields::read16(b, COUNT_AT));
     let mut k: usize = 0;
     while k < n {
         table[k] = number_at(b, k);
@@ -107,7 +107,7 @@ pub fn find_packet(table: &[u32], r: u32, s: u32, p: LogicalAddress) -> Physical
     requires { ⌜ (p .0 % 32 ≡ 0) × (s + p .0 < 2 ^ 32) ⌝ }
     ensures { λ a. ⌜ a .0 ≡ locate s (entries (take (2 * r) (now (table .entry)))) (p .0) ⌝ }
 {
-    let n = sparing::wide32(r);
+    let n = sparing_copy::wide32(r);
     let i = find_entry(table, n, p.0);
     if i < n {
         return address::mapped_to_physical(table[2 * i + 1]);
@@ -120,7 +120,7 @@ pub fn is_spared(table: &[u32], r: u32, p: LogicalAddress) -> bool
     requires { ⌜ 2 * r ≤ length (now table) ⌝ }
     ensures { λ s. ⌜ s ≡ isSpared (spotOf (entries (take (2 * r) (now (table .entry)))) (p .0)) ⌝ }
 {
-    let n = sparing::wide32(r);
+    let n = sparing_copy::wide32(r);
     find_entry(table, n, p.0) < n
 }
 
@@ -129,7 +129,7 @@ pub fn first_free(table: &[u32], r: u32) -> FirstFree
     requires { ⌜ 2 * r ≤ length (now table) ⌝ }
     ensures { λ f. ⌜ f ≡ freeIn (freeOf (entries (take (2 * r) (now (table .entry))))) ⌝ }
 {
-    let n = sparing::wide32(r);
+    let n = sparing_copy::wide32(r);
     let i = find_entry(table, n, FREE);
     if i < n {
         return FirstFree::At(address::mapped_to_physical(table[2 * i + 1]));
@@ -203,7 +203,7 @@ pub fn write_spared(sector: &mut [u8], table: &[u32], r: u32, p: LogicalAddress,
     requires { ⌜ noEntry (freeOf (entries (take (2 * r) (now table)))) ≡ false ⌝ }
     ensures { λ _. ⌜ now (sector .exit) ≡ writtenTable sequence (flat (resorted (entries (take (2 * r) (now (table .entry)))) (p .0))) ⌝ }
 {
-    let n = sparing::wide32(r);
+    let n = sparing_copy::wide32(r);
     let place = find_above(table, n, p);
     let free = find_entry(table, n, FREE);
     begin_table(sector, r as u16, sequence);

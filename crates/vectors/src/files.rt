@@ -3,8 +3,8 @@
 use crate::addresses;
 use address::ToLogical;
 use address::VirtualAddress;
-use vat_file::Counted;
-use vat_file::ToPrevious;
+use vat_look_up::Counted;
+use vat_look_up::ToPrevious;
 
 // Entries 0, 16 and unused, the regid, and 5 as the previous ICB.
 const FILE: [u8; 48] = [
@@ -60,7 +60,7 @@ const FILE: [u8; 48] = [
 
 fn entry(name: &[u8], file: &[u8], v: u32) {
     say::case(b"file", name);
-    match vat_file::look_up(file, VirtualAddress(v)) {
+    match vat_look_up::look_up(file, VirtualAddress(v)) {
         ToLogical::At(b) => say::decimal(b.0 as u64),
         ToLogical::Refused(why) => addresses::say_refusal(why),
     }
@@ -69,7 +69,7 @@ fn entry(name: &[u8], file: &[u8], v: u32) {
 
 fn count(name: &[u8], file: &[u8]) {
     say::case(b"file", name);
-    match vat_file::count_entries(file) {
+    match vat_look_up::count_entries(file) {
         Counted::Entries(n) => say::decimal(n as u64),
         Counted::Refused(why) => addresses::say_refusal(why),
     }
@@ -78,7 +78,7 @@ fn count(name: &[u8], file: &[u8]) {
 
 fn previous(name: &[u8], file: &[u8]) {
     say::case(b"file", name);
-    match vat_file::read_previous(file) {
+    match vat_look_up::read_previous(file) {
         ToPrevious::At(b) => say::decimal(b.0 as u64),
         ToPrevious::None => say::word(b"none"),
         ToPrevious::Refused(why) => addresses::say_refusal(why),

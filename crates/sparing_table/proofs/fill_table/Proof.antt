@@ -7,7 +7,7 @@ use Rattle.model.proofs.OnceOpen.{length-words}
 use Rattle.model.specs.Once.{filledFrom}
 use Rattle.model.specs.Sparing.{countIn, tableIn}
 use Rattle.sparing_table.proofs.Table.{filling-next, filling-last}
-use Rattle.sparing.proofs.Words.{getD-words}
+use Rattle.sparing_copy.proofs.Words.{getD-words}
 use Rattle.fields.proofs.Laws.{Copying, copying-first}
 use Rattle.fields.specs.Number.{words}
 use Rattle.sparing_table.proofs.fill_table.Statement.{statement}

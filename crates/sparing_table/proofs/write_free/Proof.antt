@@ -6,7 +6,7 @@ use borrow.Author.Needs.{needs}
 use mathlib.Core.List.{List}
 use lib.ListN.{length}
 use Rattle.sparing_table.proofs.Written.{table-written}
-use Rattle.sparing.proofs.Entries.{length-spares}
+use Rattle.sparing_copy.proofs.Entries.{length-spares}
 use Rattle.model.proofs.SparingLaws.{length-flat}
 use Rattle.model.specs.Both.{spareEntries}
 use Rattle.model.specs.Sparing.{flat}

@@ -1,0 +1,128 @@
+-- What a run comes to: the equations of its contract, and demand 3, which follows from them. Assumes nothing.
+use Prim.Native.Nat.{ℕ}
+use mathlib.Core.Path.{_≡_, refl, sym, ap, _∙_}
+use mathlib.Core.Bool.{true, false}
+use mathlib.Core.List.{List}
+use native.Mathlib.Omega.{arith}
+use Rattle.refusal.specs.declared.Refusal.{Refusal}
+use Rattle.refusal.specs.declared.Verdict.{Verdict}
+use Rattle.refusal.specs.declared.Verdict.the-variants.{Go, Stop}
+use Rattle.model.specs.declared.Record.{Record}
+use Rattle.model.specs.declared.Opened.{Opened}
+use Rattle.model.specs.Disc.{Disc}
+use Rattle.model.specs.Examine.{Setting}
+use Rattle.model.specs.Both.{opening, openedTable, openVerdict, openedBy, filledBy, recordOn, passedOn, numbersOn}
+use Rattle.model.specs.Calls.{Call, State, answers, final, Proper, isOpened, answerOfOpening}
+use Rattle.model.specs.Demand.{Below, afterOpening, Kept, seen, Demand3}
+use Rattle.model.proofs.Demand.{demand-3}
+use Rattle.list_step.specs.Stepped.{stateOf}
+use Rattle.list_run.specs.declared.Ran.{Ran}
+use Rattle.list_run.specs.Encoded.{decode, encode, poolOf}
+use Rattle.list_run.specs.Listed.{mended}
+use Rattle.list_run.specs.Outcome.{Outcome, outcome, ran, ranBy, carriedOut, listed, answered}
+use Rattle.list_run.specs.Promise.{DemandMet}
+use Rattle.list_run.proofs.Encoding.{decode-encode}
+use Rattle.list_run.proofs.Mending.{mended-proper, proper-mended}
+
+-- ---- its own opening
+
+handed-by : (v : Verdict) (h held : Record) (n passed : ℕ) → openedBy v h n ≡ Opened.Open held passed → held ≡ h
+unfolding openedBy
+handed-by Go h held n passed e = cc
+handed-by (Stop why) h held n passed e = cc
+
+-- the record that an opening hands back is the disc's
+handed : (e : Setting) (d : Disc) (t : List ℕ) (held : Record) (passed : ℕ) → opening e d t ≡ Opened.Open held passed → held ≡ recordOn e d
+unfolding opening
+handed e d t held passed q = handed-by (openVerdict e d t) (recordOn e d) held (passedOn e d) passed q
+
+left-by : (v : Verdict) (h : Record) (n : ℕ) (l t : List ℕ) (why : Refusal) → openedBy v h n ≡ Opened.Refused why → filledBy v l t ≡ t
+unfolding openedBy filledBy
+left-by Go h n l t why e = cc
+left-by (Stop why′) h n l t why e = refl
+
+-- an opening that is refused leaves the lent table
+left : (e : Setting) (d : Disc) (t : List ℕ) (why : Refusal) → opening e d t ≡ Opened.Refused why → openedTable e d t ≡ t
+unfolding opening openedTable
+left e d t why q = left-by (openVerdict e d t) (recordOn e d) (passedOn e d) (numbersOn e d) t why q
+
+-- ---- the list
+
+-- every list of calls in which an opening follows a cut is carried out as it is, once its numbers and its pool are lent
+pub listed-encode : (e : Setting) (d : Disc) (t : List ℕ) (cs : List Call) → Proper false cs (answers e (afterOpening e d t) cs) → listed e d t (encode 0 cs) (poolOf cs) ≡ cs
+unfolding listed
+listed-encode e d t cs p = ap (mended e (afterOpening e d t) false) (decode-encode cs) ∙ proper-mended e (afterOpening e d t) false cs p
+
+-- ---- the equations
+
+-- a run whose opening is accepted
+pub run-ended : (e : Setting) (d : Disc) (t t′ ns pool replies : List ℕ) (held : Record) (passed : ℕ) → opening e d t ≡ Opened.Open held passed → t′ ≡ openedTable e d t → carriedOut e (stateOf d t′ held) passed (mended e (stateOf d t′ held) false (decode ns pool)) replies ≡ ran e d t ns pool replies
+unfolding ran ranBy listed afterOpening
+run-ended e d t t′ ns pool replies held passed q h =
+    ap (λ (x : List ℕ). carriedOut e (stateOf d x held) passed (mended e (stateOf d x held) false (decode ns pool)) replies) h
+    ∙ rw (q, handed e d t held passed q)
+
+-- a run whose opening is refused
+pub run-refused : (e : Setting) (d : Disc) (t t′ ns pool replies : List ℕ) (why : Refusal) → opening e d t ≡ Opened.Refused why → t′ ≡ openedTable e d t → outcome (Ran.Refused why) d t′ replies ≡ ran e d t ns pool replies
+unfolding ran ranBy
+run-refused e d t t′ ns pool replies why q h = ap (λ (x : List ℕ). outcome (Ran.Refused why) d x replies) (h ∙ left e d t why q) ∙ rw q
+
+-- ---- demand 3
+
+accepts : (e : Setting) (d : Disc) (t : List ℕ) (held : Record) (passed : ℕ) → opening e d t ≡ Opened.Open held passed → isOpened (answerOfOpening (opening e d t)) ≡ true
+unfolding isOpened answerOfOpening
+accepts e d t held passed q = rw q
+
+-- the list that is carried out is one of which demand 3 speaks
+kept-listed : (e : Setting) (d : Disc) (t ns pool : List ℕ) (held : Record) (passed : ℕ) → Below 256 (d .bytes) → opening e d t ≡ Opened.Open held passed → Kept e d t (listed e d t ns pool)
+unfolding listed Demand3
+kept-listed e d t ns pool held passed low q =
+    demand-3 e d t low (accepts e d t held passed q) (mended e (afterOpening e d t) false (decode ns pool)) (mended-proper e (afterOpening e d t) false (decode ns pool))
+
+-- the state that is left is the one after that list
+state-left : (e : Setting) (d : Disc) (t ns pool replies : List ℕ) (r : Ran) (d′ : Disc) (t′ replies′ : List ℕ) (h held : Record) (n passed : ℕ) → outcome r d′ t′ replies′ ≡ ranBy (Opened.Open h n) e d t ns pool replies → r ≡ Ran.Ended held passed → stateOf d′ t′ held ≡ final e (afterOpening e d t) (listed e d t ns pool)
+unfolding ranBy carriedOut
+state-left e d t ns pool replies r d′ t′ replies′ h held n passed w q =
+    let st = final e (afterOpening e d t) (listed e d t ns pool) in
+    let a : held ≡ st .held = held-in (sym q ∙ ap (λ (x : Outcome). x .result) w) in
+    ap (λ (x : Disc). stateOf x t′ held) (ap (λ (x : Outcome). x .disc) w)
+    ∙ ap (λ (x : List ℕ). stateOf (st .disc) x held) (ap (λ (x : Outcome). x .table) w)
+    ∙ ap (stateOf (st .disc) (st .table)) a
+  where
+    held-in : {x y : Record} {i j : ℕ} → Ran.Ended x i ≡ Ran.Ended y j → x ≡ y
+    held-in p = cc
+
+kept-met : (e : Setting) (d : Disc) (t ns pool : List ℕ) (r : Ran) (d′ : Disc) (t′ : List ℕ) → Kept e d t (listed e d t ns pool) → ((held : Record) (passed : ℕ) → r ≡ Ran.Ended held passed → stateOf d′ t′ held ≡ final e (afterOpening e d t) (listed e d t ns pool)) → DemandMet e d t ns pool r d′ t′
+unfolding answered
+kept-met e d t ns pool r d′ t′ kept same =
+    record {
+      opens = λ held passed is i k o. kept .opens i k o;
+      reads =
+          λ held passed is uncut v out long.
+          ap (λ (x : State). seen e x v out) (same held passed is) ∙ kept .reads uncut v out long;
+    }
+
+nothing-met : (e : Setting) (d : Disc) (t ns pool : List ℕ) (r : Ran) (d′ : Disc) (t′ : List ℕ) (why : Refusal) → r ≡ Ran.Refused why → DemandMet e d t ns pool r d′ t′
+nothing-met e d t ns pool r d′ t′ why q =
+    record {
+      opens = λ held passed is i k o. absurd (never held passed is);
+      reads = λ held passed is uncut v out long. absurd (never held passed is);
+    }
+  where
+    never : (held : Record) (passed : ℕ) → r ≡ Ran.Ended held passed → ⊥
+    never held passed is = let z : _≡_ {A = ℕ} 0 1 = cc in omega arith
+
+refused-result : (r : Ran) (d′ : Disc) (t′ replies′ : List ℕ) (why : Refusal) (e : Setting) (d : Disc) (t ns pool replies : List ℕ) → outcome r d′ t′ replies′ ≡ ranBy (Opened.Refused why) e d t ns pool replies → r ≡ Ran.Refused why
+unfolding ranBy
+refused-result r d′ t′ replies′ why e d t ns pool replies w = ap (λ (x : Outcome). x .result) w
+
+met-by : (o : Opened) (e : Setting) (d : Disc) (t ns pool replies : List ℕ) (r : Ran) (d′ : Disc) (t′ replies′ : List ℕ) → Below 256 (d .bytes) → opening e d t ≡ o → outcome r d′ t′ replies′ ≡ ranBy o e d t ns pool replies → DemandMet e d t ns pool r d′ t′
+met-by (Opened.Open h n) e d t ns pool replies r d′ t′ replies′ low q w =
+    kept-met e d t ns pool r d′ t′ (kept-listed e d t ns pool h n low q) (λ held passed. state-left e d t ns pool replies r d′ t′ replies′ h held n passed w)
+met-by (Opened.Refused why) e d t ns pool replies r d′ t′ replies′ low q w =
+    nothing-met e d t ns pool r d′ t′ why (refused-result r d′ t′ replies′ why e d t ns pool replies w)
+
+-- the equation of a run has demand 3
+pub demand-met : (e : Setting) (d : Disc) (t ns pool replies : List ℕ) (r : Ran) (d′ : Disc) (t′ replies′ : List ℕ) → Below 256 (d .bytes) → outcome r d′ t′ replies′ ≡ ran e d t ns pool replies → DemandMet e d t ns pool r d′ t′
+unfolding ran
+demand-met e d t ns pool replies r d′ t′ replies′ low w = met-by (opening e d t) e d t ns pool replies r d′ t′ replies′ low refl w

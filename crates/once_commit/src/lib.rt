@@ -1,0 +1,127 @@
+// Committing on a write-once disc: the VAT's data and its ICB (document 01, "Calls and their sector writes").
+// The call examines what it gets and refuses with the first line of document 01 that applies; a refusal leaves
+// every lent byte as it came. It has no requires.
+use address::LogicalAddress;
+use address::PhysicalAddress;
+use model::Cut;
+use model::Record;
+use model::Reply;
+use refusal::Refusal;
+use refusal::Verdict;
+ghost use mathlib.Core.Path.{_≡_};
+ghost use mathlib.Core.List.{[]};
+ghost use Prim.Native.Nat.{_≤_, _+_, _<_, _*_};
+ghost use lib.ListN.{length, take};
+ghost use Rattle.model.specs.Disc.{disc as discOf};
+ghost use Rattle.model.specs.Examine.{setting};
+ghost use Rattle.model.specs.Once.{entriesHeld, nextHeld, roomToCommit, commitWrites, icbBlock, commitPlan};
+ghost use Rattle.model.specs.Writes.{writes, upward};
+ghost use Rattle.model.specs.Plan.{Meets};
+ghost use Rattle.model.specs.VatWritten.{dataSectors, writtenData};
+
+// The bytes of a sector, and so of a block.
+const SECTOR: usize = 2048;
+
+// Line 16 of a commit. Inside the layers: line 11 has been tested.
+fn has_commit_room(l: u32, held: Record) -> bool
+    requires { ⌜ entriesHeld held ≤ 4096 ⌝ }
+    ensures { λ r. ⌜ r ≡ roomToCommit l held ⌝ }
+{
+    let next = examine::next_held(held).0 as u64;
+    let count = vat_file_written::data_sectors(examine::entries_held(held)) as u64;
+    next + count + 1 <= l as u64
+}
+
+// Writes the VAT's data sectors upward from sector `first`, the call's first writes.
+// Inside the layers: lines 1 to 16 have been tested, so the sectors are the disc's.
+fn write_vat_data(
+    disc: &mut [u8],
+    marks: &mut [u8],
+    first: PhysicalAddress,
+    table: &[u32],
+    n: u32,
+    last: LogicalAddress,
+    cut: Cut,
+)
+    requires { ⌜ (n ≤ 4096) × (n ≤ length (now table)) ⌝ }
+    requires { ⌜ (first .0 + dataSectors n ≤ length (now marks)) × (length (now marks) ≤ 1048576) ⌝ }
+    requires { ⌜ length (now disc) ≡ 2048 * length (now marks) ⌝ }
+    ensures { λ _. ⌜ discOf (now (disc .exit)) (now (marks .exit)) ≡ writes 1 cut (upward (dataSectors n) (first .0) (writtenData (take n (now (table .entry))) (last .0)) 0) (discOf (now (disc .entry)) (now (marks .entry))) ⌝ }
+{
+    let count = vat_file_written::data_sectors(n);
+    let mut i: u32 = 0;
+    while i < count {
+        let mut data = [0u8; SECTOR];
+        vat_file_written::write_data(&mut data, table, n, last, i);
+        disc_writes::write_sector(disc, marks, address::up_from(first, i), &data, i + 1, cut);
+        i += 1;
+    }
+}
+
+// The logical block of the ICB that a commit writes. Inside the layers: lines 2 and 11 have been tested.
+fn icb_block(held: Record) -> LogicalAddress
+    requires { ⌜ (entriesHeld held ≤ 4096) × (nextHeld held ≤ 1048576) ⌝ }
+    ensures { λ r. ⌜ r .0 ≡ icbBlock held ⌝ }
+{
+    let next = examine::next_held(held);
+    let block = next.0 + vat_file_written::data_sectors(examine::entries_held(held));
+    LogicalAddress(block)
+}
+
+// Writes the VAT of the lent table's first N entries: its data upward from NWA, then its ICB.
+// Inside the layers: every line of a commit has been tested.
+fn write_vat(disc: &mut [u8], marks: &mut [u8], s: u32, table: &[u32], held: Record, cut: Cut)
+    requires { ⌜ (entriesHeld held ≤ 4096) × (entriesHeld held ≤ length (now table)) ⌝ }
+    requires { ⌜ (s + icbBlock held < length (now marks)) × (length (now marks) ≤ 1048576) ⌝ }
+    requires { ⌜ length (now disc) ≡ 2048 * length (now marks) ⌝ }
+    ensures { λ _. ⌜ discOf (now (disc .exit)) (now (marks .exit)) ≡ writes 1 cut (commitWrites (setting [] s 0) (take (entriesHeld held) (now (table .entry))) held) (discOf (now (disc .entry)) (now (marks .entry))) ⌝ }
+{
+    let n = examine::entries_held(held);
+    let next = examine::next_held(held);
+    let last = examine::last_held(held);
+    let first = address::sector_of(s, next);
+    write_vat_data(disc, marks, first, table, n, last, cut);
+    let count = vat_file_written::data_sectors(n);
+    let block = next.0 + count;
+    let k = LogicalAddress(block);
+    let mut icb = [0u8; SECTOR];
+    vat_icb_written::write_icb(&mut icb, k, table, n, last);
+    let at = address::sector_of(s, k);
+    disc_writes::write_sector(disc, marks, at, &icb, count + 1, cut);
+}
+
+// Commits: the VAT of the lent table, its data first and then its ICB.
+pub fn commit(
+    disc: &mut [u8],
+    marks: &mut [u8],
+    maps: &[u8],
+    s: u32,
+    l: u32,
+    table: &[u32],
+    held: Record,
+    cut: Cut,
+) -> Reply
+    ensures { λ r. ⌜ Meets (commitPlan (setting (now (maps .entry)) s l) (discOf (now (disc .entry)) (now (marks .entry))) (now (table .entry)) held) cut (discOf (now (disc .entry)) (now (marks .entry))) (now (table .entry)) r (discOf (now (disc .exit)) (now (marks .exit))) (now (table .entry)) ⌝ }
+{
+    let lent = examine::is_lent(table);
+    let seen = examine::judge_once(disc, marks, maps, s, l, table, lent, held);
+    let verdict = seen.verdict;
+    if let Verdict::Stop(why) = verdict {
+        return Reply::Refused(why);
+    }
+    let span = seen.volume.span;
+    if !has_commit_room(span.length, held) {
+        return Reply::Refused(Refusal::NoRoom);
+    }
+    write_vat(disc, marks, span.start, table, held, cut);
+    let n = examine::entries_held(held);
+    let k = icb_block(held);
+    if disc_writes::is_struck(cut, vat_file_written::data_sectors(n) + 1) {
+        return Reply::Cut;
+    }
+    Reply::Done(Record::WriteOnce {
+        entries: n,
+        next: k.0 + 1,
+        last: k.0,
+    })
+}

@@ -1,0 +1,121 @@
+// Saving a block on a write-once disc (document 01, "Calls and their sector writes"). The call examines what it
+// gets and refuses with the first line of document 01 that applies; a refusal leaves every lent byte as it
+// came. It has no requires.
+use address::Span;
+use address::VirtualAddress;
+use model::Cut;
+use model::Record;
+use model::Reply;
+use refusal::Refusal;
+use refusal::Verdict;
+ghost use mathlib.Core.Path.{_≡_};
+ghost use mathlib.Core.List.{List};
+ghost use Prim.Native.Nat.{_≤_, ℕ, _+_, _<_};
+ghost use lib.ListN.{length};
+ghost use Rattle.refusal.specs.Tests.{first};
+ghost use Rattle.model.specs.Disc.{disc as discOf};
+ghost use Rattle.model.specs.Examine.{setting};
+ghost use Rattle.model.specs.Once.{entriesHeld, nextHeld, countAfter, roomToSave, saveTests, savePlan};
+ghost use Rattle.vat_read.specs.File.{Lent};
+ghost use Rattle.model.specs.Plan.{Meets};
+
+// The bytes of a sector, and so of a block.
+const SECTOR: usize = 2048;
+
+// The entries that a VAT has at most.
+const MOST_ENTRIES: u32 = 4096;
+
+// N after it.
+fn count_after(n: u32, v: VirtualAddress) -> u32
+    requires { ⌜ (n ≤ 4096) × (v .0 < 4096) ⌝ }
+    ensures { λ r. ⌜ r ≡ countAfter n (v .0) ⌝ }
+{
+    if v.0 == n {
+        return n + 1;
+    }
+    n
+}
+
+// Line 16: whether a commit still fits after it. Inside the layers: lines 11 and 12 have been tested.
+fn has_room(l: u32, held: Record, v: VirtualAddress) -> bool
+    requires { ⌜ (entriesHeld held ≤ 4096) × (v .0 < 4096) ⌝ }
+    ensures { λ r. ⌜ r ≡ roomToSave l held (v .0) ⌝ }
+{
+    let entries = examine::entries_held(held);
+    let next = examine::next_held(held);
+    let data = vat_file_written::data_sectors(count_after(entries, v));
+    next.0 as u64 + 1 + data as u64 + 1 <= l as u64
+}
+
+// Lines 12, 15 and 16. Inside the layers: lines 1 to 11 have been tested.
+fn judge_save(
+    disc: &[u8],
+    marks: &[u8],
+    span: Span,
+    held: Record,
+    v: VirtualAddress,
+    block: &[u8],
+) -> Verdict
+    requires { ⌜ Lent (now disc) (now marks) (span .start) (nextHeld held) ⌝ }
+    requires { ⌜ length (now block) ≡ 2048 ⌝ }
+    requires { ⌜ entriesHeld held ≤ 4096 ⌝ }
+    ensures { λ r. ⌜ ((maps : List ℕ) → r ≡ first (saveTests (setting maps (span .start) (span .length)) (discOf (now (disc .entry)) (now (marks .entry))) held (v .0) (now (block .entry)))) ⌝ }
+{
+    let entries = examine::entries_held(held);
+    if entries < v.0 {
+        return Verdict::Stop(Refusal::NumberOutside);
+    }
+    if MOST_ENTRIES <= v.0 {
+        return Verdict::Stop(Refusal::NumberOutside);
+    }
+    let next = examine::next_held(held);
+    if vat_read::passes(disc, marks, span.start, next, block) {
+        return Verdict::Stop(Refusal::PassesAsIcb);
+    }
+    if !has_room(span.length, held, v) {
+        return Verdict::Stop(Refusal::NoRoom);
+    }
+    Verdict::Go
+}
+
+// Saves a block as virtual block v, at NWA.
+pub fn save_virtual(
+    disc: &mut [u8],
+    marks: &mut [u8],
+    maps: &[u8],
+    s: u32,
+    l: u32,
+    table: &mut [u32],
+    held: Record,
+    v: u32,
+    block: &[u8],
+    cut: Cut,
+) -> Reply
+    ensures { λ r. ⌜ Meets (savePlan (setting (now (maps .entry)) s l) (discOf (now (disc .entry)) (now (marks .entry))) (now (table .entry)) held v (now (block .entry))) cut (discOf (now (disc .entry)) (now (marks .entry))) (now (table .entry)) r (discOf (now (disc .exit)) (now (marks .exit))) (now (table .exit)) ⌝ }
+{
+    let lent = examine::are_lent(table, block, SECTOR);
+    let seen = examine::judge_once(disc, marks, maps, s, l, table, lent, held);
+    let verdict = seen.verdict;
+    if let Verdict::Stop(why) = verdict {
+        return Reply::Refused(why);
+    }
+    let span = seen.volume.span;
+    let v = VirtualAddress(v);
+    if let Verdict::Stop(why) = judge_save(disc, marks, span, held, v, block) {
+        return Reply::Refused(why);
+    }
+    let next = examine::next_held(held);
+    let entries = count_after(examine::entries_held(held), v);
+    let last = examine::last_held(held);
+    let at = address::sector_of(span.start, next);
+    disc_writes::write_sector(disc, marks, at, block, 1, cut);
+    if disc_writes::is_struck(cut, 1) {
+        return Reply::Cut;
+    }
+    table[v.0 as usize] = next.0;
+    Reply::Done(Record::WriteOnce {
+        entries,
+        next: next.0 + 1,
+        last: last.0,
+    })
+}

@@ -1,0 +1,178 @@
+// Saving a block or a packet on a rewritable disc (document 01, "Calls and their sector writes"). Each call
+// examines what it gets and refuses with the first line of document 01 that applies; a refusal leaves every
+// lent byte as it came. No call has a requires.
+use address::LogicalAddress;
+use address::PhysicalAddress;
+use model::Cut;
+use model::Record;
+use model::Reply;
+use refusal::Refusal;
+use refusal::Verdict;
+ghost use mathlib.Core.Path.{_≡_};
+ghost use Rattle.refusal.specs.declared.Verdict;
+ghost use Rattle.model.specs.Disc.{disc as discOf};
+ghost use Rattle.model.specs.Plan.{Meets};
+ghost use Rattle.model.specs.Examine.{setting};
+ghost use Rattle.model.specs.Sparing.{packetOf};
+ghost use Rattle.model.specs.Rewrite.{rewritableVerdict, placeOf, blockLent, saveBlockTests, saveBlockPlan, packetLent, packetTests, savePacketPlan};
+ghost use Rattle.rewrite_save.specs.Placed.{PlacedAs};
+
+// The bytes of a sector, and so of a block.
+const SECTOR: usize = 2048;
+
+// The bytes of a packet.
+const PACKET_BYTES: usize = 65536;
+
+// The sectors of a packet, and so the writes of one.
+const PACKET: u32 = 32;
+
+// What a save is judged to be: a verdict, and where it says Go the first sector of its packet.
+struct Placed {
+    verdict: Verdict,
+    first: PhysicalAddress,
+}
+
+// A save that is turned down.
+fn stopped(why: Refusal) -> Placed
+    ensures { λ r. ⌜ r .verdict ≡ Verdict.Stop why ⌝ }
+{
+    Placed {
+        verdict: Verdict::Stop(why),
+        first: sparing_copies::nowhere(),
+    }
+}
+
+// ---- saving a block
+
+// Why it is turned down, and else where its packet is.
+fn judge_block(
+    disc: &[u8],
+    marks: &[u8],
+    maps: &[u8],
+    s: u32,
+    l: u32,
+    table: &[u32],
+    held: Record,
+    b: LogicalAddress,
+    block: &[u8],
+) -> Placed
+    ensures { λ r. ⌜ PlacedAs (rewritableVerdict (setting (now (maps .entry)) s l) (discOf (now (disc .entry)) (now (marks .entry))) (now (table .entry)) (blockLent (now (table .entry)) (now (block .entry))) held (saveBlockTests (setting (now (maps .entry)) s l) (discOf (now (disc .entry)) (now (marks .entry))) (b .0))) (placeOf (setting (now (maps .entry)) s l) (discOf (now (disc .entry)) (now (marks .entry))) (packetOf (b .0))) r ⌝ }
+{
+    let lent = examine::are_lent(table, block, SECTOR);
+    let judged = sparing_current::judge(disc, marks, maps, s, l, table, lent, held);
+    let verdict = judged.verdict;
+    if let Verdict::Stop(why) = verdict {
+        return stopped(why);
+    }
+    let span = judged.layout.volume.span;
+    if span.length <= b.0 {
+        return stopped(Refusal::NumberOutside);
+    }
+    let first = sparing_current::packet_place(table, held, span.start, b);
+    let i = b.0 % PACKET;
+    if !disc_marks::all_recorded(marks, first, i as usize) {
+        return stopped(Refusal::NotRecorded);
+    }
+    let after = address::up_from(first, i + 1);
+    if !disc_marks::all_recorded(marks, after, (31 - i) as usize) {
+        return stopped(Refusal::NotRecorded);
+    }
+    Placed {
+        verdict: Verdict::Go,
+        first,
+    }
+}
+
+// Saves a block as block b: its packet is read, and written again with this block replaced.
+pub fn save_block(
+    disc: &mut [u8],
+    marks: &mut [u8],
+    maps: &[u8],
+    s: u32,
+    l: u32,
+    table: &[u32],
+    held: Record,
+    b: u32,
+    block: &[u8],
+    cut: Cut,
+) -> Reply
+    ensures { λ r. ⌜ Meets (saveBlockPlan (setting (now (maps .entry)) s l) (discOf (now (disc .entry)) (now (marks .entry))) (now (table .entry)) held b (now (block .entry))) cut (discOf (now (disc .entry)) (now (marks .entry))) (now (table .entry)) r (discOf (now (disc .exit)) (now (marks .exit))) (now (table .entry)) ⌝ }
+{
+    let b = LogicalAddress(b);
+    let judged = judge_block(disc, marks, maps, s, l, table, held, b, block);
+    let verdict = judged.verdict;
+    if let Verdict::Stop(why) = verdict {
+        return Reply::Refused(why);
+    }
+    let first = judged.first;
+    sparing_writes::write_block(disc, marks, first, b.0 % PACKET, block, cut);
+    if disc_writes::is_struck(cut, PACKET) {
+        return Reply::Cut;
+    }
+    Reply::Done(held)
+}
+
+// ---- saving a packet
+
+// Why it is turned down, and else where it is.
+fn judge_packet(
+    disc: &[u8],
+    marks: &[u8],
+    maps: &[u8],
+    s: u32,
+    l: u32,
+    table: &[u32],
+    held: Record,
+    b: LogicalAddress,
+    packet: &[u8],
+) -> Placed
+    ensures { λ r. ⌜ PlacedAs (rewritableVerdict (setting (now (maps .entry)) s l) (discOf (now (disc .entry)) (now (marks .entry))) (now (table .entry)) (packetLent (now (table .entry)) (now (packet .entry))) held (packetTests (setting (now (maps .entry)) s l) (b .0))) (placeOf (setting (now (maps .entry)) s l) (discOf (now (disc .entry)) (now (marks .entry))) (b .0)) r ⌝ }
+{
+    let lent = examine::are_lent(table, packet, PACKET_BYTES);
+    let judged = sparing_current::judge(disc, marks, maps, s, l, table, lent, held);
+    let verdict = judged.verdict;
+    if let Verdict::Stop(why) = verdict {
+        return stopped(why);
+    }
+    if b.0 % PACKET != 0 {
+        return stopped(Refusal::NumberOutside);
+    }
+    let span = judged.layout.volume.span;
+    if span.length <= b.0 {
+        return stopped(Refusal::NumberOutside);
+    }
+    let first = sparing_current::packet_place(table, held, span.start, b);
+    Placed {
+        verdict: Verdict::Go,
+        first,
+    }
+}
+
+// Saves a packet: its 32 sectors are written, wherever it is read.
+pub fn save_packet(
+    disc: &mut [u8],
+    marks: &mut [u8],
+    maps: &[u8],
+    s: u32,
+    l: u32,
+    table: &[u32],
+    held: Record,
+    b: u32,
+    packet: &[u8],
+    cut: Cut,
+) -> Reply
+    ensures { λ r. ⌜ Meets (savePacketPlan (setting (now (maps .entry)) s l) (discOf (now (disc .entry)) (now (marks .entry))) (now (table .entry)) held b (now (packet .entry))) cut (discOf (now (disc .entry)) (now (marks .entry))) (now (table .entry)) r (discOf (now (disc .exit)) (now (marks .exit))) (now (table .entry)) ⌝ }
+{
+    let b = LogicalAddress(b);
+    let judged = judge_packet(disc, marks, maps, s, l, table, held, b, packet);
+    let verdict = judged.verdict;
+    if let Verdict::Stop(why) = verdict {
+        return Reply::Refused(why);
+    }
+    let first = judged.first;
+    disc_writes::write_upward(disc, marks, first, PACKET, packet, 1, cut);
+    if disc_writes::is_struck(cut, PACKET) {
+        return Reply::Cut;
+    }
+    Reply::Done(held)
+}

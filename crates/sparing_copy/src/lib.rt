@@ -1,0 +1,343 @@
+// The sparing table of a disc (document 01, "The sparing table"; 004, table 6): whether the bytes of a sector are
+// one, and whether a list of spares can become one.
+// The layers above count on the equations: each function gives what the definition of its name gives.
+// All functions here are inside the layers: where one has a `requires`, the callers have tested it.
+use maps::Volume;
+ghost use mathlib.Core.Path.{_≡_};
+ghost use mathlib.Core.Bool.{true};
+ghost use Prim.Native.Nat.{_+_, _*_, _/_, _%_, _≤_, _<_};
+ghost use lib.ListN.{length, drop};
+ghost use Rattle.maps.specs.Kinds.{absent};
+ghost use Rattle.model.specs.Sparing.{apart, apartFrom, outside, originalsFit, ascending, mappedOf, mappedFit, entriesFit, copyFits};
+ghost use Rattle.model.specs.Both.{spareEntries};
+ghost use Rattle.sparing_copy.specs.Layout.{geometryIn};
+ghost use Rattle.sparing_copy.specs.Entries.{entryIn, entriesIn, originalFits, follows, placed};
+
+// The bytes of a sector.
+pub const SECTOR: usize = 2048;
+
+// Where a table's fields start: two bytes of 0, the regid, the number of entries, the sequence, the entries.
+const TAG_AT: usize = 0;
+
+pub const REGID_AT: usize = 16;
+
+pub const COUNT_AT: usize = 48;
+
+pub const SEQUENCE_AT: usize = 52;
+
+pub const ENTRIES_AT: usize = 56;
+
+// The bytes of a number and of an entry, and where the mapped start is in it.
+pub const NUMBER: usize = 4;
+
+pub const ENTRY: usize = 2 * NUMBER;
+
+const MAPPED_IN: usize = NUMBER;
+
+// The entries that fit a sector.
+const MOST_ENTRIES: usize = (SECTOR - ENTRIES_AT) / ENTRY;
+
+// The regid of a table.
+pub const REGID: [u8; 32] = *b"\0*OSTA UDF Sparing Table\0\0\0\0\0\0\0\0";
+
+// The sectors of a packet.
+const PACKET: u32 = 32;
+
+// How many slots tell packets apart: two packets of the same slot are compared.
+const SLOTS: usize = 256;
+
+// The original of a free spare.
+pub const FREE: u32 = 0xffffffff;
+
+// What a rewritable volume lies in: the volume, the sectors of the disc, and what its kind holds, taken out
+// once: the number of its tables and the bytes of each.
+pub struct Layout {
+    pub volume: Volume,
+    pub sectors: u32,
+    pub count: u8,
+    pub size: u32,
+}
+
+// A number in a wider type.
+pub fn wide8(x: u8) -> usize
+    ensures { λ r. ⌜ (r ≡ x) × (r < 256) ⌝ }
+{
+    x as usize
+}
+
+pub fn wide16(x: u16) -> usize
+    ensures { λ r. ⌜ (r ≡ x) × (r < 65536) ⌝ }
+{
+    x as usize
+}
+
+pub fn wide32(x: u32) -> usize
+    ensures { λ r. ⌜ (r ≡ x) × (r < 4294967296) ⌝ }
+{
+    x as usize
+}
+
+// Whether two packets have no sector in common.
+fn is_apart(a: u32, b: u32) -> bool
+    ensures { λ r. ⌜ r ≡ apart a b ⌝ }
+{
+    if a < b {
+        return PACKET <= b - a;
+    }
+    PACKET <= a - b
+}
+
+// Whether a packet is apart from every table's.
+fn is_apart_from_tables(x: Layout, m: u32) -> bool
+    requires { ⌜ x .count ≤ 4 ⌝ }
+    ensures { λ r. ⌜ r ≡ apartFrom m (geometryIn x .tables) ⌝ }
+{
+    let tables = x.volume.tables;
+    let n = wide8(x.count);
+    let mut i: usize = 0;
+    while i < n {
+        if !is_apart(m, tables[i]) {
+            return false;
+        }
+        i += 1;
+    }
+    true
+}
+
+// Whether a packet is a whole one on the disc, outside the partition.
+fn is_outside(x: Layout, m: u32) -> bool
+    ensures { λ r. ⌜ r ≡ outside (geometryIn x) m ⌝ }
+{
+    if m % PACKET != 0 {
+        return false;
+    }
+    if x.sectors < m {
+        return false;
+    }
+    if x.sectors - m < PACKET {
+        return false;
+    }
+    let span = x.volume.span;
+    if m < span.start {
+        return PACKET <= span.start - m;
+    }
+    span.length <= m - span.start
+}
+
+// Whether a packet may be a spare: on the disc, outside the partition and every table's packet.
+fn is_placed(x: Layout, m: u32) -> bool
+    requires { ⌜ x .count ≤ 4 ⌝ }
+    ensures { λ r. ⌜ r ≡ placed (geometryIn x) m ⌝ }
+{
+    if !is_outside(x, m) {
+        return false;
+    }
+    is_apart_from_tables(x, m)
+}
+
+// The original of entry `i` of a table's sector.
+fn original_at(b: &[u8], i: usize) -> u32
+    requires { ⌜ 64 + 8 * i ≤ length (now b) ⌝ }
+    ensures { λ r. ⌜ r ≡ entryIn (now (b .entry)) i .original ⌝ }
+{
+    fields::read32(b, ENTRIES_AT + ENTRY * i)
+}
+
+// Its mapped start.
+fn mapped_at(b: &[u8], i: usize) -> u32
+    requires { ⌜ 64 + 8 * i ≤ length (now b) ⌝ }
+    ensures { λ r. ⌜ r ≡ entryIn (now (b .entry)) i .mapped ⌝ }
+{
+    fields::read32(b, ENTRIES_AT + ENTRY * i + MAPPED_IN)
+}
+
+// Whether an original is that of a free spare, or a multiple of 32 below L.
+fn original_fits(original: u32, span: u32) -> bool
+    ensures { λ r. ⌜ r ≡ originalFits span original ⌝ }
+{
+    if original == FREE {
+        return true;
+    }
+    if original % PACKET != 0 {
+        return false;
+    }
+    original < span
+}
+
+// Whether each of `n` entries has an original that fits.
+fn originals_fit(b: &[u8], n: usize, span: u32) -> bool
+    requires { ⌜ 56 + 8 * n ≤ length (now b) ⌝ }
+    ensures { λ r. ⌜ r ≡ originalsFit span (entriesIn (now (b .entry)) n) ⌝ }
+{
+    let mut i: usize = 0;
+    while i < n {
+        let original = original_at(b, i);
+        if !original_fits(original, span) {
+            return false;
+        }
+        i += 1;
+    }
+    true
+}
+
+// Whether an entry may stand after one of this original.
+fn is_after(original: u32, next: u32) -> bool
+    ensures { λ r. ⌜ r ≡ follows original next ⌝ }
+{
+    if next == FREE {
+        return true;
+    }
+    original < next
+}
+
+// Whether the originals of `n` entries ascend, with the free ones after the used ones.
+fn is_ascending(b: &[u8], n: usize) -> bool
+    requires { ⌜ 56 + 8 * n ≤ length (now b) ⌝ }
+    ensures { λ r. ⌜ r ≡ ascending (entriesIn (now (b .entry)) n) ⌝ }
+{
+    let mut i: usize = 0;
+    while i + 1 < n {
+        let original = original_at(b, i);
+        let next = original_at(b, i + 1);
+        if !is_after(original, next) {
+            return false;
+        }
+        i += 1;
+    }
+    true
+}
+
+// Whether none of the entries from `from` to `n` is mapped to `m`.
+fn is_absent(b: &[u8], from: usize, n: usize, m: u32) -> bool
+    requires { ⌜ 56 + 8 * n ≤ length (now b) ⌝ }
+    ensures { λ r. ⌜ r ≡ absent m (mappedOf (drop from (entriesIn (now (b .entry)) n))) ⌝ }
+{
+    let mut none = true;
+    let mut i = from;
+    while i < n {
+        if m == mapped_at(b, i) {
+            none = false;
+        }
+        i += 1;
+    }
+    none
+}
+
+// The slot of a packet.
+fn slot_of(m: u32) -> usize
+    ensures { λ r. ⌜ (r ≡ m / 32 % 256) × (r < 256) ⌝ }
+{
+    wide32(m / PACKET) % SLOTS
+}
+
+// Whether none of the entries from `from` to `n` is mapped to `m`. Where `seen` is 0 none is, and they are
+// not looked at.
+fn is_new(b: &[u8], from: usize, n: usize, m: u32, seen: u8) -> bool
+    requires { ⌜ 56 + 8 * n ≤ length (now b) ⌝ }
+    requires { ⌜ (seen ≡ 0 → absent m (mappedOf (drop from (entriesIn (now b) n))) ≡ true) ⌝ }
+    ensures { λ r. ⌜ r ≡ absent m (mappedOf (drop from (entriesIn (now (b .entry)) n))) ⌝ }
+{
+    if seen == 0 {
+        return true;
+    }
+    is_absent(b, from, n, m)
+}
+
+// Whether the mapped starts of `n` entries may be spares, and none stands twice. It looks from the last
+// entry to the first, and compares a mapped start with those after it only where one of them has its slot.
+fn mapped_fit(x: Layout, b: &[u8], n: usize) -> bool
+    requires { ⌜ x .count ≤ 4 ⌝ }
+    requires { ⌜ 56 + 8 * n ≤ length (now b) ⌝ }
+    ensures { λ r. ⌜ r ≡ mappedFit (geometryIn x) (entriesIn (now (b .entry)) n) ⌝ }
+{
+    let mut seen = [0u8; SLOTS];
+    let mut i = n;
+    while 0 < i {
+        i -= 1;
+        let m = mapped_at(b, i);
+        if !is_placed(x, m) {
+            return false;
+        }
+        let slot = slot_of(m);
+        if !is_new(b, i + 1, n, m, seen[slot]) {
+            return false;
+        }
+        seen[slot] = 1;
+    }
+    true
+}
+
+// Whether a sector's bytes are a table that counts where the sector is recorded. The number of entries is
+// compared with the map's size first, so that no entry past the sector is read.
+pub fn copy_fits(x: Layout, b: &[u8]) -> bool
+    requires { ⌜ (x .count ≤ 4) × (x .size ≤ 2048) ⌝ }
+    requires { ⌜ length (now b) ≡ 2048 ⌝ }
+    ensures { λ r. ⌜ r ≡ copyFits (geometryIn x) (now (b .entry)) ⌝ }
+{
+    if fields::read16(b, TAG_AT) != 0 {
+        return false;
+    }
+    if !fields::has_regid(b, REGID_AT, &REGID) {
+        return false;
+    }
+    let n = wide16(fields::read16(b, COUNT_AT));
+    if wide32(x.size) < ENTRIES_AT + ENTRY * n {
+        return false;
+    }
+    if !originals_fit(b, n, x.volume.span.length) {
+        return false;
+    }
+    if !is_ascending(b, n) {
+        return false;
+    }
+    mapped_fit(x, b, n)
+}
+
+// Whether none of the spares from `from` on is `m`.
+fn is_absent_spare(spares: &[u32], from: usize, m: u32) -> bool
+    ensures { λ r. ⌜ r ≡ absent m (mappedOf (drop from (spareEntries (now (spares .entry))))) ⌝ }
+{
+    let mut none = true;
+    let mut i = from;
+    while i < spares.len() {
+        if m == spares[i] {
+            none = false;
+        }
+        i += 1;
+    }
+    none
+}
+
+// Whether each of a list of packets may be a spare, and none stands twice.
+fn spares_placed(x: Layout, spares: &[u32]) -> bool
+    requires { ⌜ x .count ≤ 4 ⌝ }
+    ensures { λ r. ⌜ r ≡ mappedFit (geometryIn x) (spareEntries (now (spares .entry))) ⌝ }
+{
+    let mut i: usize = 0;
+    while i < spares.len() {
+        let m = spares[i];
+        if !is_placed(x, m) {
+            return false;
+        }
+        if !is_absent_spare(spares, i + 1, m) {
+            return false;
+        }
+        i += 1;
+    }
+    true
+}
+
+// Whether a list of packets can be the free spares of a table that is made. There may be any number of
+// them: it is looked at first.
+pub fn spares_fit(x: Layout, spares: &[u32]) -> bool
+    requires { ⌜ (x .count ≤ 4) × (x .size ≤ 2048) ⌝ }
+    ensures { λ r. ⌜ r ≡ entriesFit (geometryIn x) (spareEntries (now (spares .entry))) ⌝ }
+{
+    if MOST_ENTRIES < spares.len() {
+        return false;
+    }
+    if wide32(x.size) < ENTRIES_AT + ENTRY * spares.len() {
+        return false;
+    }
+    spares_placed(x, spares)
+}
