@@ -16,20 +16,24 @@ from pathlib import Path
 ROOT = Path(__file__).resolve().parent.parent
 SOURCE = "crates/capi/src/lib.rt"
 REFUSALS = "crates/refusal/src/lib.rt"
+SHARED = "crates/model/src/lib.rt"
 ANSWERS = "crates/call_numbers/src/lib.rt"
 CALLS = "crates/list_step/src/lib.rt"
 HEADER = "include/tuormik.h"
 DECLARED = "rust/src/ffi.rs"
 RUST_REFUSALS = "rust/src/refusal.rs"
 PACKAGE = "rust/Cargo.toml"
-FILES = (SOURCE, REFUSALS, ANSWERS, CALLS, HEADER, DECLARED, RUST_REFUSALS, PACKAGE)
+FILES = (SOURCE, REFUSALS, SHARED, ANSWERS, CALLS, HEADER, DECLARED, RUST_REFUSALS, PACKAGE)
 
 # constants of a source, and what they are called in the header
 CONSTANTS = {
     SOURCE: {"VOLUME": "MAPS_RESULT_LENGTH"},
-    ANSWERS: {
+    SHARED: {
         "DONE": "DONE",
         "CUT": "CUT",
+        "SECTOR": "SECTOR",
+    },
+    ANSWERS: {
         "WRITE_ONCE": "WRITE_ONCE",
         "REWRITABLE": "REWRITABLE",
         "OLD": "EFFECT_OLD",
@@ -302,7 +306,7 @@ SLIPS = [
     (SOURCE, '#[no_mangle]\npub extern "C" fn tuormik_run(', "pub fn tuormik_run("),
     (SOURCE, '#[no_mangle]\npub extern "C" fn tuormik_run(', 'pub extern "C" fn tuormik_run('),
     (REFUSALS, "Refusal::NoRoom => 16", "Refusal::NoRoom => 17"),
-    (ANSWERS, "const CUT: u32 = 255;", "const CUT: u32 = 254;"),
+    (SHARED, "const CUT: u32 = 255;", "const CUT: u32 = 254;"),
     (CALLS, "const SAVE_PACKET: u32 = 4;", "const SAVE_PACKET: u32 = 5;"),
     (RUST_REFUSALS, "    OneTable,\n", "    OneSparingTable,\n"),
     (RUST_REFUSALS, "    OneTable,\n", ""),

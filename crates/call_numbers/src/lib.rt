@@ -1,7 +1,9 @@
 // A record, a cut and an answer as the numbers that C lends and is given (document 01, "Calls and their
 // sector writes"; "Why a call is turned down").
 // All functions here are inside the layers: where one has a `requires`, the exported calls have tested it.
+use model::CUT;
 use model::Cut;
+use model::DONE;
 use model::Effect;
 use model::Given;
 use model::Opened;
@@ -39,11 +41,6 @@ pub const REWRITABLE: u32 = 1;
 const OLD: u32 = 0;
 
 const UNREADABLE: u32 = 1;
-
-// What a call returns that was carried out, and one that was cut.
-pub const DONE: u32 = 0;
-
-const CUT: u32 = 255;
 
 // ---- cuts
 

@@ -9,6 +9,7 @@ use address::VirtualAddress;
 use list_run::Ran;
 use maps::Kind;
 use maps::Volume;
+use model::DONE;
 use once_open::Measured;
 use refusal::Refusal;
 use refusal::Verdict;
@@ -223,7 +224,7 @@ pub extern "C" fn tuormik_fullness(
     match measured {
         Measured::PerMille(n) => {
             result[0] = n;
-            call_numbers::DONE
+            DONE
         }
         Measured::Refused(why) => refusal::number(why),
     }
@@ -368,7 +369,7 @@ pub extern "C" fn tuormik_read_maps(maps: &[u8], result: &mut [u32]) -> u32
         Verdict::Go => {
             let volume = read.volume;
             put_volume(result, volume);
-            call_numbers::DONE
+            DONE
         }
         Verdict::Stop(why) => refusal::number(why),
     }
@@ -473,7 +474,7 @@ pub extern "C" fn tuormik_look_up(file: &[u8], v: u32, result: &mut [u32]) -> u3
     match found {
         ToLogical::At(b) => {
             result[0] = b.0;
-            call_numbers::DONE
+            DONE
         }
         ToLogical::Refused(why) => refusal::number(why),
     }
@@ -509,7 +510,7 @@ pub extern "C" fn tuormik_run(
     match ran {
         Ran::Ended { held, passed } => {
             call_numbers::put_record(kept, held, passed);
-            call_numbers::DONE
+            DONE
         }
         Ran::Refused(why) => refusal::number(why),
     }

@@ -4,7 +4,12 @@
 // All functions here are inside the layers. Line 1 and line 2 ask for nothing; the others are called where
 // those two have been tested, and say in a `requires` what they take from them.
 use address::LogicalAddress;
+use address::MOST_SECTORS;
 use address::PhysicalAddress;
+use model::BLANK;
+use model::RECORDED;
+use model::SECTOR;
+use model::UNREADABLE;
 ghost use mathlib.Core.Path.{_≡_};
 ghost use mathlib.Core.List.{List};
 ghost use Prim.Native.Nat.{ℕ, _+_, _*_, _≤_, _<_, max};
@@ -13,10 +18,8 @@ ghost use lib.Dec.{eqb};
 ghost use Rattle.model.specs.Disc.{disc as discOf, recorded, recordedRun, nwa, shapely, inside};
 ghost use Rattle.disc_marks.specs.Marks.{highest};
 
-// Bytes of a sector, and how many sectors a disc may have.
-const SECTOR: usize = 2048;
-
-const MOST_SECTORS: usize = 1048576;
+// How many sectors a disc may have, as a length.
+const MOST: usize = MOST_SECTORS as usize;
 
 // How many marks are looked at in one turn, where there are many.
 const TURN: usize = 64;
@@ -29,13 +32,6 @@ const LONGEST_STEP: u32 = 65536;
 const LONG_STEP: u32 = 4096;
 
 const SHORT_STEP: u32 = 128;
-
-// The marks of a sector.
-const BLANK: u8 = 0;
-
-const RECORDED: u8 = 1;
-
-const UNREADABLE: u8 = 2;
 
 // The highest of few marks, `least` if none is above it. It looks at each, with no early way out.
 fn highest_few(marks: &[u8], least: u8) -> u8
@@ -104,7 +100,7 @@ pub fn is_shapely(disc: &[u8], marks: &[u8]) -> bool
     if sectors == 0 {
         return false;
     }
-    if MOST_SECTORS < sectors {
+    if MOST < sectors {
         return false;
     }
     if disc.len() != SECTOR * sectors {

@@ -7,7 +7,9 @@ use address::MediaBlockAddress;
 use address::PhysicalAddress;
 use address::Span;
 use maps::Kind;
+use maps::PACKET;
 use maps::Volume;
+use model::MOST_ENTRIES;
 use model::Record;
 use refusal::Refusal;
 use refusal::Verdict;
@@ -27,14 +29,11 @@ ghost use Rattle.model.specs.Examine.{setting, allOutside, aligned, lentTable};
 ghost use Rattle.model.specs.Once.{entriesHeld, nextHeld, lastHeld, heldFits};
 ghost use Rattle.examine.specs.Ground.{groundOf, placedOf, handedOn, examinedOf, JudgedOnce};
 
-// The sectors of a packet.
-const PACKET: u64 = 32;
-
-// The most entries of a VAT.
-const MOST_ENTRIES: u32 = 4096;
+// The sectors of a packet, where sums of them are taken.
+const WIDE_PACKET: u64 = PACKET as u64;
 
 // The entries that a lent table has at least.
-const TABLE: usize = 4096;
+const TABLE: usize = MOST_ENTRIES as usize;
 
 // A verdict, and where it says Go the volume with its span.
 pub struct Examined {
@@ -119,13 +118,13 @@ fn is_outside(sectors: usize, s: u32, l: u32, m: PhysicalAddress) -> bool
     ensures { λ r. ⌜ r ≡ outside (groundOf s l sectors [] 0) (m .0) ⌝ }
 {
     let at = m.0 as u64;
-    if at % PACKET != 0 {
+    if at % WIDE_PACKET != 0 {
         return false;
     }
-    if (sectors as u64) < at + PACKET {
+    if (sectors as u64) < at + WIDE_PACKET {
         return false;
     }
-    if at + PACKET <= s as u64 {
+    if at + WIDE_PACKET <= s as u64 {
         return true;
     }
     s as u64 + l as u64 <= at
@@ -152,10 +151,10 @@ fn is_aligned(sectors: usize, s: u32, l: u32, tables: [u32; 4], n: u8) -> bool
     requires { ⌜ n ≤ 4 ⌝ }
     ensures { λ r. ⌜ r ≡ aligned (groundOf s l sectors (take n tables) 0) ⌝ }
 {
-    if s as u64 % PACKET != 0 {
+    if s as u64 % WIDE_PACKET != 0 {
         return false;
     }
-    if l as u64 % PACKET != 0 {
+    if l as u64 % WIDE_PACKET != 0 {
         return false;
     }
     are_outside(sectors, s, l, tables, n)

@@ -2,7 +2,9 @@
 // 01, "Calls and their sector writes"; "The plain store", second paragraph). `store` counts on each call being
 // a step of the definition.
 // All functions here are inside the layers: where one has a `requires`, the callers have tested it.
+use model::CUT;
 use model::Cut;
+use model::DONE;
 use model::Opened;
 use model::Record;
 use model::Reply;
@@ -28,11 +30,6 @@ const SAVE_PACKET: u32 = 4;
 const SPARE_PACKET: u32 = 5;
 
 const OPEN: u32 = 6;
-
-// The reply of a call that was carried out, and of one that was cut.
-const DONE: u32 = 0;
-
-const CUT: u32 = 255;
 
 // What one call answers, a writing call or an opening.
 pub enum Answered {

@@ -9,6 +9,7 @@ use maps::Kind;
 use maps::Volume;
 use model::Cut;
 use model::Effect;
+use model::SECTOR;
 use refusal::Refusal;
 use refusal::Verdict;
 use sparing_copy::Layout;
@@ -28,9 +29,6 @@ ghost use Rattle.sparing_copy.specs.Layout.{geometryIn, TablesOn};
 ghost use Rattle.make_volume.specs.Rewritable.{makeRewritableVerdict, madeRewritable, makingWrites};
 ghost use Rattle.sparing_current.specs.Looked.{JudgedAs};
 ghost use Rattle.refusal.specs.declared.Verdict;
-
-// The bytes of a sector.
-const SECTOR: usize = 2048;
 
 // ---- a write-once volume
 

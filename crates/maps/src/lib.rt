@@ -61,7 +61,7 @@ pub const VIRTUAL: [u8; 32] = *b"\0*UDF Virtual Partition\0\0\0\0\0\0\0\0\0";
 pub const SPARABLE: [u8; 32] = *b"\0*UDF Sparable Partition\0\0\0\0\0\0\0\0";
 
 // The sectors of a packet.
-const PACKET: u32 = 32;
+pub const PACKET: u32 = 32;
 
 pub const PACKET_LENGTH: u16 = PACKET as u16;
 

@@ -1,6 +1,29 @@
-// Document 01 as definitions, in specs/, and the theorem over them, in proofs/. Here are only the types that
-// the calls share: what a cut is, the record that a call hands on, and what a call answers.
+// Document 01 as definitions, in specs/, and the theorem over them, in proofs/. Here are only what the
+// calls share: numbers of the format, what a cut is, the record that a call hands on, and what a call answers.
 use refusal::Refusal;
+
+// The bytes of a sector, and so of a block.
+pub const SECTOR: usize = 2048;
+
+// The bytes of a packet.
+pub const PACKET_BYTES: usize = 65536;
+
+// The marks of a sector.
+pub const BLANK: u8 = 0;
+
+pub const RECORDED: u8 = 1;
+
+pub const UNREADABLE: u8 = 2;
+
+// The most entries of a VAT, and the regid behind them.
+pub const MOST_ENTRIES: u32 = 4096;
+
+pub const VAT_REGID: [u8; 32] = *b"\0*UDF Virtual Alloc Tbl\0\0\0\0\0\0\0\0\0";
+
+// What is told of a call that was carried out, and of one that was cut.
+pub const DONE: u32 = 0;
+
+pub const CUT: u32 = 255;
 
 // What becomes of the sector write at which the power fails.
 pub enum Effect {

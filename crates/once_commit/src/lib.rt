@@ -6,6 +6,7 @@ use address::PhysicalAddress;
 use model::Cut;
 use model::Record;
 use model::Reply;
+use model::SECTOR;
 use refusal::Refusal;
 use refusal::Verdict;
 ghost use mathlib.Core.Path.{_≡_};
@@ -18,9 +19,6 @@ ghost use Rattle.model.specs.Once.{entriesHeld, nextHeld, roomToCommit, commitW
 ghost use Rattle.model.specs.Writes.{writes, upward};
 ghost use Rattle.model.specs.Plan.{Meets};
 ghost use Rattle.model.specs.VatWritten.{dataSectors, writtenData};
-
-// The bytes of a sector, and so of a block.
-const SECTOR: usize = 2048;
 
 // Line 16 of a commit. Inside the layers: line 11 has been tested.
 fn has_commit_room(l: u32, held: Record) -> bool

@@ -7,9 +7,11 @@ use address::ToLogical;
 use address::VirtualAddress;
 use maps::Kind;
 use model::Given;
+use model::MOST_ENTRIES;
 use model::Opened;
 use model::Record;
 use model::Reply;
+use model::SECTOR;
 use refusal::Refusal;
 use refusal::Verdict;
 use vat_scan::Scanned;
@@ -23,11 +25,8 @@ ghost use Rattle.once_open.specs.Calls.{openingOnce, openedOnce, PassedO
 ghost use Rattle.model.specs.Writes.{noCut};
 ghost use Rattle.model.specs.Plan.{Meets};
 
-// The bytes of a sector, and so of a block.
-const SECTOR: usize = 2048;
-
-// The entries that a VAT has at most.
-const MOST_COUNT: u64 = 4096;
+// The entries that a VAT has at most, beside those of one that can exceed any table.
+const MOST_COUNT: u64 = MOST_ENTRIES as u64;
 
 // A full partition in per mille.
 const FULL: u64 = 1000;

@@ -4,8 +4,10 @@
 use address::Span;
 use address::VirtualAddress;
 use model::Cut;
+use model::MOST_ENTRIES;
 use model::Record;
 use model::Reply;
+use model::SECTOR;
 use refusal::Refusal;
 use refusal::Verdict;
 ghost use mathlib.Core.Path.{_≡_};
@@ -18,12 +20,6 @@ ghost use Rattle.model.specs.Examine.{setting};
 ghost use Rattle.model.specs.Once.{entriesHeld, nextHeld, countAfter, roomToSave, saveTests, savePlan};
 ghost use Rattle.vat_read.specs.File.{Lent};
 ghost use Rattle.model.specs.Plan.{Meets};
-
-// The bytes of a sector, and so of a block.
-const SECTOR: usize = 2048;
-
-// The entries that a VAT has at most.
-const MOST_ENTRIES: u32 = 4096;
 
 // N after it.
 fn count_after(n: u32, v: VirtualAddress) -> u32

@@ -2,9 +2,11 @@
 // sector writes"). Each examines what it gets and refuses with the first line of document 01 that applies; a refusal leaves every
 // lent byte as it came. No call has a requires.
 use address::LogicalAddress;
+use maps::PACKET;
 use model::Given;
 use model::Opened;
 use model::Record;
+use model::SECTOR;
 use refusal::Refusal;
 use refusal::Verdict;
 ghost use mathlib.Core.Path.{_≡_};
@@ -12,12 +14,6 @@ ghost use Prim.Native.Nat.{_+_, _*_};
 ghost use Rattle.model.specs.Disc.{disc as discOf};
 ghost use Rattle.model.specs.Examine.{setting};
 ghost use Rattle.rewrite_open.specs.Calls.{openingRewritable, openedRewritable, readingBlock, readBlockBytes};
-
-// The bytes of a sector, and so of a block.
-const SECTOR: usize = 2048;
-
-// The sectors of a packet.
-const PACKET: u32 = 32;
 
 // ---- opening
 

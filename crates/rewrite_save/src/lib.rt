@@ -3,9 +3,12 @@
 // lent byte as it came. No call has a requires.
 use address::LogicalAddress;
 use address::PhysicalAddress;
+use maps::PACKET;
 use model::Cut;
+use model::PACKET_BYTES;
 use model::Record;
 use model::Reply;
+use model::SECTOR;
 use refusal::Refusal;
 use refusal::Verdict;
 ghost use mathlib.Core.Path.{_≡_};
@@ -16,15 +19,6 @@ ghost use Rattle.model.specs.Examine.{setting};
 ghost use Rattle.model.specs.Sparing.{packetOf};
 ghost use Rattle.model.specs.Rewrite.{rewritableVerdict, placeOf, blockLent, saveBlockTests, saveBlockPlan, packetLent, packetTests, savePacketPlan};
 ghost use Rattle.rewrite_save.specs.Placed.{PlacedAs};
-
-// The bytes of a sector, and so of a block.
-const SECTOR: usize = 2048;
-
-// The bytes of a packet.
-const PACKET_BYTES: usize = 65536;
-
-// The sectors of a packet, and so the writes of one.
-const PACKET: u32 = 32;
 
 // What a save is judged to be: a verdict, and where it says Go the first sector of its packet.
 struct Placed {

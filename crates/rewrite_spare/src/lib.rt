@@ -3,9 +3,12 @@
 // came. It has no requires.
 use address::LogicalAddress;
 use address::PhysicalAddress;
+use maps::PACKET;
 use model::Cut;
+use model::PACKET_BYTES;
 use model::Record;
 use model::Reply;
+use model::SECTOR;
 use refusal::Refusal;
 use refusal::Verdict;
 use sparing_copy::Layout;
@@ -26,15 +29,6 @@ ghost use Rattle.model.specs.Rewrite.{entriesOn, sequenceOn, rewritableVerdict,
 ghost use Rattle.sparing_copy.specs.Layout.{geometryIn, TablesOn};
 ghost use Rattle.sparing_current.specs.Held.{countHeld, sequenceHeld, entriesLent};
 ghost use Rattle.rewrite_spare.specs.Parts.{SparingJudgedAs, sparingWrites};
-
-// The bytes of a sector, and so of a block.
-const SECTOR: usize = 2048;
-
-// The bytes of a packet.
-const PACKET_BYTES: usize = 65536;
-
-// The sectors of a packet, and so the writes of one.
-const PACKET: u32 = 32;
 
 // The most that a sequence can be.
 const LAST: u32 = 0xffffffff;

@@ -4,13 +4,14 @@
 // All functions here are inside the layers: where one has a `requires`, the callers have tested it.
 use address::MediaBlockAddress;
 use address::PhysicalAddress;
+use model::RECORDED;
+use model::SECTOR;
 use refusal::Refusal;
 use refusal::Verdict;
 use sparing_copy::COUNT_AT;
 use sparing_copy::ENTRIES_AT;
 use sparing_copy::ENTRY;
 use sparing_copy::Layout;
-use sparing_copy::SECTOR;
 use sparing_copy::SEQUENCE_AT;
 ghost use mathlib.Core.Path.{_≡_};
 ghost use mathlib.Core.Bool.{true};
@@ -23,9 +24,6 @@ ghost use Rattle.model.specs.Disc.{disc as discOf, sector};
 ghost use Rattle.model.specs.Sparing.{countIn, counts, sequenceAt, tableAt};
 ghost use Rattle.sparing_copy.specs.Layout.{geometryIn, TablesOn};
 ghost use Rattle.sparing_copies.specs.Copies.{usedAt, newerOf, newestOf, agrees, agreeing, FoundCurrent};
-
-// The mark of a sector that is recorded.
-const RECORDED: u8 = 1;
 
 // The newest of some copies: whether one counts, the first of those with the highest sequence, and that
 // sequence.

@@ -2,7 +2,9 @@
 // one, and whether a list of spares can become one.
 // The layers above count on the equations: each function gives what the definition of its name gives.
 // All functions here are inside the layers: where one has a `requires`, the callers have tested it.
+use maps::PACKET;
 use maps::Volume;
+use model::SECTOR;
 ghost use mathlib.Core.Path.{_≡_};
 ghost use mathlib.Core.Bool.{true};
 ghost use Prim.Native.Nat.{_+_, _*_, _/_, _%_, _≤_, _<_};
@@ -12,9 +14,6 @@ ghost use Rattle.model.specs.Sparing.{apart, apartFrom, outside, originalsFit, 
 ghost use Rattle.model.specs.Both.{spareEntries};
 ghost use Rattle.sparing_copy.specs.Layout.{geometryIn};
 ghost use Rattle.sparing_copy.specs.Entries.{entryIn, entriesIn, originalFits, follows, placed};
-
-// The bytes of a sector.
-pub const SECTOR: usize = 2048;
 
 // Where a table's fields start: two bytes of 0, the regid, the number of entries, the sequence, the entries.
 const TAG_AT: usize = 0;
@@ -39,9 +38,6 @@ const MOST_ENTRIES: usize = (SECTOR - ENTRIES_AT) / ENTRY;
 
 // The regid of a table.
 pub const REGID: [u8; 32] = *b"\0*OSTA UDF Sparing Table\0\0\0\0\0\0\0\0";
-
-// The sectors of a packet.
-const PACKET: u32 = 32;
 
 // How many slots tell packets apart: two packets of the same slot are compared.
 const SLOTS: usize = 256;

@@ -4,8 +4,10 @@
 use address::LogicalAddress;
 use address::PhysicalAddress;
 use maps::Kind;
+use maps::PACKET;
 use maps::Volume;
 use model::Record;
+use model::SECTOR;
 use refusal::Refusal;
 use refusal::Verdict;
 use sparing_copy::Layout;
@@ -23,11 +25,6 @@ ghost use Rattle.sparing_copy.specs.Layout.{geometryIn};
 ghost use Rattle.examine.specs.Ground.{groundOf};
 ghost use Rattle.sparing_current.specs.Looked.{Sees, Judges};
 ghost use Rattle.sparing_current.specs.Held.{countHeld, sequenceHeld, entriesLent};
-
-// The bytes of a sector, and the sectors of a packet.
-const SECTOR: usize = 2048;
-
-const PACKET: u32 = 32;
 
 // What a disc is found to hold: a verdict, and where it says Go the layout, the sector of a current copy of
 // the sparing table, its sequence and the number of its entries.

@@ -5,6 +5,7 @@
 // has a `requires`, the callers have tested it.
 use address::MediaBlockAddress;
 use address::PhysicalAddress;
+use maps::PACKET;
 use model::Cut;
 use sparing_copy::Layout;
 ghost use mathlib.Core.Path.{_≡_};
@@ -19,9 +20,6 @@ ghost use Rattle.model.specs.Sparing.{counts};
 ghost use Rattle.model.specs.Rewrite.{packetWrites, replaced, copiesTo};
 ghost use Rattle.sparing_copy.specs.Layout.{geometryIn, TablesOn};
 ghost use Rattle.sparing_writes.specs.Order.{numbersOf, isOf, asWanted, chosen, orderOf};
-
-// The sectors of a packet.
-const PACKET: u32 = 32;
 
 // Sectors of tables: the first `count` of four places.
 struct Chosen {

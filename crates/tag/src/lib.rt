@@ -6,10 +6,22 @@ ghost use lib.ListN.{length};
 ghost use Rattle.tag.specs.Checksum.{total, checksumOf};
 ghost use Rattle.tag.specs.Crc.{byteStep, crcFrom};
 
-// The bytes of a tag, and where among them its checksum stands.
-const TAG_LENGTH: usize = 16;
+// The bytes of a tag, and where among them its fields stand.
+pub const TAG_BYTES: usize = 16;
 
-const CHECKSUM_AT: usize = 4;
+pub const IDENTIFIER_AT: usize = 0;
+
+pub const VERSION_AT: usize = 2;
+
+pub const CHECKSUM_AT: usize = 4;
+
+pub const RESERVED_AT: usize = 5;
+
+pub const CRC_AT: usize = 8;
+
+pub const CRC_LENGTH_AT: usize = 10;
+
+pub const LOCATION_AT: usize = 12;
 
 // The sum of some bytes, modulo 256.
 fn sum(part: &[u8]) -> u8
@@ -32,7 +44,7 @@ pub fn checksum(tag: &[u8]) -> u8
 {
     std::num::wrapping_add_u8(
         sum(&tag[..CHECKSUM_AT]),
-        sum(&tag[CHECKSUM_AT + 1..TAG_LENGTH]),
+        sum(&tag[CHECKSUM_AT + 1..TAG_BYTES]),
     )
 }
 

@@ -4,6 +4,7 @@
 // All functions here are inside the layers: each requires what its callers have shown, at most 4,096 entries
 // among it.
 use address::LogicalAddress;
+use model::VAT_REGID;
 ghost use mathlib.Core.Path.{_≡_};
 ghost use Prim.Native.Nat.{_+_, _*_, _%_, _≤_, _<_, min};
 ghost use lib.Dec.{ltb};
@@ -33,8 +34,6 @@ const PREVIOUS_AT: usize = 32;
 const TAIL: u32 = 36;
 
 const TAIL_BYTES: usize = TAIL as usize;
-
-const REGID: [u8; 32] = *b"\0*UDF Virtual Alloc Tbl\0\0\0\0\0\0\0\0\0";
 
 // F, the bytes of the file of n entries.
 pub fn file_bytes(n: u32) -> u32
@@ -78,7 +77,7 @@ fn tail_of(previous: LogicalAddress) -> [u8; TAIL_BYTES]
     ensures { λ r. ⌜ r ≡ tail (previous .0) ⌝ }
 {
     let mut bytes = [0u8; TAIL_BYTES];
-    fields_written::write_regid(&mut bytes, REGID_AT, &REGID);
+    fields_written::write_regid(&mut bytes, REGID_AT, &VAT_REGID);
     fields_written::write32(&mut bytes, PREVIOUS_AT, previous.0);
     bytes
 }

@@ -2,6 +2,15 @@
 // The layers above count on the equations: each function gives what the definition of its name gives.
 // All functions here are inside the layers: where one has a `requires`, the callers have tested it.
 use address::LogicalAddress;
+use model::SECTOR;
+use tag::CHECKSUM_AT;
+use tag::CRC_AT;
+use tag::CRC_LENGTH_AT;
+use tag::IDENTIFIER_AT;
+use tag::LOCATION_AT;
+use tag::RESERVED_AT;
+use tag::TAG_BYTES;
+use tag::VERSION_AT;
 ghost use mathlib.Core.Path.{_≡_};
 ghost use mathlib.Core.Bool.{true, _||_};
 ghost use mathlib.Core.List.{List};
@@ -12,63 +21,45 @@ ghost use Rattle.model.specs.Disc.{disc as discOf};
 ghost use Rattle.model.specs.Vat.{tagFits, form, fileLength, attributes, allocation, entryFits, extents, allocationFits};
 ghost use Rattle.vat_icb.specs.Extents.{extentFits, extentsFit, pairsFit, embeddedBytes, hasExtent, sizeAt, blockAt};
 
-// Bytes of a sector.
-const SECTOR: usize = 2048;
+// The bytes of a sector, as an extent counts them.
+pub const SECTOR_BYTES: u32 = SECTOR as u32;
 
-const SECTOR_BYTES: u32 = SECTOR as u32;
+// What some fields of its tag must be.
+pub const FILE_ENTRY: u16 = 261;
 
-// The tag of an ICB: its fields, and what each must be.
-const IDENTIFIER_AT: usize = 0;
-
-const VERSION_AT: usize = 2;
-
-const CHECKSUM_AT: usize = 4;
-
-const RESERVED_AT: usize = 5;
-
-const CRC_AT: usize = 8;
-
-const CRC_LENGTH_AT: usize = 10;
-
-const LOCATION_AT: usize = 12;
-
-const TAG_BYTES: usize = 16;
-
-const FILE_ENTRY: u16 = 261;
-
-const VERSION: u16 = 2;
+pub const VERSION: u16 = 2;
 
 const LEAST_CRC_LENGTH: u16 = 160;
 
 const MOST_CRC_LENGTH: u16 = 2032;
 
 // The fields of a File Entry behind its tag, and what some of them must be.
-const STRATEGY_AT: usize = 20;
+pub const STRATEGY_AT: usize = 20;
 
 const FILE_TYPE_AT: usize = 27;
 
-const FORM_AT: usize = 34;
+pub const FORM_AT: usize = 34;
 
-const INFORMATION_LENGTH_AT: usize = 56;
+pub const INFORMATION_LENGTH_AT: usize = 56;
 
-const ATTRIBUTES_AT: usize = 168;
+pub const ATTRIBUTES_AT: usize = 168;
 
-const ALLOCATION_LENGTH_AT: usize = 172;
+pub const ALLOCATION_LENGTH_AT: usize = 172;
 
-const ALLOCATION_AT: usize = 176;
+pub const ALLOCATION_AT: usize = 176;
 
-const STRATEGY: u16 = 4;
+pub const STRATEGY: u16 = 4;
 
 const FORMS: u8 = 8;
 
-const SHORT_ADS: u8 = 0;
+pub const SHORT_ADS: u8 = 0;
 
-const EMBEDDED: u8 = 3;
+pub const EMBEDDED: u8 = 3;
 
 // A short_ad: a length, below a limit where its upper two bits are 0, and a logical block.
-const PAIR: usize = 8;
+pub const PAIR: usize = 8;
 
-const BLOCK_AT: usize = 4;
+pub const BLOCK_AT: usize = 4;
 
 const EXTENT_LIMIT: u32 = 1073741824;
 

@@ -3,6 +3,26 @@
 // All functions here are inside the layers: each requires what its callers have shown, at most 4,096 entries
 // among it.
 use address::LogicalAddress;
+use tag::CHECKSUM_AT;
+use tag::CRC_AT;
+use tag::CRC_LENGTH_AT;
+use tag::IDENTIFIER_AT;
+use tag::LOCATION_AT;
+use tag::TAG_BYTES;
+use tag::VERSION_AT;
+use vat_icb::ALLOCATION_AT;
+use vat_icb::ALLOCATION_LENGTH_AT;
+use vat_icb::ATTRIBUTES_AT;
+use vat_icb::BLOCK_AT;
+use vat_icb::EMBEDDED;
+use vat_icb::FILE_ENTRY;
+use vat_icb::FORM_AT;
+use vat_icb::INFORMATION_LENGTH_AT;
+use vat_icb::PAIR;
+use vat_icb::SHORT_ADS;
+use vat_icb::STRATEGY;
+use vat_icb::STRATEGY_AT;
+use vat_icb::VERSION;
 ghost use mathlib.Core.Path.{_≡_};
 ghost use mathlib.Core.List.{_++_};
 ghost use Prim.Native.Nat.{_≤_};
@@ -10,60 +30,27 @@ ghost use lib.ListN.{length, take, replicate};
 ghost use Rattle.model.specs.VatWritten.{dataSectors, writtenForm, filled, writtenAllocation, writtenIcb};
 ghost use Rattle.vat_icb_written.specs.Parts.{allocationBytes, entryHead, summedTag};
 
-// The tag of a File Entry, and its values as they are written.
-const IDENTIFIER_AT: usize = 0;
-
-const FILE_ENTRY: u16 = 261;
-
-const VERSION_AT: usize = 2;
-
-const VERSION: u16 = 2;
-
-const CHECKSUM_AT: usize = 4;
-
-const CRC_AT: usize = 8;
-
-const CRC_LENGTH_AT: usize = 10;
-
-const LOCATION_AT: usize = 12;
-
-const TAG_BYTES: usize = 16;
-
+// What the CRC starts from.
 const CRC_START: u16 = 0;
 
-// The fields of a File Entry, and their values as they are written.
-const STRATEGY_AT: usize = 20;
-
-const STRATEGY: u16 = 4;
-
+// Fields of a File Entry that are written and not read, and values as they are written.
 const ENTRIES_AT: usize = 24;
 
 const ENTRIES: u16 = 1;
 
-const FORM_AT: usize = 34;
-
-const SHORT_ADS: u16 = 0;
-
-const EMBEDDED: u16 = 3;
-
-const INFORMATION_LENGTH_AT: usize = 56;
-
 const BLOCKS_AT: usize = 64;
-
-const ATTRIBUTES_AT: usize = 168;
 
 const ATTRIBUTES: u32 = 0;
 
-const ALLOCATION_LENGTH_AT: usize = 172;
+// The forms of an allocation, as the two bytes of flags that hold them.
+const EXTENTS: u16 = SHORT_ADS as u16;
 
-const ALLOCATION_AT: usize = 176;
+const WITHIN: u16 = EMBEDDED as u16;
 
 // An extent: its length, and its first logical block.
 const EXTENT_LENGTH_AT: usize = 0;
 
-const EXTENT_BLOCK_AT: usize = 4;
-
-const EXTENT: u32 = 8;
+const EXTENT: u32 = PAIR as u32;
 
 // A number of 4 bytes as one of 8.
 fn wide(x: u32) -> u64
@@ -78,9 +65,9 @@ fn form_of(n: u32) -> u16
     ensures { λ r. ⌜ r ≡ writtenForm n ⌝ }
 {
     if vat_file_written::is_embedded(n) {
-        return EMBEDDED;
+        return WITHIN;
     }
-    SHORT_ADS
+    EXTENTS
 }
 
 // A, the bytes of the allocation of n entries.
@@ -129,7 +116,7 @@ fn write_allocation(rest: &mut [u8], k: LogicalAddress, t: &[u32], n: u32, previ
     fields_written::clear(rest);
     fields_written::write32(rest, EXTENT_LENGTH_AT, vat_file_written::file_bytes(n));
     let block = k.0 - vat_file_written::data_sectors(n);
-    fields_written::write32(rest, EXTENT_BLOCK_AT, block);
+    fields_written::write32(rest, BLOCK_AT, block);
 }
 
 // Writes the tag of a File Entry at logical block k, with this CRC of so many bytes; the checksum last.

@@ -8,6 +8,8 @@ use address::LogicalAddress;
 use address::NONE;
 use address::ToLogical;
 use address::VirtualAddress;
+use model::MOST_ENTRIES;
+use model::VAT_REGID;
 use refusal::Refusal;
 use refusal::Verdict;
 
@@ -18,11 +20,8 @@ const TAIL: usize = 36;
 
 const PREVIOUS: usize = 4;
 
-// The regid behind the entries.
-const REGID: [u8; 32] = *b"\0*UDF Virtual Alloc Tbl\0\0\0\0\0\0\0\0\0";
-
-// The most entries that a VAT may have.
-const MOST_ENTRIES: usize = 4096;
+// The most entries that a VAT may have, as a length.
+const MOST: usize = MOST_ENTRIES as usize;
 
 // The number of entries, or why there is none.
 pub enum Counted {
@@ -49,10 +48,10 @@ fn judge_file(file: &[u8]) -> Verdict
     if tail % ENTRY != 0 {
         return Verdict::Stop(Refusal::NoTable);
     }
-    if !fields::has_regid(file, tail, &REGID) {
+    if !fields::has_regid(file, tail, &VAT_REGID) {
         return Verdict::Stop(Refusal::NoTable);
     }
-    if MOST_ENTRIES < tail / ENTRY {
+    if MOST < tail / ENTRY {
         return Verdict::Stop(Refusal::TooManyEntries);
     }
     Verdict::Go

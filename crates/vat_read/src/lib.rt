@@ -5,6 +5,11 @@
 use address::LogicalAddress;
 use address::NONE;
 use address::PhysicalAddress;
+use model::SECTOR;
+use vat_icb::ALLOCATION_AT;
+use vat_icb::BLOCK_AT;
+use vat_icb::EMBEDDED;
+use vat_icb::PAIR;
 ghost use mathlib.Core.Path.{_≡_};
 ghost use mathlib.Core.Bool.{true};
 ghost use mathlib.Core.List.{List};
@@ -18,19 +23,6 @@ ghost use Rattle.model.specs.Vat.{vatName, countOf, entriesOf, allBelow, form, 
 ghost use Rattle.model.specs.Once.{filledFrom};
 ghost use Rattle.address.specs.Translation.{mostSectors};
 ghost use Rattle.vat_read.specs.File.{Lent, Filed, Together, fileIn, placeOf, leftOf, onDisc};
-
-// Bytes of a sector.
-const SECTOR: usize = 2048;
-
-// Where the attributes of a File Entry start, and the form of a file that is embedded.
-const ALLOCATION_AT: usize = 176;
-
-const EMBEDDED: u8 = 3;
-
-// A short_ad: a length and a logical block.
-const PAIR: usize = 8;
-
-const BLOCK_AT: usize = 4;
 
 // A VAT file: entries, a regid and the previous ICB.
 const ENTRY: u64 = 4;

@@ -4,6 +4,10 @@
 // All functions here are inside the layers: they are called where lines 1 and 2 have been tested, and say in a
 // `requires` what they take from them.
 use address::LogicalAddress;
+use model::RECORDED;
+use model::SECTOR;
+use vat_icb::FILE_ENTRY;
+use vat_icb::SECTOR_BYTES;
 ghost use mathlib.Core.Path.{_≡_};
 ghost use mathlib.Core.Bool.{false};
 ghost use mathlib.Core.List.{List};
@@ -12,17 +16,6 @@ ghost use Rattle.model.specs.Disc.{disc as discOf};
 ghost use Rattle.model.specs.Vat.{vatIcb, scan as scanned};
 ghost use Rattle.vat_read.specs.File.{Lent};
 ghost use Rattle.vat_scan.specs.Scan.{Within, scanOf};
-
-// The bytes of a sector.
-const SECTOR: usize = 2048;
-
-const SECTOR_BYTES: u32 = SECTOR as u32;
-
-// The mark of a recorded sector.
-const RECORDED: u8 = 1;
-
-// The tag identifier of a File Entry.
-const FILE_ENTRY: u16 = 261;
 
 // How many blocks a step of the scan looks at.
 const STEP: u32 = 8;
