@@ -14,6 +14,7 @@ use Rattle.refusal.specs.declared.Refusal.{Refusal}
 use Rattle.refusal.specs.declared.Refusal.the-variants.{DiscShape, SpanOutside, LentLength, Misaligned, OtherKind, StaleRecord}
 use Rattle.refusal.specs.declared.Verdict.{Verdict}
 use Rattle.refusal.specs.declared.Verdict.the-variants.{Go, Stop}
+use Rattle.refusal.proofs.Laws.{stop-go}
 use Rattle.refusal.specs.Tests.{Test, test, first, need, andThen}
 use Rattle.maps.specs.declared.Kind.{Kind}
 use Rattle.maps.specs.declared.Kind.the-variants.{WriteOnce, Rewritable}
@@ -346,10 +347,6 @@ module _ (e : Setting) (d : Disc) (lent : Bool) {r : Examined} (q : r ≡ examin
 
 -- ---- lines 1 to 7 and 11 of the calls on a write-once disc
 
--- a call that is turned down does not go on
-pub stop-goes : (why : Refusal) → Stop why ≡ Go → ⊥
-stop-goes why e = let z : _≡_ {A = ℕ} 0 1 = cc in absurd (omega arith)
-
 -- a verdict and two tests, before others
 own-after : (v : Verdict) (a b : Bool) (x y : Refusal) (own : List Test) → andThen v (first (test a x ∷ test b y ∷ own)) ≡ andThen (andThen v (first (test a x ∷ test b y ∷ []))) (first own)
 unfolding need
@@ -421,6 +418,6 @@ module _ (e : Setting) (d : Disc) (t : List ℕ) (lent : Bool) (held : Record) w
       let stop = ap (λ (y : Examined). y .verdict) q ∙ handed-verdict (Stop _) noVolume in
       record {
         verdict = stop ∙ says;
-        start = λ go. absurd (stop-goes _ (sym stop ∙ go));
-        length = λ go. absurd (stop-goes _ (sym stop ∙ go));
+        start = λ go. stop-go stop go;
+        length = λ go. stop-go stop go;
       }

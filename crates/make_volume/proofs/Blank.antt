@@ -26,7 +26,8 @@ use Rattle.model.proofs.Verdicts.{then-go, examined-tells}
 use Rattle.model.proofs.WrittenVatFile.{embedded-none}
 use Rattle.examine.specs.declared.Examined.{Examined}
 use Rattle.examine.specs.Ground.{examinedOf}
-use Rattle.examine.proofs.Laws.{seen-verdict, seen-tells, seen-volume, seen-once, seen-rewritable, stop-goes}
+use Rattle.examine.proofs.Laws.{seen-verdict, seen-tells, seen-volume, seen-once, seen-rewritable}
+use Rattle.refusal.proofs.Laws.{stop-go}
 use Rattle.make_volume.specs.WriteOnce.{makeOnceVerdict, madeOnce, JudgedBlank}
 
 module _ (e : Setting) (d : Disc) {r : Examined} (q : r ≡ examinedOf e d true) where
@@ -80,7 +81,7 @@ module _ (e : Setting) (d : Disc) {r : Examined} (q : r ≡ examinedOf e d true)
 
 -- a call that is turned down
 pub blank-stopped : (e : Setting) (d : Disc) {y : Examined} {why : Refusal} → y .verdict ≡ Stop why → Stop why ≡ makeOnceVerdict e d → JudgedBlank e d y
-blank-stopped e d stop says = record { verdict = stop ∙ says; start = λ go. absurd (stop-goes _ (sym stop ∙ go)) }
+blank-stopped e d stop says = record { verdict = stop ∙ says; start = λ go. stop-go stop go }
 
 -- an empty VAT is embedded
 pub empty-embedded : dataSectors 0 ≤ 0

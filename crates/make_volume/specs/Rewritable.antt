@@ -12,6 +12,9 @@ use Rattle.model.specs.Sparing.{Geometry, flat, entriesFit, writtenTable}
 use Rattle.model.specs.Examine.{Setting, writeOnce, geometry, examined}
 use Rattle.model.specs.Rewrite.{copiesTo}
 use Rattle.model.specs.Both.{spareEntries, madeBy}
+use Rattle.model.specs.Lent.{Lent}
+use Rattle.sparing_current.specs.declared.Judged.{Judged}
+use Rattle.sparing_current.specs.Looked.{JudgedAs}
 
 -- ---- making: lines 1, 2 and 4 to 7; packets of zeros, a list of spares and tables of sequence 0
 
@@ -34,3 +37,7 @@ madeRewritable e d spares = madeBy (makeRewritableVerdict e d spares) (rewritabl
 -- the same writes from a geometry and a table's sector: the partition's packets of zeros, then a table's sector to each copy
 unfoldable pub makingWrites : Geometry → List ℕ → List Write
 makingWrites g table = upward (g .span) (g .start) (replicate (2048 * g .span) 0) 0 ++ copiesTo (g .tables) table
+
+-- what the call is judged to be, over the lent lists
+abbrev pub JudgesMaking : Lent → List ℕ → Judged → Type 0
+JudgesMaking x spares r = JudgedAs (makeRewritableVerdict (x .setting) (x .disc) spares) (x .setting) (x .disc) r

@@ -26,8 +26,8 @@ ghost use Rattle.model.specs.Writes.{noCut, writes};
 ghost use Rattle.model.specs.VatWritten.{writtenIcb};
 ghost use mathlib.Core.Bool.{true};
 ghost use Rattle.sparing_copy.specs.Layout.{geometryIn, TablesOn};
-ghost use Rattle.make_volume.specs.Rewritable.{makeRewritableVerdict, madeRewritable, makingWrites};
-ghost use Rattle.sparing_current.specs.Looked.{JudgedAs};
+ghost use Rattle.make_volume.specs.Rewritable.{makeRewritableVerdict, madeRewritable, makingWrites, JudgesMaking};
+ghost use Rattle.model.specs.Lent.{lent};
 ghost use Rattle.refusal.specs.declared.Verdict;
 
 // ---- a write-once volume
@@ -129,7 +129,7 @@ fn unmade(why: Refusal, volume: Volume) -> Judged
 
 // Why making is turned down, and else the layout.
 fn judge_make(disc: &[u8], marks: &[u8], maps: &[u8], s: u32, l: u32, spares: &[u32]) -> Judged
-    ensures { λ r. ⌜ JudgedAs (makeRewritableVerdict (setting (now (maps .entry)) s l) (discOf (now (disc .entry)) (now (marks .entry))) (now (spares .entry))) (setting (now (maps .entry)) s l) (discOf (now (disc .entry)) (now (marks .entry))) r ⌝ }
+    ensures { λ r. ⌜ JudgesMaking (lent (now (disc .entry)) (now (marks .entry)) (now (maps .entry)) s l) (now (spares .entry)) r ⌝ }
 {
     let seen = examine::examine(disc, marks, maps, s, l, true);
     let verdict = seen.verdict;

@@ -15,9 +15,9 @@ ghost use Prim.Native.Nat.{_≤_, _+_, _<_, _*_};
 ghost use lib.ListN.{length, take};
 ghost use Rattle.model.specs.Disc.{disc as discOf};
 ghost use Rattle.model.specs.Examine.{setting};
-ghost use Rattle.model.specs.Once.{entriesHeld, nextHeld, roomToCommit, commitWrites, icbBlock, commitPlan};
+ghost use Rattle.model.specs.Once.{entriesHeld, nextHeld, roomToCommit, commitWrites, icbBlock};
 ghost use Rattle.model.specs.Writes.{writes, upward};
-ghost use Rattle.model.specs.Plan.{Meets};
+ghost use Rattle.model.specs.Lent.{lent, Commits};
 ghost use Rattle.model.specs.VatWritten.{dataSectors, writtenData};
 
 // Line 16 of a commit. Inside the layers: line 11 has been tested.
@@ -99,7 +99,8 @@ pub fn commit(
     held: Record,
     cut: Cut,
 ) -> Reply
-    ensures { λ r. ⌜ Meets (commitPlan (setting (now (maps .entry)) s l) (discOf (now (disc .entry)) (now (marks .entry))) (now (table .entry)) held) cut (discOf (now (disc .entry)) (now (marks .entry))) (now (table .entry)) r (discOf (now (disc .exit)) (now (marks .exit))) (now (table .entry)) ⌝ }
+    ensures { λ r. ⌜ Commits (lent (now (disc .entry)) (now (marks .entry)) (now (maps .entry)) s l)
+        (now (table .entry)) held cut r (discOf (now (disc .exit)) (now (marks .exit))) ⌝ }
 {
     let lent = examine::is_lent(table);
     let seen = examine::judge_once(disc, marks, maps, s, l, table, lent, held);

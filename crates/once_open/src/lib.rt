@@ -20,10 +20,9 @@ ghost use Prim.Native.Nat.{_+_, _*_, _≤_, _<_};
 ghost use lib.ListN.{length};
 ghost use Rattle.model.specs.Disc.{disc as discOf};
 ghost use Rattle.model.specs.Examine.{setting};
-ghost use Rattle.model.specs.Once.{entriesHeld, freePlan, perMille};
+ghost use Rattle.model.specs.Once.{entriesHeld, perMille};
 ghost use Rattle.once_open.specs.Calls.{openingOnce, openedOnce, PassedOver, blockOf, readingOnce, readOnceBytes, fullnessOf};
-ghost use Rattle.model.specs.Writes.{noCut};
-ghost use Rattle.model.specs.Plan.{Meets};
+ghost use Rattle.model.specs.Lent.{lent, Frees};
 
 // The entries that a VAT has at most, beside those of one that can exceed any table.
 const MOST_COUNT: u64 = MOST_ENTRIES as u64;
@@ -153,7 +152,8 @@ pub fn free_virtual(
     held: Record,
     v: u32,
 ) -> Reply
-    ensures { λ r. ⌜ Meets (freePlan (setting (now (maps .entry)) s l) (discOf (now (disc .entry)) (now (marks .entry))) (now (table .entry)) held v) noCut (discOf (now (disc .entry)) (now (marks .entry))) (now (table .entry)) r (discOf (now (disc .entry)) (now (marks .entry))) (now (table .exit)) ⌝ }
+    ensures { λ r. ⌜ Frees (lent (now (disc .entry)) (now (marks .entry)) (now (maps .entry)) s l)
+        (now (table .entry)) held v r (now (table .exit)) ⌝ }
 {
     let lent = examine::is_lent(table);
     let seen = examine::judge_once(disc, marks, maps, s, l, table, lent, held);

@@ -17,9 +17,9 @@ ghost use lib.ListN.{length};
 ghost use Rattle.refusal.specs.Tests.{first};
 ghost use Rattle.model.specs.Disc.{disc as discOf};
 ghost use Rattle.model.specs.Examine.{setting};
-ghost use Rattle.model.specs.Once.{entriesHeld, nextHeld, countAfter, roomToSave, saveTests, savePlan};
+ghost use Rattle.model.specs.Once.{entriesHeld, nextHeld, countAfter, roomToSave, saveTests};
 ghost use Rattle.vat_read.specs.File.{Lent};
-ghost use Rattle.model.specs.Plan.{Meets};
+ghost use Rattle.model.specs.Lent.{lent, Saves};
 
 // N after it.
 fn count_after(n: u32, v: VirtualAddress) -> u32
@@ -87,7 +87,9 @@ pub fn save_virtual(
     block: &[u8],
     cut: Cut,
 ) -> Reply
-    ensures { λ r. ⌜ Meets (savePlan (setting (now (maps .entry)) s l) (discOf (now (disc .entry)) (now (marks .entry))) (now (table .entry)) held v (now (block .entry))) cut (discOf (now (disc .entry)) (now (marks .entry))) (now (table .entry)) r (discOf (now (disc .exit)) (now (marks .exit))) (now (table .exit)) ⌝ }
+    ensures { λ r. ⌜ Saves (lent (now (disc .entry)) (now (marks .entry)) (now (maps .entry)) s l)
+        (now (table .entry)) held v (now (block .entry)) cut
+        r (discOf (now (disc .exit)) (now (marks .exit))) (now (table .exit)) ⌝ }
 {
     let lent = examine::are_lent(table, block, SECTOR);
     let seen = examine::judge_once(disc, marks, maps, s, l, table, lent, held);

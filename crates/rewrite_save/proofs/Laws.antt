@@ -19,7 +19,7 @@ use Rattle.sparing_copy.specs.declared.Layout.{Layout}
 use Rattle.sparing_copy.specs.Layout.{geometryIn}
 use Rattle.sparing_current.specs.Held.{entriesLent}
 use Rattle.sparing_current.proofs.Held.{place-lent}
-use Rattle.sparing_current.proofs.Looks.{stop-go}
+use Rattle.refusal.proofs.Laws.{stop-go}
 use Rattle.sparing_current.proofs.Judging.{span-start}
 use Rattle.rewrite_save.specs.declared.Placed.{Placed}
 use Rattle.rewrite_save.specs.Placed.{PlacedAs}

@@ -14,11 +14,8 @@ use refusal::Verdict;
 ghost use mathlib.Core.Path.{_≡_};
 ghost use Rattle.refusal.specs.declared.Verdict;
 ghost use Rattle.model.specs.Disc.{disc as discOf};
-ghost use Rattle.model.specs.Plan.{Meets};
-ghost use Rattle.model.specs.Examine.{setting};
-ghost use Rattle.model.specs.Sparing.{packetOf};
-ghost use Rattle.model.specs.Rewrite.{rewritableVerdict, placeOf, blockLent, saveBlockTests, saveBlockPlan, packetLent, packetTests, savePacketPlan};
-ghost use Rattle.rewrite_save.specs.Placed.{PlacedAs};
+ghost use Rattle.model.specs.Lent.{lent, SavesBlock, SavesPacket};
+ghost use Rattle.rewrite_save.specs.Placed.{JudgesBlock, JudgesPacket};
 
 // What a save is judged to be: a verdict, and where it says Go the first sector of its packet.
 struct Placed {
@@ -50,7 +47,8 @@ fn judge_block(
     b: LogicalAddress,
     block: &[u8],
 ) -> Placed
-    ensures { λ r. ⌜ PlacedAs (rewritableVerdict (setting (now (maps .entry)) s l) (discOf (now (disc .entry)) (now (marks .entry))) (now (table .entry)) (blockLent (now (table .entry)) (now (block .entry))) held (saveBlockTests (setting (now (maps .entry)) s l) (discOf (now (disc .entry)) (now (marks .entry))) (b .0))) (placeOf (setting (now (maps .entry)) s l) (discOf (now (disc .entry)) (now (marks .entry))) (packetOf (b .0))) r ⌝ }
+    ensures { λ r. ⌜ JudgesBlock (lent (now (disc .entry)) (now (marks .entry)) (now (maps .entry)) s l)
+        (now (table .entry)) held (b .0) (now (block .entry)) r ⌝ }
 {
     let lent = examine::are_lent(table, block, SECTOR);
     let judged = sparing_current::judge(disc, marks, maps, s, l, table, lent, held);
@@ -90,7 +88,8 @@ pub fn save_block(
     block: &[u8],
     cut: Cut,
 ) -> Reply
-    ensures { λ r. ⌜ Meets (saveBlockPlan (setting (now (maps .entry)) s l) (discOf (now (disc .entry)) (now (marks .entry))) (now (table .entry)) held b (now (block .entry))) cut (discOf (now (disc .entry)) (now (marks .entry))) (now (table .entry)) r (discOf (now (disc .exit)) (now (marks .exit))) (now (table .entry)) ⌝ }
+    ensures { λ r. ⌜ SavesBlock (lent (now (disc .entry)) (now (marks .entry)) (now (maps .entry)) s l)
+        (now (table .entry)) held b (now (block .entry)) cut r (discOf (now (disc .exit)) (now (marks .exit))) ⌝ }
 {
     let b = LogicalAddress(b);
     let judged = judge_block(disc, marks, maps, s, l, table, held, b, block);
@@ -120,7 +119,8 @@ fn judge_packet(
     b: LogicalAddress,
     packet: &[u8],
 ) -> Placed
-    ensures { λ r. ⌜ PlacedAs (rewritableVerdict (setting (now (maps .entry)) s l) (discOf (now (disc .entry)) (now (marks .entry))) (now (table .entry)) (packetLent (now (table .entry)) (now (packet .entry))) held (packetTests (setting (now (maps .entry)) s l) (b .0))) (placeOf (setting (now (maps .entry)) s l) (discOf (now (disc .entry)) (now (marks .entry))) (b .0)) r ⌝ }
+    ensures { λ r. ⌜ JudgesPacket (lent (now (disc .entry)) (now (marks .entry)) (now (maps .entry)) s l)
+        (now (table .entry)) held (b .0) (now (packet .entry)) r ⌝ }
 {
     let lent = examine::are_lent(table, packet, PACKET_BYTES);
     let judged = sparing_current::judge(disc, marks, maps, s, l, table, lent, held);
@@ -155,7 +155,8 @@ pub fn save_packet(
     packet: &[u8],
     cut: Cut,
 ) -> Reply
-    ensures { λ r. ⌜ Meets (savePacketPlan (setting (now (maps .entry)) s l) (discOf (now (disc .entry)) (now (marks .entry))) (now (table .entry)) held b (now (packet .entry))) cut (discOf (now (disc .entry)) (now (marks .entry))) (now (table .entry)) r (discOf (now (disc .exit)) (now (marks .exit))) (now (table .entry)) ⌝ }
+    ensures { λ r. ⌜ SavesPacket (lent (now (disc .entry)) (now (marks .entry)) (now (maps .entry)) s l)
+        (now (table .entry)) held b (now (packet .entry)) cut r (discOf (now (disc .exit)) (now (marks .exit))) ⌝ }
 {
     let b = LogicalAddress(b);
     let judged = judge_packet(disc, marks, maps, s, l, table, held, b, packet);

@@ -22,13 +22,13 @@ ghost use Rattle.refusal.specs.declared.Verdict;
 ghost use Rattle.refusal.specs.Tests.{first};
 ghost use Rattle.model.specs.Disc.{Disc, disc as discOf};
 ghost use Rattle.model.specs.Writes.{writes};
-ghost use Rattle.model.specs.Plan.{Meets};
+ghost use Rattle.model.specs.Lent.{lent, Spares};
 ghost use Rattle.model.specs.Sparing.{freeOf, counts, firstFree};
-ghost use Rattle.model.specs.Examine.{Setting, setting, geometry};
-ghost use Rattle.model.specs.Rewrite.{entriesOn, sequenceOn, rewritableVerdict, packetLent, noEntry, spareTests, sparePlan};
+ghost use Rattle.model.specs.Examine.{Setting, geometry};
+ghost use Rattle.model.specs.Rewrite.{entriesOn, sequenceOn, noEntry, spareTests};
 ghost use Rattle.sparing_copy.specs.Layout.{geometryIn, TablesOn};
 ghost use Rattle.sparing_current.specs.Held.{countHeld, sequenceHeld, entriesLent};
-ghost use Rattle.rewrite_spare.specs.Parts.{SparingJudgedAs, sparingWrites};
+ghost use Rattle.rewrite_spare.specs.Parts.{JudgesSparing, sparingWrites};
 
 // The most that a sequence can be.
 const LAST: u32 = 0xffffffff;
@@ -63,7 +63,9 @@ fn has_free(table: &[u32], held: Record) -> bool
 // Lines 12 and 17 to 20, of a volume of `count` tables. Inside the layers: line 11 has been tested.
 fn judge_sparing(count: u8, l: u32, table: &[u32], held: Record, b: LogicalAddress) -> Verdict
     requires { ⌜ 2 * countHeld held ≤ length (now table) ⌝ }
-    ensures { λ r. ⌜ ((e : Setting) (d : Disc) → e .span ≡ l → length (geometry e d .tables) ≡ count → entriesOn e d ≡ entriesLent (now (table .entry)) held → sequenceOn e d ≡ sequenceHeld held → r ≡ first (spareTests e d (b .0))) ⌝ }
+    ensures { λ r. ⌜ ((e : Setting) (d : Disc) → e .span ≡ l → length (geometry e d .tables) ≡ count
+        → entriesOn e d ≡ entriesLent (now (table .entry)) held → sequenceOn e d ≡ sequenceHeld held
+        → r ≡ first (spareTests e d (b .0))) ⌝ }
 {
     if b.0 % PACKET != 0 {
         return Verdict::Stop(Refusal::NumberOutside);
@@ -100,7 +102,8 @@ fn judge_spare(
     b: LogicalAddress,
     packet: &[u8],
 ) -> Judged
-    ensures { λ r. ⌜ SparingJudgedAs (rewritableVerdict (setting (now (maps .entry)) s l) (discOf (now (disc .entry)) (now (marks .entry))) (now (table .entry)) (packetLent (now (table .entry)) (now (packet .entry))) held (spareTests (setting (now (maps .entry)) s l) (discOf (now (disc .entry)) (now (marks .entry))) (b .0))) (setting (now (maps .entry)) s l) (discOf (now (disc .entry)) (now (marks .entry))) r ⌝ }
+    ensures { λ r. ⌜ JudgesSparing (lent (now (disc .entry)) (now (marks .entry)) (now (maps .entry)) s l)
+        (now (table .entry)) held (b .0) (now (packet .entry)) r ⌝ }
 {
     let lent = examine::are_lent(table, packet, PACKET_BYTES);
     let judged = sparing_current::judge(disc, marks, maps, s, l, table, lent, held);
@@ -144,7 +147,8 @@ fn write_sparing(
     requires { ⌜ (at .0 < length (now marks)) × (counts (discOf (now disc) (now marks)) (geometryIn x) (at .0) ≡ true) ⌝ }
     requires { ⌜ (first .0 + 32 ≤ length (now marks)) × (length (now disc) ≡ 2048 * length (now marks)) × (length (now marks) ≤ 1048576) ⌝ }
     requires { ⌜ (length (now packet) ≡ 65536) × (length (now sector) ≡ 2048) ⌝ }
-    ensures { λ _. ⌜ discOf (now (disc .exit)) (now (marks .exit)) ≡ writes 1 cut (sparingWrites (discOf (now (disc .entry)) (now (marks .entry))) (geometryIn x) sequence (first .0) (now (packet .entry)) (now (sector .entry))) (discOf (now (disc .entry)) (now (marks .entry))) ⌝ }
+    ensures { λ _. ⌜ discOf (now (disc .exit)) (now (marks .exit))
+        ≡ writes 1 cut (sparingWrites (discOf (now (disc .entry)) (now (marks .entry))) (geometryIn x) sequence (first .0) (now (packet .entry)) (now (sector .entry))) (discOf (now (disc .entry)) (now (marks .entry))) ⌝ }
 {
     let places = sparing_writes::copy_order(disc, marks, x, sequence, at);
     disc_writes::write_upward(disc, marks, first, PACKET, packet, 1, cut);
@@ -172,7 +176,9 @@ pub fn spare_packet(
     packet: &[u8],
     cut: Cut,
 ) -> Reply
-    ensures { λ r. ⌜ Meets (sparePlan (setting (now (maps .entry)) s l) (discOf (now (disc .entry)) (now (marks .entry))) (now (table .entry)) held b (now (packet .entry))) cut (discOf (now (disc .entry)) (now (marks .entry))) (now (table .entry)) r (discOf (now (disc .exit)) (now (marks .exit))) (now (table .exit)) ⌝ }
+    ensures { λ r. ⌜ Spares (lent (now (disc .entry)) (now (marks .entry)) (now (maps .entry)) s l)
+        (now (table .entry)) held b (now (packet .entry)) cut
+        r (discOf (now (disc .exit)) (now (marks .exit))) (now (table .exit)) ⌝ }
 {
     let b = LogicalAddress(b);
     let judged = judge_spare(disc, marks, maps, s, l, table, held, b, packet);

@@ -10,7 +10,7 @@ use lib.ListN.{length, getD, take, drop}
 use Rattle.refusal.specs.declared.Refusal.{Refusal}
 use Rattle.refusal.specs.declared.Refusal.the-variants.{NoTable, CopiesDiffer}
 use Rattle.refusal.specs.declared.Verdict.the-variants.{Go, Stop}
-use Rattle.refusal.proofs.Laws.{goes, stops}
+use Rattle.refusal.proofs.Laws.{goes, stops, stop-go}
 use Rattle.fields.specs.Bytes.{part, same}
 use Rattle.fields.specs.Number.{field, words}
 use Rattle.fields.proofs.Laws.{AllBytes, part-part, field-part, regid-same, same-equal, same-false, same-false-of-length}
@@ -314,15 +314,12 @@ module _ (d : Disc) (g : Geometry) (n : Newest) (is : n ≡ newestOf d g (g .tab
   turned-down r why e q =
       record {
         verdict = e ∙ q;
-        place = λ k. absurd (never k);
-        counted = λ k. absurd (never k);
-        table = λ k. absurd (never k);
-        sequence = λ k. absurd (never k);
-        count = λ k. absurd (never k);
+        place = λ k. stop-go e k;
+        counted = λ k. stop-go e k;
+        table = λ k. stop-go e k;
+        sequence = λ k. stop-go e k;
+        count = λ k. stop-go e k;
       }
-    where
-      never : r .verdict ≡ Go → ⊥
-      never k = let z : _≡_ {A = ℕ} 0 1 = cc in omega arith
 
   -- no copy counts
   pub none-found : (r : Current) → r .verdict ≡ Stop NoTable → n .found ≡ false → FoundCurrent d g r

@@ -13,7 +13,7 @@ use Rattle.model.proofs.Ground.{Ground}
 use Rattle.sparing_copy.specs.declared.Layout.{Layout}
 use Rattle.sparing_copy.specs.Layout.{geometryIn, TablesOn}
 use Rattle.sparing_copy.proofs.Laws.{tables-on}
-use Rattle.sparing_current.proofs.Looks.{stop-go}
+use Rattle.refusal.proofs.Laws.{stop-go}
 use Rattle.sparing_current.specs.declared.Judged.{Judged}
 use Rattle.sparing_current.specs.Looked.{JudgedAs}
 

@@ -9,6 +9,7 @@ use Rattle.refusal.specs.declared.Refusal.{Refusal}
 use Rattle.refusal.specs.declared.Refusal.the-variants.{OtherKind, StaleRecord}
 use Rattle.refusal.specs.declared.Verdict.{Verdict}
 use Rattle.refusal.specs.declared.Verdict.the-variants.{Go, Stop}
+use Rattle.refusal.proofs.Laws.{stop-go}
 use Rattle.refusal.specs.Tests.{test, first, andThen}
 use Rattle.maps.specs.declared.Kind.the-variants.{WriteOnce, Rewritable}
 use Rattle.maps.specs.declared.Volume.{Volume}
@@ -34,10 +35,6 @@ use Rattle.sparing_current.specs.declared.Looked.{Looked}
 use Rattle.sparing_current.specs.declared.Judged.{Judged}
 use Rattle.sparing_current.specs.Looked.{lookVerdict, Sees, Judges}
 use Rattle.sparing_current.proofs.Laws.{Whole, whole, look-held}
-
--- a verdict that stops does not let go on
-pub stop-go : {A : Type 0} {v : Verdict} {why : Refusal} → v ≡ Stop why → v ≡ Go → A
-stop-go e f = let z : _≡_ {A = ℕ} 0 1 = cc in absurd (omega arith)
 
 -- ---- looking
 

@@ -121,7 +121,11 @@ fn is_current(
     requires { ⌜ (2048 * at .0 + 2048 ≤ length (now disc)) × (at .0 < 1048576) ⌝ }
     requires { ⌜ ((marks : List ℕ) → entries ≡ countIn (sector (discOf (now disc) marks) (at .0))) ⌝ }
     requires { ⌜ (56 + 8 * entries ≤ 2048) × (2 * entries ≤ length (now table)) ⌝ }
-    ensures { λ r. ⌜ ((e : Setting) (marks : List ℕ) → tableAt (discOf (now (disc .entry)) marks) (at .0) ≡ tableOn e (discOf (now (disc .entry)) marks) → sequence ≡ sequenceOn e (discOf (now (disc .entry)) marks) → entries ≡ countOn e (discOf (now (disc .entry)) marks) → r ≡ heldCurrent e (discOf (now (disc .entry)) marks) (now (table .entry)) held) ⌝ }
+    ensures { λ r. ⌜ ((e : Setting) (marks : List ℕ)
+        → tableAt (discOf (now (disc .entry)) marks) (at .0) ≡ tableOn e (discOf (now (disc .entry)) marks)
+        → sequence ≡ sequenceOn e (discOf (now (disc .entry)) marks)
+        → entries ≡ countOn e (discOf (now (disc .entry)) marks)
+        → r ≡ heldCurrent e (discOf (now (disc .entry)) marks) (now (table .entry)) held) ⌝ }
 {
     match held {
         Record::WriteOnce {

@@ -42,7 +42,8 @@ fn write_picked(
     requires { ⌜ at .0 < length (now marks) ⌝ }
     requires { ⌜ length (now disc) ≡ 2048 * length (now marks) ⌝ }
     requires { ⌜ length (now block) ≡ 2048 ⌝ }
-    ensures { λ _. ⌜ discOf (now (disc .exit)) (now (marks .exit)) ≡ write number cut (at .0) (cond (eqb (at .0) (place .0)) (now (block .entry)) (sector (discOf (now (disc .entry)) (now (marks .entry))) (at .0))) (discOf (now (disc .entry)) (now (marks .entry))) ⌝ }
+    ensures { λ _. ⌜ discOf (now (disc .exit)) (now (marks .exit))
+        ≡ write number cut (at .0) (cond (eqb (at .0) (place .0)) (now (block .entry)) (sector (discOf (now (disc .entry)) (now (marks .entry))) (at .0))) (discOf (now (disc .entry)) (now (marks .entry))) ⌝ }
 {
     if at.0 == place.0 {
         disc_writes::write_sector(disc, marks, at, block, number, cut);
@@ -64,7 +65,8 @@ pub fn write_block(
     requires { ⌜ (first .0 + 32 ≤ length (now marks)) × (i < 32) × (length (now marks) ≤ 1048576) ⌝ }
     requires { ⌜ length (now disc) ≡ 2048 * length (now marks) ⌝ }
     requires { ⌜ length (now block) ≡ 2048 ⌝ }
-    ensures { λ _. ⌜ discOf (now (disc .exit)) (now (marks .exit)) ≡ writes 1 cut (packetWrites (first .0) (replaced (discOf (now (disc .entry)) (now (marks .entry))) (first .0) i (now (block .entry)))) (discOf (now (disc .entry)) (now (marks .entry))) ⌝ }
+    ensures { λ _. ⌜ discOf (now (disc .exit)) (now (marks .exit))
+        ≡ writes 1 cut (packetWrites (first .0) (replaced (discOf (now (disc .entry)) (now (marks .entry))) (first .0) i (now (block .entry)))) (discOf (now (disc .entry)) (now (marks .entry))) ⌝ }
 {
     let place = address::up_from(first, i);
     let mut k: u32 = 0;

@@ -2,7 +2,7 @@
 use Prim.Native.Nat.{ℕ, _+_, _-_, _*_, _/_, _%_, _≤_, _<_}
 use mathlib.Core.Path.{_≡_, refl, sym, ap, _∙_}
 use mathlib.Core.Bool.{Bool, true, false}
-use mathlib.Core.List.{List}
+use mathlib.Core.List.{List, _++_}
 use native.Mathlib.Omega.{arith}
 use lib.Dec.{eqb}
 use lib.ListN.{length, getD}
@@ -14,10 +14,12 @@ use Rattle.refusal.specs.declared.Refusal.{Refusal}
 use Rattle.refusal.specs.declared.Refusal.the-variants.{NoTable, TooManyEntries}
 use Rattle.refusal.specs.declared.Verdict.{Verdict}
 use Rattle.refusal.specs.declared.Verdict.the-variants.{Go, Stop}
+use Rattle.refusal.specs.Number.{verdictNumber}
 use Rattle.refusal.specs.Tests.{first}
 use Rattle.refusal.proofs.Laws.{goes, stops, passed, stops-all, goes-all}
 use Rattle.address.specs.declared.VirtualAddress.{VirtualAddress}
 use Rattle.address.specs.declared.ToLogical.{ToLogical}
+use Rattle.address.specs.Told.{logicalNumber}
 use Rattle.address.specs.Translation.{unlessLogical, entryTests, entryOf, logicalOf}
 use Rattle.maps.proofs.Tests.{both, fails, holds}
 use Rattle.model.specs.Disc.{Disc, sector, recorded}
@@ -28,7 +30,7 @@ use Rattle.model.proofs.OnceOpen.{length-entries}
 use Rattle.model.proofs.WrittenVatFile.{file-fits, file-count, file-entries}
 use Rattle.vat_look_up.specs.declared.Counted.{Counted}
 use Rattle.vat_look_up.specs.declared.ToPrevious.{ToPrevious}
-use Rattle.vat_look_up.specs.File.{fileTests, lookedUp, unlessCounted, counted, blockOrNone, unlessPrevious, previousIn}
+use Rattle.vat_look_up.specs.File.{fileTests, lookedUp, unlessCounted, counted, blockOrNone, unlessPrevious, previousIn, countedNumber, previousNumber}
 
 -- ---- the tests of a file
 
@@ -159,3 +161,37 @@ unfolding vatIcb tableFits vatFile
 looked-in-found d s k v here few =
     let p = passed-icb d s k (sector d (s + k)) (both (recorded d (s + k)) _ here .1) in
     sym (looked (vatFile d s k) v (passes (vatFile d s k) (both (fileFits (vatFile d s k)) _ (p .table) .0) few))
+
+-- ---- what a caller is told: the number of the first line that applies
+
+module _ (f : List ℕ) where
+  -- of a look-up
+  pub look-up-number : (v : VirtualAddress) → logicalNumber (lookedUp f v) ≡ verdictNumber (first (fileTests f ++ entryTests (length (entriesOf f)) (entriesOf f) v))
+  unfolding lookedUp
+  look-up-number v = by-logical (first (fileTests f ++ entryTests (length (entriesOf f)) (entriesOf f) v))
+    where
+      by-logical : (x : Verdict) → logicalNumber (unlessLogical x (entryOf (entriesOf f) v)) ≡ verdictNumber x
+      by-logical Go = refl
+      by-logical (Stop why) = refl
+
+  -- of the number of entries
+  pub count-number : countedNumber (counted f) ≡ verdictNumber (first (fileTests f))
+  unfolding counted
+  count-number = by-count (first (fileTests f))
+    where
+      by-count : (x : Verdict) → countedNumber (unlessCounted x (countOf f)) ≡ verdictNumber x
+      by-count Go = refl
+      by-count (Stop why) = refl
+
+  -- of the previous ICB, none included
+  pub previous-number : previousNumber (previousIn f) ≡ verdictNumber (first (fileTests f))
+  unfolding previousIn
+  previous-number = by-previous (first (fileTests f))
+    where
+      by-block : (b : Bool) (k : ℕ) → previousNumber (blockOrNone b k) ≡ 0
+      by-block true k = refl
+      by-block false k = refl
+
+      by-previous : (x : Verdict) → previousNumber (unlessPrevious x (previousOf f)) ≡ verdictNumber x
+      by-previous Go = by-block (eqb (previousOf f) none) (previousOf f)
+      by-previous (Stop why) = refl

@@ -5,7 +5,7 @@ use Rattle.model.specs.Disc.{Disc, disc}
 use Rattle.model.specs.Examine.{Setting, setting}
 use Rattle.model.specs.Rewrite.{packetLent}
 use Rattle.sparing_current.proofs.Laws.{Common, going}
-use Rattle.sparing_current.proofs.Looks.{stop-go}
+use Rattle.refusal.proofs.Laws.{stop-go}
 use Rattle.sparing_current.proofs.Held.{sequence-held, room-held, entries-lent}
 use Rattle.sparing_current.proofs.Judging.{span-length, judged-stop}
 use Rattle.rewrite_save.proofs.Laws.{stops-call, goes-call}

@@ -52,9 +52,9 @@ use Rattle.address.proofs.ToLogical as S
 use Rattle.address.proofs.ToLogical.Laws as S′
 use Rattle.vat_look_up.proofs.look_up as called
 use Rattle.vat_look_up.proofs.look_up.Symbol as called-def
-use Rattle.vat_look_up.proofs.look_up.Symbol.{name as #vat-file·called}
+use Rattle.vat_look_up.proofs.look_up.Symbol.{name as #vat-look-up·called}
 use Rattle.vat_look_up.proofs.look_up.Met as called-thm
-use Rattle.vat_look_up.proofs.VatFile.look_up.Key.{name as #vat-file·look-up}
+use Rattle.vat_look_up.proofs.VatFile.look_up.Key.{name as #vat-look-up·look-up}
 use Rattle.vat_look_up.proofs.VatFile.look_up as look-up
 use Rattle.vat_look_up.proofs.VatFile.look_up.Statement as stated
 use Rattle.vat_look_up.proofs.VatFile.look_up.Code as code
@@ -130,7 +130,7 @@ module _ {M : Type 1} (𝓤 : URA M) (H : Heap 𝓤) (A : Atoms 𝓤) (W : Given
       suffices ! _ (ends-at 𝓤 H A look-up.ended stayed (look-up.clauses 𝓤 H A mem run) W (((κ, tt), (q, tt), tt, (d, (v, tt)), (mach ∷ [], (mach-v ∷ [], tt))), tt) u r (tt, (tt, tt)) (tt, (tt, tt))) $ says ! e $
       move ! (1 ∷ []) $ frame ! $ nothing ! $ move ! (3 ∷ 0 ∷ []) $ fjoin ! $ move ! (2 ∷ 0 ∷ []) $ fjoin ! $ frame ! $ done !
 
-  module _ (C : Calls 𝓤 H) (Λ : Loops 𝓤 H) (fm : FmC 𝓤 H (W .laws) C) (known : Triple 𝓤 (C #vat-file·called) (LookUp 𝓤 H A mem run)) where
+  module _ (C : Calls 𝓤 H) (Λ : Loops 𝓤 H) (fm : FmC 𝓤 H (W .laws) C) (known : Triple 𝓤 (C #vat-look-up·called) (LookUp 𝓤 H A mem run)) where
     walk : Holds (hasTy (T′.mir (named 0)) mach) × WT mach → Holds (hasTy VA′.mir mach-v) × WT mach-v
         → ent 𝓤 (onEntry 𝓤 H A look-up.signature (κ, tt) (q, tt) (d, (v, tt)) (mach ∷ [], (mach-v ∷ [], tt))) (WpFn 𝓤 H C Λ code.function (mach ∷ mach-v ∷ []) Post)
     walk wt wv =
@@ -149,7 +149,7 @@ module _ {M : Type 1} (𝓤 : URA M) (H : Heap 𝓤) (A : Atoms 𝓤) (W : Given
         move ! (10 ∷ 11 ∷ []) $ free1 ! $ move ! (8 ∷ 9 ∷ []) $ free1 ! $ move ! (6 ∷ 7 ∷ []) $ free1 ! $ move ! (4 ∷ 5 ∷ []) $ free1 ! $ free0 ! $ by ! (exits r u e)))))))))
 
 module _ {M : Type 1} (𝓤 : URA M) (H : Heap 𝓤) (A : Atoms 𝓤) (W : Given 𝓤 H A) (mem : Memory → SProp 𝓤) (run : Routine → Fun 𝓤) where
-  look-up-walks : (C : Calls 𝓤 H) (Λ : Loops 𝓤 H) → FmC 𝓤 H (W .laws) C → Triple 𝓤 (C #vat-file·called) (LookUp 𝓤 H A mem run)
+  look-up-walks : (C : Calls 𝓤 H) (Λ : Loops 𝓤 H) → FmC 𝓤 H (W .laws) C → Triple 𝓤 (C #vat-look-up·called) (LookUp 𝓤 H A mem run)
       → Walks 𝓤 H A look-up.ended stayed (WpFn 𝓤 H C Λ code.function) (look-up.clauses 𝓤 H A mem run)
   look-up-walks C Λ fm known = walked 𝓤 H A look-up.ended stayed (look-up.clauses 𝓤 H A mem run) (WpFn 𝓤 H C Λ code.function) (λ κs. (LL.vals (T.the-type (namedLft 1 0 tt κs)) (T′.the-laws (namedLft 1 0 tt κs)), (LL.vals VA.the-type VA′.the-laws, tt))) (λ κs. (LL.tells (T.the-type (namedLft 1 0 tt κs)) (T′.the-laws (namedLft 1 0 tt κs)), (LL.tells VA.the-type VA′.the-laws, tt)))
       (λ κs qs bounds a g are. via 𝓤 _ (fst∗ 𝓤 _ (emp 𝓤)) (walk 𝓤 H A W mem run (κs .0) (qs .0) (a .0) (a .1 .0) C Λ fm known
@@ -157,7 +157,7 @@ module _ {M : Type 1} (𝓤 : URA M) (H : Heap 𝓤) (A : Atoms 𝓤) (W : Given
       (LL.lawful VA.the-type VA′.the-laws 𝓤 H A W .typed (a .1 .0) _ (are .1 .0) .0)))
 
 look-up-meets : {M : Type 1} (𝓤 : URA M) (H : Heap 𝓤) (A : Atoms 𝓤) (W : Given 𝓤 H A) (mem : Memory → SProp 𝓤) (run : Routine → Fun 𝓤) (𝓣 : Tables 𝓤 H)
-    → Triple 𝓤 (𝓣 .C #vat-file·called) (LookUp 𝓤 H A mem run)
+    → Triple 𝓤 (𝓣 .C #vat-look-up·called) (LookUp 𝓤 H A mem run)
     → Meets 𝓤 H A look-up.signature (WpFn 𝓤 H (𝓣 .C) (𝓣 .Λ) code.function) (look-up.spec 𝓤 H A mem run)
 look-up-meets 𝓤 H A W mem run 𝓣 known = walk-meets 𝓤 H A look-up.ended stayed W (goes-none 𝓤 H A W 1 B yes (λ κs x f. refl), (goes-none 𝓤 H A W 1 (λ _. VA.the-row) yes (λ κs x f. refl), tt)) (look-up.clauses 𝓤 H A mem run) (WpFn 𝓤 H (𝓣 .C) (𝓣 .Λ) code.function) (WpFn-mono 𝓤 H (W .laws) 𝓣 code.function)
     (look-up-walks 𝓤 H A W mem run (𝓣 .C) (𝓣 .Λ) (fmOf 𝓤 H (W .laws) 𝓣) known)
@@ -166,6 +166,6 @@ pub look-up-spec : {M : Type 1} → stated.statement M
 unfolding code.routine tablesOf
 look-up-spec 𝓤 H 𝓜 𝓖 𝓡 =
     entered 𝓤 H (tripleOf 𝓤 H (𝓖 .A) look-up.signature (look-up.spec 𝓤 H (𝓖 .A) (𝓜 .mem) (𝓡 .run)))
-    (tables 𝓤 H 𝓜 𝓡 code.env .C) (tables 𝓤 H 𝓜 𝓡 code.env .Λ) #vat-file·look-up code.function (code.unfolded 𝓤 H 𝓜 𝓡)
+    (tables 𝓤 H 𝓜 𝓡 code.env .C) (tables 𝓤 H 𝓜 𝓡 code.env .Λ) #vat-look-up·look-up code.function (code.unfolded 𝓤 H 𝓜 𝓡)
     (look-up-meets 𝓤 H (𝓖 .A) (givenOf 𝓤 H 𝓜 𝓖) (𝓜 .mem) (𝓡 .run) (tablesOf 𝓤 H 𝓜 (tables 𝓤 H 𝓜 𝓡 code.env))
-    (cited 𝓤 H (LookUp 𝓤 H (𝓖 .A) (𝓜 .mem) (𝓡 .run)) 𝓜 𝓡 code.env #vat-file·called called-def.routine code.calls-vat-file·look-up (called-thm.met 𝓤 H 𝓜 𝓖 𝓡)))
+    (cited 𝓤 H (LookUp 𝓤 H (𝓖 .A) (𝓜 .mem) (𝓡 .run)) 𝓜 𝓡 code.env #vat-look-up·called called-def.routine code.calls-vat-look-up·look-up (called-thm.met 𝓤 H 𝓜 𝓖 𝓡)))

@@ -36,7 +36,7 @@ use denote.Exit.{yes}
 use Rattle.vat_look_up.specs.declared.VatFile.{VatFile}
 use Rattle.vat_look_up.proofs.VatFile as T
 use Rattle.vat_look_up.proofs.VatFile.Laws as T′
-use Rattle.vat_look_up.proofs.VatFile.new.Key.{name as #vat-file·new}
+use Rattle.vat_look_up.proofs.VatFile.new.Key.{name as #vat-look-up·new}
 use Rattle.vat_look_up.proofs.VatFile.new as new
 use Rattle.vat_look_up.proofs.VatFile.new.Statement as stated
 use Rattle.vat_look_up.proofs.VatFile.new.Code as code
@@ -93,5 +93,5 @@ pub new-spec : {M : Type 1} → stated.statement M
 unfolding code.routine tablesOf
 new-spec 𝓤 H 𝓜 𝓖 𝓡 =
     entered 𝓤 H (tripleOf 𝓤 H (𝓖 .A) new.signature (new.spec 𝓤 H (𝓖 .A) (𝓜 .mem) (𝓡 .run)))
-    (tables 𝓤 H 𝓜 𝓡 code.env .C) (tables 𝓤 H 𝓜 𝓡 code.env .Λ) #vat-file·new code.function (code.unfolded 𝓤 H 𝓜 𝓡)
+    (tables 𝓤 H 𝓜 𝓡 code.env .C) (tables 𝓤 H 𝓜 𝓡 code.env .Λ) #vat-look-up·new code.function (code.unfolded 𝓤 H 𝓜 𝓡)
     (new-meets 𝓤 H (𝓖 .A) (givenOf 𝓤 H 𝓜 𝓖) (𝓜 .mem) (𝓡 .run) (tablesOf 𝓤 H 𝓜 (tables 𝓤 H 𝓜 𝓡 code.env)))
