@@ -20,7 +20,7 @@ use Rattle.once_open.specs.declared.Measured.{Measured}
 use Rattle.once_open.specs.Calls.{fullnessOf, measuredNumber}
 use Rattle.model.specs.Told.{replyNumber, openedNumber, givenNumber}
 use Rattle.call_numbers.specs.Numbers.{recordOf, recordAfter, recordOpened, lengthRefusal}
-use Rattle.capi.specs.Calls.{lentPlan, Seen, lentOpening, lentOpenedTable, lentReading, lentReadBytes, lentFullness, measuredAfter}
+use Rattle.capi.specs.Calls.{lentPlan, SeenWrite, lentOpening, lentOpenedTable, lentReading, lentReadBytes, lentFullness, measuredAfter}
 
 -- one number, set
 pub one-set : (l : List ℕ) (x : ℕ) → length l ≡ 1 → set l 0 x ≡ x ∷ []
@@ -42,12 +42,12 @@ module _ (e : Setting) (d : Disc) (k : List ℕ) (p : Plan) where
   plan-five h = let a = eq-eqb (length k) 5 h in rw a
 
   -- what is seen of a call that is lent a record of another length
-  pub seen-short : (c : Cut) (t : List ℕ) {n : ℕ} → (length k ≡ 5 → ⊥) → n ≡ numberOf (lengthRefusal e d) → Seen (lentPlan e d k p) c d t k n d t k
+  pub seen-short : (c : Cut) (t : List ℕ) {n : ℕ} → (length k ≡ 5 → ⊥) → n ≡ numberOf (lengthRefusal e d) → SeenWrite (lentPlan e d k p) c d t k n d t k
   unfolding replyOf discAfter tableAfter
   seen-short c t h q = let s = plan-short h in rw s (record { number = q; disc = refl; table = refl; kept = refl })
 
   -- what is seen of a call that meets its plan
-  pub seen-met : {c b : Cut} {t : List ℕ} {q : Plan} {r : Reply} {d′ : Disc} {t′ k′ : List ℕ} {n : ℕ} → length k ≡ 5 → q ≡ p → b ≡ c → Meets q b d t r d′ t′ → k′ ≡ recordAfter r k → n ≡ replyNumber r → Seen (lentPlan e d k p) c d t k n d′ t′ k′
+  pub seen-met : {c b : Cut} {t : List ℕ} {q : Plan} {r : Reply} {d′ : Disc} {t′ k′ : List ℕ} {n : ℕ} → length k ≡ 5 → q ≡ p → b ≡ c → Meets q b d t r d′ t′ → k′ ≡ recordAfter r k → n ≡ replyNumber r → SeenWrite (lentPlan e d k p) c d t k n d′ t′ k′
   seen-met h qp bc m hk hn =
       let s = plan-five h in
       rw (s, ← qp, ← bc)

@@ -34,7 +34,7 @@ unfoldable pub lentPlan : Setting → Disc → List ℕ → Plan → Plan
 lentPlan e d k p = cond (isRecord k) p (refuse (lengthRefusal e d))
 
 -- what C sees, the number n, the disc d, the table t and the record k, are those of the plan p under the cut c, from d₀, t₀ and k₀
-pub record Seen (p : Plan) (c : Cut) (d₀ : Disc) (t₀ k₀ : List ℕ) (n : ℕ) (d : Disc) (t k : List ℕ) : Type 0 where
+pub record SeenWrite (p : Plan) (c : Cut) (d₀ : Disc) (t₀ k₀ : List ℕ) (n : ℕ) (d : Disc) (t k : List ℕ) : Type 0 where
   pub number : n ≡ replyNumber (replyOf p c)
   pub disc : d ≡ discAfter p c d₀
   pub table : t ≡ tableAfter p c t₀
@@ -45,32 +45,32 @@ pub record Seen (p : Plan) (c : Cut) (d₀ : Disc) (t₀ k₀ : List ℕ) (n : �
 -- saving the block as virtual block v
 abbrev pub SeenSave : Lent → List ℕ → List ℕ → ℕ → List ℕ → Cut → ℕ → Disc → List ℕ → List ℕ → Type 0
 SeenSave x t k v block c n d t′ k′ =
-    Seen (lentPlan (x .setting) (x .disc) k (savePlan (x .setting) (x .disc) t (recordOf k) v block)) c (x .disc) t k n d t′ k′
+    SeenWrite (lentPlan (x .setting) (x .disc) k (savePlan (x .setting) (x .disc) t (recordOf k) v block)) c (x .disc) t k n d t′ k′
 
 -- freeing virtual block v, which leaves the disc as it came
 abbrev pub SeenFree : Lent → List ℕ → List ℕ → ℕ → ℕ → List ℕ → List ℕ → Type 0
 SeenFree x t k v n t′ k′ =
-    Seen (lentPlan (x .setting) (x .disc) k (freePlan (x .setting) (x .disc) t (recordOf k) v)) noCut (x .disc) t k n (x .disc) t′ k′
+    SeenWrite (lentPlan (x .setting) (x .disc) k (freePlan (x .setting) (x .disc) t (recordOf k) v)) noCut (x .disc) t k n (x .disc) t′ k′
 
 -- committing, which leaves the table as it came
 abbrev pub SeenCommit : Lent → List ℕ → List ℕ → Cut → ℕ → Disc → List ℕ → Type 0
 SeenCommit x t k c n d k′ =
-    Seen (lentPlan (x .setting) (x .disc) k (commitPlan (x .setting) (x .disc) t (recordOf k))) c (x .disc) t k n d t k′
+    SeenWrite (lentPlan (x .setting) (x .disc) k (commitPlan (x .setting) (x .disc) t (recordOf k))) c (x .disc) t k n d t k′
 
 -- saving the block as block b, which leaves the table as it came
 abbrev pub SeenSaveBlock : Lent → List ℕ → List ℕ → ℕ → List ℕ → Cut → ℕ → Disc → List ℕ → Type 0
 SeenSaveBlock x t k b block c n d k′ =
-    Seen (lentPlan (x .setting) (x .disc) k (saveBlockPlan (x .setting) (x .disc) t (recordOf k) b block)) c (x .disc) t k n d t k′
+    SeenWrite (lentPlan (x .setting) (x .disc) k (saveBlockPlan (x .setting) (x .disc) t (recordOf k) b block)) c (x .disc) t k n d t k′
 
 -- saving the packet that begins at block b, which leaves the table as it came
 abbrev pub SeenSavePacket : Lent → List ℕ → List ℕ → ℕ → List ℕ → Cut → ℕ → Disc → List ℕ → Type 0
 SeenSavePacket x t k b packet c n d k′ =
-    Seen (lentPlan (x .setting) (x .disc) k (savePacketPlan (x .setting) (x .disc) t (recordOf k) b packet)) c (x .disc) t k n d t k′
+    SeenWrite (lentPlan (x .setting) (x .disc) k (savePacketPlan (x .setting) (x .disc) t (recordOf k) b packet)) c (x .disc) t k n d t k′
 
 -- sparing the packet that begins at block b
 abbrev pub SeenSpare : Lent → List ℕ → List ℕ → ℕ → List ℕ → Cut → ℕ → Disc → List ℕ → List ℕ → Type 0
 SeenSpare x t k b packet c n d t′ k′ =
-    Seen (lentPlan (x .setting) (x .disc) k (sparePlan (x .setting) (x .disc) t (recordOf k) b packet)) c (x .disc) t k n d t′ k′
+    SeenWrite (lentPlan (x .setting) (x .disc) k (sparePlan (x .setting) (x .disc) t (recordOf k) b packet)) c (x .disc) t k n d t′ k′
 
 -- ---- opening
 

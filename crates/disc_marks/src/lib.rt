@@ -16,7 +16,7 @@ ghost use Prim.Native.Nat.{ℕ, _+_, _*_, _≤_, _<_, max};
 ghost use lib.ListN.{length};
 ghost use lib.Dec.{eqb};
 ghost use Rattle.model.specs.Disc.{disc as discOf, recorded, recordedRun, nwa, shapely, inside};
-ghost use Rattle.disc_marks.specs.Marks.{highest};
+ghost use Rattle.disc_marks.specs.Marks.{highestOf};
 
 // How many sectors a disc may have, as a length.
 const MOST: usize = MOST_SECTORS as usize;
@@ -33,9 +33,9 @@ const LONG_STEP: u32 = 4096;
 
 const SHORT_STEP: u32 = 128;
 
-// The highest of few marks, `least` if none is above it. It looks at each, with no early way out.
+// The highestOf of few marks, `least` if none is above it. It looks at each, with no early way out.
 fn highest_few(marks: &[u8], least: u8) -> u8
-    ensures { λ r. ⌜ r ≡ max least (highest (now (marks .entry))) ⌝ }
+    ensures { λ r. ⌜ r ≡ max least (highestOf (now (marks .entry))) ⌝ }
 {
     let mut top = least;
     let mut i: usize = 0;
@@ -52,7 +52,7 @@ fn highest_few(marks: &[u8], least: u8) -> u8
 // Raises each of a turn's marks to the one in the same place, where that is higher.
 fn raise(tops: &mut [u8], marks: &[u8])
     requires { ⌜ (length (now tops) ≡ 64) × (length (now marks) ≡ 64) ⌝ }
-    ensures { λ _. ⌜ highest (now (tops .exit)) ≡ max (highest (now (tops .entry))) (highest (now (marks .entry))) ⌝ }
+    ensures { λ _. ⌜ highestOf (now (tops .exit)) ≡ max (highestOf (now (tops .entry))) (highestOf (now (marks .entry))) ⌝ }
 {
     let mut i: usize = 0;
     while i < TURN {
@@ -64,10 +64,10 @@ fn raise(tops: &mut [u8], marks: &[u8])
     }
 }
 
-// The highest of many marks, 0 of none. A turn looks at as many as a line of the processor's cache has bytes, each
-// beside the highest that were in its place.
+// The highestOf of many marks, 0 of none. A turn looks at as many as a line of the processor's cache has bytes, each
+// beside the highestOf that were in its place.
 fn highest_many(marks: &[u8]) -> u8
-    ensures { λ r. ⌜ r ≡ highest (now (marks .entry)) ⌝ }
+    ensures { λ r. ⌜ r ≡ highestOf (now (marks .entry)) ⌝ }
 {
     let turns = marks.len() / TURN;
     let mut tops = [0u8; TURN];
@@ -81,10 +81,10 @@ fn highest_many(marks: &[u8]) -> u8
     highest_few(&tops, rest)
 }
 
-// The highest mark, 0 of none. The marks are lent on as a part of themselves, all of it: so compiled, the highest of
+// The highestOf mark, 0 of none. The marks are lent on as a part of themselves, all of it: so compiled, the highestOf of
 // a turn's places stay in registers.
 fn highest_mark(marks: &[u8]) -> u8
-    ensures { λ r. ⌜ r ≡ highest (now (marks .entry)) ⌝ }
+    ensures { λ r. ⌜ r ≡ highestOf (now (marks .entry)) ⌝ }
 {
     if marks.len() < MANY {
         return highest_few(&marks[..], BLANK);

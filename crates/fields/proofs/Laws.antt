@@ -573,3 +573,15 @@ unfolding splice
 copying-last s at b t i h c =
     let e : i ≡ length b = omega arith in
     c .copied ∙ rw (e, take-length b) (append-assoc (take at s) b (drop (at + length b) s))
+
+-- zeros that are left behind the first k
+pub drop-zeros : (k n : ℕ) → drop {A = ℕ} k (replicate n 0) ≡ replicate (n - k) 0
+drop-zeros zero n =
+    let e : n ≡ n - 0 = omega arith in
+    ap (λ (j : ℕ). replicate {A = ℕ} j 0) e
+drop-zeros (suc k) zero =
+    let e : 0 ≡ 0 - suc k = omega arith in
+    ap (λ (j : ℕ). replicate {A = ℕ} j 0) e
+drop-zeros (suc k) (suc n) =
+    let e : n - k ≡ suc n - suc k = omega arith in
+    drop-zeros k n ∙ ap (λ (j : ℕ). replicate {A = ℕ} j 0) e

@@ -15,7 +15,7 @@ use Rattle.model.specs.Examine.{Setting}
 use Rattle.model.specs.Calls.{Call, saveVirtual, freeVirtual, commit, saveBlock, savePacket, sparePacket, openDisc, Answer, answers, final, State, step, isCut, carried, answerOf, heldAfter, answerOfOpening, heldAfterOpening}
 use Rattle.model.proofs.Basics.{by-lt}
 use Rattle.list_step.specs.declared.Answered.{Answered}
-use Rattle.list_step.specs.Stepped.{answerOf as answerIs, numberFor, heldBy, passedBy, stateOf, Stepped}
+use Rattle.list_step.specs.Stepped.{answerIs, numberFor, heldBy, passedBy, stateOf, Stepped}
 use Rattle.list_run.specs.declared.Ran.{Ran}
 use Rattle.list_run.specs.Encoded.{decode, callAt}
 use Rattle.list_run.specs.Listed.{mendedCall, mended, told, passedAfter}

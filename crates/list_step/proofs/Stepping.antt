@@ -15,7 +15,7 @@ use Rattle.model.specs.Rewrite.{saveBlockPlan, savePacketPlan, sparePlan}
 use Rattle.model.specs.Both.{opening, openedTable}
 use Rattle.model.specs.Calls.{Call, openDisc, State, Result, step, carried, answerOf, answerOfOpening}
 use Rattle.list_step.specs.declared.Answered.{Answered}
-use Rattle.list_step.specs.Stepped.{callOf, answerOf as answerIs, Stepped}
+use Rattle.list_step.specs.Stepped.{callOf, answerIs, Stepped}
 
 -- ---- the call of a kind, by its plan
 

@@ -34,11 +34,11 @@ kindAfter true k = 6
 -- ---- its answer
 
 -- the answer of a call as it is told inside the layers
-abbrev pub answerOf : Answered → Answer
-answerOf (Answered.Done r) = done r
-answerOf Answered.Cut = cut
-answerOf (Answered.Refused why) = refused why
-answerOf (Answered.Opened r n) = opened r n
+abbrev pub answerIs : Answered → Answer
+answerIs (Answered.Done r) = done r
+answerIs Answered.Cut = cut
+answerIs (Answered.Refused why) = refused why
+answerIs (Answered.Opened r n) = opened r n
 
 -- the number that is told of an answer: 0 done or opened, the line of a refusal, 255 cut
 abbrev pub numberFor : Answer → ℕ
@@ -76,7 +76,7 @@ stateOf d t held = record { disc = d; table = t; held = held }
 
 -- the answer a, the disc d and the table t are those of the call c in the state st
 pub record Stepped (e : Setting) (st : State) (c : Call) (a : Answered) (d : Disc) (t : List ℕ) : Type 0 where
-  pub answer : answerOf a ≡ step e st c .answer
+  pub answer : answerIs a ≡ step e st c .answer
   pub disc : d ≡ step e st c .state .disc
   pub table : t ≡ step e st c .state .table
 

@@ -13,8 +13,8 @@ ghost use mathlib.Core.Path.{_≡_};
 ghost use Prim.Native.Nat.{_≤_, min};
 ghost use Rattle.model.specs.Disc.{disc as discOf};
 ghost use Rattle.model.specs.Lent.{lent};
-ghost use Rattle.model.specs.Calls.{isCut, answerOf as replied, answerOfOpening};
-ghost use Rattle.list_step.specs.Stepped.{callOf, kindAfter, answerOf, numberFor, heldBy, passedBy, Steps};
+ghost use Rattle.model.specs.Calls.{isCut, answerOf, answerOfOpening};
+ghost use Rattle.list_step.specs.Stepped.{callOf, kindAfter, answerIs, numberFor, heldBy, passedBy, Steps};
 
 // The kinds of the calls, in the order of the list; any other number is an opening.
 const SAVE_VIRTUAL: u32 = 0;
@@ -43,7 +43,7 @@ pub enum Answered {
 
 // The record in force after it.
 pub fn held_after(a: Answered, held: Record) -> Record
-    ensures { λ r. ⌜ r ≡ heldBy (answerOf a) held ⌝ }
+    ensures { λ r. ⌜ r ≡ heldBy (answerIs a) held ⌝ }
 {
     match a {
         Answered::Done(r) => r,
@@ -55,7 +55,7 @@ pub fn held_after(a: Answered, held: Record) -> Record
 
 // How many sectors the last opening passed over that was accepted.
 pub fn passed_after(a: Answered, n: u32) -> u32
-    ensures { λ r. ⌜ r ≡ passedBy (answerOf a) n ⌝ }
+    ensures { λ r. ⌜ r ≡ passedBy (answerIs a) n ⌝ }
 {
     match a {
         Answered::Done(_) => n,
@@ -67,7 +67,7 @@ pub fn passed_after(a: Answered, n: u32) -> u32
 
 // Whether the call was cut.
 pub fn is_cut(a: Answered) -> bool
-    ensures { λ r. ⌜ r ≡ isCut (answerOf a) ⌝ }
+    ensures { λ r. ⌜ r ≡ isCut (answerIs a) ⌝ }
 {
     match a {
         Answered::Done(_) => false,
@@ -82,7 +82,7 @@ pub fn is_cut(a: Answered) -> bool
 
 // The number that is told of it.
 pub fn number_for(a: Answered) -> u32
-    ensures { λ r. ⌜ r ≡ numberFor (answerOf a) ⌝ }
+    ensures { λ r. ⌜ r ≡ numberFor (answerIs a) ⌝ }
 {
     match a {
         Answered::Done(_) => DONE,
@@ -97,7 +97,7 @@ pub fn number_for(a: Answered) -> u32
 
 // The answer of a reply.
 fn answer_of(r: Reply) -> Answered
-    ensures { λ a. ⌜ answerOf a ≡ replied r ⌝ }
+    ensures { λ a. ⌜ answerIs a ≡ answerOf r ⌝ }
 {
     match r {
         Reply::Done(held) => Answered::Done(held),
@@ -108,7 +108,7 @@ fn answer_of(r: Reply) -> Answered
 
 // The answer of an opening.
 fn answer_of_opening(o: Opened) -> Answered
-    ensures { λ a. ⌜ answerOf a ≡ answerOfOpening o ⌝ }
+    ensures { λ a. ⌜ answerIs a ≡ answerOfOpening o ⌝ }
 {
     match o {
         Opened::Open { handed, passed } => Answered::Opened { handed, passed },

@@ -17,7 +17,7 @@ use Rattle.maps.specs.declared.Kind.the-variants.{WriteOnce, Rewritable}
 use Rattle.maps.specs.declared.MapsRead.{MapsRead}
 use Rattle.maps.specs.Walk.{Walked, short, maps, firstLength, walk}
 use Rattle.maps.specs.Kinds.{virtualName, sparableName, typeOne, typeTwo, words, tablesInRange, isWriteOnce, isRewritable, used, volumeWith, noVolume, volumeOf, tablesApart, tablesIn, tablesOf, kindTests, judged, answered, volumeIn, readMaps}
-use Rattle.maps.specs.Told.{isCut, onMaps, oneTypeTwo}
+use Rattle.maps.specs.Told.{isShort, onMaps, oneTypeTwo}
 use Rattle.maps.proofs.Tests.{both, together, alike, by-test}
 use Rattle.maps.proofs.Walk.{whole, walked-first, walked-one, walk-more, walk-one}
 use Rattle.maps.proofs.Tables.{few-tables}
@@ -170,23 +170,23 @@ rewritable-bytes s =
 -- ---- what reading a list comes to
 
 -- what a walk that is cut short, and one of neither kind, are answered
-cut-answer : (w : Walked) → isCut w ≡ true → answered (Stop MapCut) noVolume ≡ answered (judged w) (volumeIn w)
-unfolding isCut answered judged
+cut-answer : (w : Walked) → isShort w ≡ true → answered (Stop MapCut) noVolume ≡ answered (judged w) (volumeIn w)
+unfolding isShort answered judged
 cut-answer short q = refl
 cut-answer (maps ms) q = absurd (false≢true q)
 
 -- a list that is cut short
-pub read-cut : (s : List ℕ) → isCut (walk s) ≡ true → answered (Stop MapCut) noVolume ≡ readMaps s
+pub read-cut : (s : List ℕ) → isShort (walk s) ≡ true → answered (Stop MapCut) noVolume ≡ readMaps s
 unfolding readMaps
 read-cut s q = cut-answer (walk s) q
 
-neither-answer : (w : Walked) → isCut w ≡ false → onMaps isWriteOnce w ≡ false → onMaps isRewritable w ≡ false → answered (Stop NeitherKind) noVolume ≡ answered (judged w) (volumeIn w)
-unfolding isCut answered judged onMaps kindTests need
+neither-answer : (w : Walked) → isShort w ≡ false → onMaps isWriteOnce w ≡ false → onMaps isRewritable w ≡ false → answered (Stop NeitherKind) noVolume ≡ answered (judged w) (volumeIn w)
+unfolding isShort answered judged onMaps kindTests need
 neither-answer short p q r = absurd (false≢true (sym p))
 neither-answer (maps ms) p q r = simp (q, r)
 
 -- a list of neither kind
-pub read-neither : (s : List ℕ) → isCut (walk s) ≡ false → onMaps isWriteOnce (walk s) ≡ false → onMaps isRewritable (walk s) ≡ false → answered (Stop NeitherKind) noVolume ≡ readMaps s
+pub read-neither : (s : List ℕ) → isShort (walk s) ≡ false → onMaps isWriteOnce (walk s) ≡ false → onMaps isRewritable (walk s) ≡ false → answered (Stop NeitherKind) noVolume ≡ readMaps s
 unfolding readMaps
 read-neither s p q r = neither-answer (walk s) p q r
 
@@ -220,7 +220,7 @@ module _ (s : List ℕ) (m : RewritableMap s) where
 pub read-other-length : {C : Type 0} (s : List ℕ) → (length s ≡ 64 → ⊥) → ((p : ℕ) → readMaps s .volume .kind ≡ WriteOnce p → C) → C
 unfolding answered noVolume volumeWith
 read-other-length s n f =
-    by-test (isCut (walk s))
+    by-test (isShort (walk s))
     (λ q. f 0 (ap (λ (m : MapsRead). m .volume .kind) (sym (read-cut s q))))
     (λ q.
     by-test (onMaps isWriteOnce (walk s))

@@ -9,7 +9,7 @@ use lib.Dec.{eqb, leb}
 use lib.ListN.{length, getD, take, drop, length-drop}
 use lib.Seq.{getD-drop, drop-drop, take-length, take-all}
 use Rattle.maps.specs.Walk.{Walked, short, maps, before, firstLength, firstWhole, walkUpTo, walk}
-use Rattle.maps.specs.Told.{isCut}
+use Rattle.maps.specs.Told.{isShort}
 use Rattle.maps.proofs.Tests.{both, together, by-test}
 
 -- a first map that is whole: its length byte is not 0, and as many bytes are there
@@ -151,8 +151,8 @@ rest-from s k = take-all (length s - k) (drop k s) (simp length-drop (omega arit
 -- ---- line 4: the walk from a place of the list on
 
 -- a map before others is not where the list is cut short
-cut-before : (m : List ℕ) (w : Walked) → isCut (before m w) ≡ isCut w
-unfolding isCut before
+cut-before : (m : List ℕ) (w : Walked) → isShort (before m w) ≡ isShort w
+unfolding isShort before
 cut-before m short = refl
 cut-before m (maps ms) = refl
 
@@ -166,41 +166,41 @@ module _ (s : List ℕ) (at : ℕ) where
   first-length = getD-drop at s 1 0
 
   -- past the last map
-  pub uncut-end : length s ≤ at → false ≡ isCut (walk (drop at s))
-  unfolding isCut
-  uncut-end h = sym (ap isCut (walk-none (drop at s) (rw length-left (omega arith))))
+  pub uncut-end : length s ≤ at → false ≡ isShort (walk (drop at s))
+  unfolding isShort
+  uncut-end h = sym (ap isShort (walk-none (drop at s) (rw length-left (omega arith))))
 
-  cut : at < length s → firstWhole (drop at s) ≡ false → true ≡ isCut (walk (drop at s))
-  unfolding isCut
-  cut h f = sym (ap isCut (walk-short (drop at s) (rw length-left (omega arith)) f))
+  cut : at < length s → firstWhole (drop at s) ≡ false → true ≡ isShort (walk (drop at s))
+  unfolding isShort
+  cut h f = sym (ap isShort (walk-short (drop at s) (rw length-left (omega arith)) f))
 
   -- a map without its two bytes
-  pub cut-head : at < length s → length s - at < 2 → true ≡ isCut (walk (drop at s))
+  pub cut-head : at < length s → length s - at < 2 → true ≡ isShort (walk (drop at s))
   unfolding firstWhole
   cut-head h l = cut h (simp (length-left, lt-leb 2 (length s - at) l))
 
   -- a map of length 0
-  pub cut-none : 2 ≤ length s - at → getD s (at + 1) 0 ≡ 0 → true ≡ isCut (walk (drop at s))
+  pub cut-none : 2 ≤ length s - at → getD s (at + 1) 0 ≡ 0 → true ≡ isShort (walk (drop at s))
   unfolding firstWhole
   cut-none h e =
       cut (omega arith)
       (simp (length-left, first-length, le-leb 2 (length s - at) h, lt-leb 1 (getD s (at + 1) 0) (omega arith)))
 
   -- a map that goes on past the end
-  pub cut-tail : 2 ≤ length s - at → 1 ≤ getD s (at + 1) 0 → length s - at < getD s (at + 1) 0 → true ≡ isCut (walk (drop at s))
+  pub cut-tail : 2 ≤ length s - at → 1 ≤ getD s (at + 1) 0 → length s - at < getD s (at + 1) 0 → true ≡ isShort (walk (drop at s))
   unfolding firstWhole
   cut-tail h e l =
       cut (omega arith)
       (simp (length-left, first-length, le-leb 2 (length s - at) h, le-leb 1 (getD s (at + 1) 0) e, lt-leb (getD s (at + 1) 0) (length s - at) l))
 
   -- a whole map: the list is cut short where what is left is
-  pub cut-next : 2 ≤ length s - at → 1 ≤ getD s (at + 1) 0 → getD s (at + 1) 0 ≤ length s - at → isCut (walk (drop (at + getD s (at + 1) 0) s)) ≡ isCut (walk (drop at s))
+  pub cut-next : 2 ≤ length s - at → 1 ≤ getD s (at + 1) 0 → getD s (at + 1) 0 ≤ length s - at → isShort (walk (drop (at + getD s (at + 1) 0) s)) ≡ isShort (walk (drop at s))
   cut-next h e l =
       let d = drop at s in
       let n = length-left in
       let k = first-length in
       sym
-      (ap isCut (walk-next d (omega arith) (is-whole d (omega arith) (omega arith) (omega arith)))
+      (ap isShort (walk-next d (omega arith) (is-whole d (omega arith) (omega arith) (omega arith)))
       ∙ cut-before (take (firstLength d) d) (walk (drop (firstLength d) d))
-      ∙ ap (λ (j : ℕ). isCut (walk (drop j d))) k
-      ∙ ap (λ (x : List ℕ). isCut (walk x)) (drop-drop (getD s (at + 1) 0) at s))
+      ∙ ap (λ (j : ℕ). isShort (walk (drop j d))) k
+      ∙ ap (λ (x : List ℕ). isShort (walk x)) (drop-drop (getD s (at + 1) 0) at s))

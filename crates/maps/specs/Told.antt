@@ -9,9 +9,9 @@ use Rattle.fields.specs.Regid.{hasRegid}
 use Rattle.maps.specs.Walk.{Walked, short, maps}
 
 -- whether a map is cut short, or of length 0: line 4
-unfoldable pub isCut : Walked → Bool
-isCut short = true
-isCut (maps ms) = false
+unfoldable pub isShort : Walked → Bool
+isShort short = true
+isShort (maps ms) = false
 
 -- whether the maps are of a kind; those of a list that is cut short are of none
 unfoldable pub onMaps : (List (List ℕ) → Bool) → Walked → Bool

@@ -14,7 +14,7 @@ ghost use Rattle.refusal.specs.declared.Verdict;
 ghost use Rattle.fields.specs.Regid.{regid as regidOf};
 ghost use Rattle.maps.specs.Walk.{walk};
 ghost use Rattle.maps.specs.Kinds.{words, tablesInRange, isWriteOnce, isRewritable, used, volumeWith, noVolume, absent, tablesApart, answered, readMaps};
-ghost use Rattle.maps.specs.Told.{isCut, onMaps, oneTypeTwo};
+ghost use Rattle.maps.specs.Told.{isShort, onMaps, oneTypeTwo};
 
 // Every map begins with its type and its length.
 pub const TYPE_AT: usize = 0;
@@ -147,7 +147,7 @@ fn accepted(kind: Kind, tables: [u32; 4]) -> MapsRead
 
 // Whether a map of the list is cut short, or of length 0.
 fn is_short(maps: &[u8]) -> bool
-    ensures { λ r. ⌜ r ≡ isCut (walk (now (maps .entry))) ⌝ }
+    ensures { λ r. ⌜ r ≡ isShort (walk (now (maps .entry))) ⌝ }
 {
     let mut at: usize = 0;
     while at < maps.len() {

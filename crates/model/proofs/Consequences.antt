@@ -24,7 +24,7 @@ use Rattle.model.specs.Examine.{Setting, writeOnce, examined}
 use Rattle.model.specs.Once.{entriesHeld, heldFits, onceVerdict, saveTests, savePlan, entryTests, freePlan}
 use Rattle.model.specs.Rewrite.{copyTests, heldCurrent, rewritableVerdict, blockTest, saveBlockTests, saveBlockPlan, packetTests, savePacketPlan, spareTests, sparePlan}
 use Rattle.model.specs.Calls.{Call, saveVirtual, freeVirtual, commit, saveBlock, savePacket, sparePacket, openDisc, Answer, done, cut, refused, opened, State, step, carried, answerOf, answers, final, accepted, isCut, isOpened, Proper, endsCut}
-use Rattle.model.specs.Store.{holds, unused, Store, Shape, store, start, shapeOf, cutIn, writesIn, wasCut, blocksIn, packetWith, taken, next, Seen, bytes, turned, seenAs, look}
+use Rattle.model.specs.Store.{holds, unused, Store, Shape, store, start, shapeOf, cutIn, writesIn, wasCut, slotsIn, packetWith, taken, next, Seen, bytes, turned, seenAs, look}
 use Rattle.model.specs.Demand.{Demand3, afterOpening, followed}
 use Rattle.model.specs.Consequences.{Follows, answerAfter, storeAfter, shownAfter, CarriedOut, CutShort, CutExactly, RefusalsChangeNothing, OnceEffect, LastCommit, laysIcb, CopyByCommit, FullEffect, SpareAllOrNothing, seenLanded, SaveOwnPacket}
 use Rattle.model.proofs.Basics.{cond-both, by-bool, and-true, differ}
@@ -426,6 +426,6 @@ save-own-packet =
           let m = count-again e d t cs (savePacket b x c) (openDisc ∷ []) n (a .0) (k .follows) in
           let w = sym (before e d t cs (savePacket b x c) (openDisc ∷ []) n (k .follows) v out long) in
           cut-reads e d t cs (savePacket b x c) k (a .0) v out long
-          ∙ look-cut σ b (a .1) (omega (arith, a .1, a .2, m .0, m .1)) c (σ .copy) (blocksIn 32 x 0) (length-blocks 32 x 0) v
+          ∙ look-cut σ b (a .1) (omega (arith, a .1, a .2, m .0, m .1)) c (σ .copy) (slotsIn 32 x 0) (length-blocks 32 x 0) v
           ∙ ap₂ (λ (o y : Seen). cond (eqb (packetOf v) b) (seenLanded (landing (1 + v % 32) c) o y) o) w (ap seenAs (lent-block x (v % 32) (omega arith)));
     }

@@ -15,7 +15,7 @@ use Rattle.model.specs.declared.Cut.{Cut}
 use Rattle.model.specs.declared.Landing.{Landing}
 use Rattle.model.specs.Writes.{landing}
 use Rattle.model.specs.Sparing.{packetOf}
-use Rattle.model.specs.Store.{Slot, holds, unused, Store, store, put, puts, putsCut, blocksIn, slotAfter, packetWith, Seen, bytes, turned, seenAs, look}
+use Rattle.model.specs.Store.{Slot, holds, unused, Store, store, put, puts, putsCut, slotsIn, slotAfter, packetWith, Seen, bytes, turned, seenAs, look}
 use Rattle.model.specs.Consequences.{seenLanded}
 use Rattle.model.proofs.Basics.{by-lt, by-eq}
 use Rattle.model.proofs.SparingLaws.{packet-rest}
@@ -71,7 +71,7 @@ look-put σ c b y h v =
 -- ---- the packet that begins at p
 
 -- the lent bytes of a packet, block by block
-pub lent-block : (x : List ℕ) (i : ℕ) → i < 32 → getD (blocksIn 32 x 0) i unused ≡ holds (part x (2048 * i) 2048)
+pub lent-block : (x : List ℕ) (i : ℕ) → i < 32 → getD (slotsIn 32 x 0) i unused ≡ holds (part x (2048 * i) 2048)
 lent-block x i h =
     let q : 0 + 2048 * i ≡ 2048 * i = omega arith in
     block-in 32 x 0 i h ∙ ap (λ (y : ℕ). holds (part x y 2048)) q
@@ -83,10 +83,10 @@ module _ (σ : Store) (p : ℕ) (multiple : p % 32 ≡ 0) (fits : p + 32 ≤ len
 
   -- given lent bytes
   pub look-puts : (c : List Slot) (x : List ℕ) (v : ℕ)
-      → look (store (puts (σ .blocks) p (blocksIn 32 x 0)) c) v ≡ cond (eqb (packetOf v) p) (bytes (part x (2048 * (v % 32)) 2048)) (look σ v)
+      → look (store (puts (σ .blocks) p (slotsIn 32 x 0)) c) v ≡ cond (eqb (packetOf v) p) (bytes (part x (2048 * (v % 32)) 2048)) (look σ v)
   unfolding seenAs
   look-puts c x v =
-      let xs : List Slot = blocksIn 32 x 0 in
+      let xs : List Slot = slotsIn 32 x 0 in
       let τ : Store = store (puts (σ .blocks) p xs) c in
       let n : length xs ≡ 32 = length-blocks 32 x 0 in
       let m : length (puts (σ .blocks) p xs) ≡ length (σ .blocks) = length-puts (σ .blocks) p xs in

@@ -12,7 +12,7 @@ use Rattle.model.specs.declared.Effect.{Effect}
 use Rattle.model.specs.declared.Landing.{Landing}
 use Rattle.model.specs.Writes.{onEffect, landing}
 use Rattle.model.specs.Calls.{sparePacket}
-use Rattle.model.specs.Store.{Store, Shape, store, puts, blocksIn, isWhole, wholeAt, taken}
+use Rattle.model.specs.Store.{Store, Shape, store, puts, slotsIn, isWhole, wholeAt, taken}
 use Rattle.model.proofs.Basics.{cond-elim, by-bool, by-lt, by-eq, and-true, both, or-cases, or-left, or-right, differ}
 use Rattle.model.proofs.Sectors.{landing-before, landing-at, landing-after}
 
@@ -71,13 +71,13 @@ choice-same n m c σ τ q = ap (λ (x : ℕ). cond (wholeAt x c) σ τ) q
 
 -- write 33 of a cut sparing, the first new copy, decides
 spare-choice : (h : Shape) (σ : Store) (b : ℕ) (x : List ℕ) (c : Cut)
-    → taken h σ (sparePacket b x c) true ≡ cond (wholeAt 33 c) (store (puts (σ .blocks) b (blocksIn 32 x 0)) (σ .copy)) σ
+    → taken h σ (sparePacket b x c) true ≡ cond (wholeAt 33 c) (store (puts (σ .blocks) b (slotsIn 32 x 0)) (σ .copy)) σ
 unfolding taken
 spare-choice h σ b x c = choice-same _ _ c _ _ (omega arith)
 
 -- it is done exactly if that write is whole
 pub spared-cut : (h : Shape) (σ : Store) (b : ℕ) (x : List ℕ) (c : Cut) (P : Store → Type 0) → 1 ≤ c .at
-    → (landing 33 c ≡ Landing.Done → P (store (puts (σ .blocks) b (blocksIn 32 x 0)) (σ .copy)))
+    → (landing 33 c ≡ Landing.Done → P (store (puts (σ .blocks) b (slotsIn 32 x 0)) (σ .copy)))
     → (landing 33 c ≢ Landing.Done → P σ)
     → P (taken h σ (sparePacket b x c) true)
 spared-cut h σ b x c P k f g =

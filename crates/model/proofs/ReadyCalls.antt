@@ -24,7 +24,7 @@ use Rattle.model.specs.Sparing.{Geometry, entries, packetOf, locate}
 use Rattle.model.specs.Examine.{Setting, writeOnce, examined, lentTable}
 use Rattle.model.specs.Rewrite.{copyTests, heldCurrent, rewritableVerdict, placeOf, othersRecorded, blockTest, saveBlockTests, blockLent, packetWrites, replaced, saveBlockPlan, packetTests, packetLent, savePacketPlan}
 use Rattle.model.specs.Calls.{saveBlock, savePacket, State, step}
-use Rattle.model.specs.Store.{Slot, holds, unused, slotAt, slotAfter, puts, putsCut, blocksIn, packetWith, Store, Shape, cutIn, writesIn, taken}
+use Rattle.model.specs.Store.{Slot, holds, unused, slotAt, slotAfter, puts, putsCut, slotsIn, packetWith, Store, Shape, cutIn, writesIn, taken}
 use Rattle.model.proofs.Basics.{by-lt, by-eq, and-true}
 use Rattle.model.proofs.Verdicts.{Examined, examined-tells, then-go}
 use Rattle.model.proofs.Sectors.{shapely-made, landing-uncut}
@@ -70,28 +70,28 @@ module _ (e : Setting) (g : Geometry) (γ : Ground e g) (h : Shape) (st : State)
 
   -- ---- save packet
   module _ (b : ℕ) (x : List ℕ) (c : Cut) (multiple : b % 32 ≡ 0) (below : b < g .span) (long : length x ≡ 65536) where
-    fits : b + length (blocksIn 32 x 0) ≤ length (σ .blocks)
+    fits : b + length (slotsIn 32 x 0) ≤ length (σ .blocks)
     fits = omega (arith, length-blocks 32 x 0, i .ready .count, packet-inside b (g .span) (γ .span-32) below, packet-rest b)
 
-    edge : (j : ℕ) → packetOf j ≢ b → (j < b) ⊎ (b + length (blocksIn 32 x 0) ≤ j)
+    edge : (j : ℕ) → packetOf j ≢ b → (j < b) ⊎ (b + length (slotsIn 32 x 0) ≤ j)
     edge j w = rw (length-blocks 32 x 0) (other-packet b j multiple w)
 
-    packet-cut : Ready e g (writes 1 c (upward 32 (locate (g .start) (entries l) b) x 0) d) n l (putsCut 1 c (σ .blocks) b (blocksIn 32 x 0))
+    packet-cut : Ready e g (writes 1 c (upward 32 (locate (g .start) (entries l) b) x 0) d) n l (putsCut 1 c (σ .blocks) b (slotsIn 32 x 0))
     packet-cut =
-        ready-written e g γ d n l (σ .blocks) (i .ready) b multiple below x long c (putsCut 1 c (σ .blocks) b (blocksIn 32 x 0))
-        (length-cut 1 c (σ .blocks) b (blocksIn 32 x 0))
-        (λ j w. cut-other 1 c (σ .blocks) b (blocksIn 32 x 0) j (edge j w))
+        ready-written e g γ d n l (σ .blocks) (i .ready) b multiple below x long c (putsCut 1 c (σ .blocks) b (slotsIn 32 x 0))
+        (length-cut 1 c (σ .blocks) b (slotsIn 32 x 0))
+        (λ j w. cut-other 1 c (σ .blocks) b (slotsIn 32 x 0) j (edge j w))
         (λ j u.
-        cut-inside 1 c (σ .blocks) b (blocksIn 32 x 0) j (rw (length-blocks 32 x 0) u) fits
+        cut-inside 1 c (σ .blocks) b (slotsIn 32 x 0) j (rw (length-blocks 32 x 0) u) fits
         ∙ ap (slotAfter (landing (1 + j) c) (getD (σ .blocks) (b + j) unused)) (block-in 32 x 0 j u))
 
-    packet-done : struck c 32 ≡ false → Ready e g (writes 1 c (upward 32 (locate (g .start) (entries l) b) x 0) d) n l (puts (σ .blocks) b (blocksIn 32 x 0))
+    packet-done : struck c 32 ≡ false → Ready e g (writes 1 c (upward 32 (locate (g .start) (entries l) b) x 0) d) n l (puts (σ .blocks) b (slotsIn 32 x 0))
     packet-done uncut =
-        ready-written e g γ d n l (σ .blocks) (i .ready) b multiple below x long c (puts (σ .blocks) b (blocksIn 32 x 0))
-        (length-puts (σ .blocks) b (blocksIn 32 x 0))
-        (λ j w. puts-other (σ .blocks) b (blocksIn 32 x 0) j (edge j w))
+        ready-written e g γ d n l (σ .blocks) (i .ready) b multiple below x long c (puts (σ .blocks) b (slotsIn 32 x 0))
+        (length-puts (σ .blocks) b (slotsIn 32 x 0))
+        (λ j w. puts-other (σ .blocks) b (slotsIn 32 x 0) j (edge j w))
         (λ j u.
-        puts-inside (σ .blocks) b (blocksIn 32 x 0) j (rw (length-blocks 32 x 0) u) fits
+        puts-inside (σ .blocks) b (slotsIn 32 x 0) j (rw (length-blocks 32 x 0) u) fits
         ∙ block-in 32 x 0 j u
         ∙ sym (after-done (getD (σ .blocks) (b + j) unused) _ (landing-uncut (1 + j) 32 c uncut (omega arith) (omega arith))))
 

@@ -21,9 +21,9 @@ use Rattle.model.specs.Once.{filledFrom}
 use Rattle.model.specs.Rewrite.{noEntry}
 use Rattle.model.specs.Both.{openVerdict, recordOn, numbersOn, passedOn, openedBy, filledBy, opening, openedTable, spareEntries, makeVerdict, made}
 use Rattle.model.specs.Calls.{saveBlock, sparePacket, openDisc, done, opened, State, step, answers, final}
-use Rattle.model.specs.Store.{holds, unused, blocksOn, start, puts, blocksIn, Store, store, Shape, shapeOf, bytes, turned, seenAs, look}
+use Rattle.model.specs.Store.{holds, unused, blocksOn, start, puts, slotsIn, Store, store, Shape, shapeOf, bytes, turned, seenAs, look}
 use Rattle.model.specs.Demand.{afterOpening, seen}
-use Rattle.model.specs.LivesAgain.{zeroBlock, OpensEmpty, RewritableMadeOpens, usualCalls, usualAnswers, ReadsBack, RewritableLives}
+use Rattle.model.specs.LivesAgain.{zeroBlock, OpensFree, RewritableMadeOpens, usualCalls, usualAnswers, ReadsBack, RewritableLives}
 use Rattle.model.proofs.SparingLaws.{entries-flat, packet-rest}
 use Rattle.model.proofs.Ground.{Ground}
 use Rattle.model.proofs.Ready.{Ready, Holds, LiveAgain, ready-table, table-length, read-again}
@@ -77,7 +77,7 @@ module _ (e : Setting) (d : Disc) (spares t : List ℕ) (again : writeOnce e ≡
   unfolding openedTable filledBy numbersOn
   filled = rw (goes, again, ready-table ready)
 
-  opens-empty : OpensEmpty e d′ spares t
+  opens-empty : OpensFree e d′ spares t
   unfolding opening openedBy passedOn
   opens-empty =
       record {
@@ -126,7 +126,7 @@ module _ (e : Setting) (d : Disc) (spares t : List ℕ) (again : writeOnce e ≡
     σ₁ = store (set (blocksOn e d′) b (holds x)) (blocksOn e d′)
 
     abbrev σ₂ : Store
-    σ₂ = store (puts (set (blocksOn e d′) b (holds x)) p (blocksIn 32 y 0)) (blocksOn e d′)
+    σ₂ = store (puts (set (blocksOn e d′) b (holds x)) p (slotsIn 32 y 0)) (blocksOn e d′)
 
     b-below : b < g .span
     b-below = rw (← γ .span-is) b-in
@@ -196,7 +196,7 @@ module _ (e : Setting) (d : Disc) (spares t : List ℕ) (again : writeOnce e ≡
     read v out k = read-again e g again γ maps-go st₃ (live₃ .0) (live₃ .1) σ₂ (live₃ .2) v out k
 
     blocks-count : length (σ₂ .blocks) ≡ e .span
-    blocks-count = length-puts (σ₁ .blocks) p (blocksIn 32 y 0) ∙ length-set (blocksOn e d′) b (holds x) ∙ made-count e d spares again go
+    blocks-count = length-puts (σ₁ .blocks) p (slotsIn 32 y 0) ∙ length-set (blocksOn e d′) b (holds x) ∙ made-count e d spares again go
 
     -- a block of the spared packet
     packet-in : p + 32 ≤ length (σ₁ .blocks)
@@ -208,15 +208,15 @@ module _ (e : Setting) (d : Disc) (spares t : List ℕ) (again : writeOnce e ≡
         let vj : v ≡ p + j = omega (arith, packet-rest v) in
         let zj : 0 + 2048 * j ≡ 2048 * j = omega arith in
         look-holds σ₂ v (part y (2048 * j) 2048)
-        (omega (arith, packet-in, length-puts (σ₁ .blocks) p (blocksIn 32 y 0)))
+        (omega (arith, packet-in, length-puts (σ₁ .blocks) p (slotsIn 32 y 0)))
         (ap (λ (z : ℕ). getD (σ₂ .blocks) z unused) vj
-        ∙ puts-inside (σ₁ .blocks) p (blocksIn 32 y 0) j (rw (length-blocks 32 y 0) (omega arith)) (rw (length-blocks 32 y 0) packet-in)
+        ∙ puts-inside (σ₁ .blocks) p (slotsIn 32 y 0) j (rw (length-blocks 32 y 0) (omega arith)) (rw (length-blocks 32 y 0) packet-in)
         ∙ block-in 32 y 0 j (omega arith)
         ∙ ap (λ (z : ℕ). holds (part y z 2048)) zj)
 
     -- a block of another
     other-block : (v : ℕ) → packetOf v ≢ p → getD (σ₂ .blocks) v unused ≡ getD (σ₁ .blocks) v unused
-    other-block v w = puts-other (σ₁ .blocks) p (blocksIn 32 y 0) v (rw (length-blocks 32 y 0) (other-packet p v multiple w))
+    other-block v w = puts-other (σ₁ .blocks) p (slotsIn 32 y 0) v (rw (length-blocks 32 y 0) (other-packet p v multiple w))
 
     reads-back : ReadsBack e st₀ (length spares) b x p y
     reads-back =

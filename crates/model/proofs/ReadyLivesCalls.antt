@@ -21,7 +21,7 @@ use Rattle.model.specs.Plan.{carry, unless, replyOf, discAfter, tableAft
 use Rattle.model.specs.Rewrite.{isSpared, noEntry, tableOn, copyTests, currentRecord, rewritableVerdict, othersRecorded, blockTest, saveBlockTests, blockLent, saveBlockPlan, packetTests, packetLent, spareTests, sparePlan}
 use Rattle.model.specs.Both.{openVerdict, recordOn, passedOn, openedBy, opening}
 use Rattle.model.specs.Calls.{Call, saveBlock, sparePacket, openDisc, done, opened, State, Result, answerOf, heldAfter, carried, answerOfOpening, step, accepted, isCut}
-use Rattle.model.specs.Store.{Slot, holds, unused, unreadable, slotAt, puts, blocksIn, Store, store, Shape, cutIn, writesIn, wasCut, taken, next}
+use Rattle.model.specs.Store.{Slot, holds, unused, unreadable, slotAt, puts, slotsIn, Store, store, Shape, cutIn, writesIn, wasCut, taken, next}
 use Rattle.model.proofs.Basics.{by-bool, both}
 use Rattle.model.proofs.Verdicts.{go-then}
 use Rattle.model.proofs.Ground.{Ground}
@@ -192,7 +192,7 @@ module _ (e : Setting) (g : Geometry) (again : writeOnce e ≡ false) (γ : Grou
           ap (λ (r : Result). r .state .held) (carried-out _ _ _ _ st spare-goes)
           ∙ ap₂ (λ (a s : ℕ). Record.Rewritable a (s + 1)) (ready-count (i .ready)) (ready-sequence (i .ready))
 
-      spare-any : (n′ : ℕ) × (l′ : List ℕ) × LiveAgain e g (step e st (sparePacket p y noCut) .state) n′ l′ (store (puts (σ .blocks) p (blocksIn 32 y 0)) (σ .copy))
+      spare-any : (n′ : ℕ) × (l′ : List ℕ) × LiveAgain e g (step e st (sparePacket p y noCut) .state) n′ l′ (store (puts (σ .blocks) p (slotsIn 32 y 0)) (σ .copy))
       unfolding AgainOk taken wasCut cutIn writesIn struck noCut
       spare-any =
           sound-done (AgainOk e g) h σ (sparePacket p y noCut) (step e st (sparePacket p y noCut)) _ spare-answer (sound-spare e g γ h copies st σ n l i p y noCut)
@@ -200,7 +200,7 @@ module _ (e : Setting) (g : Geometry) (again : writeOnce e ≡ false) (γ : Grou
       -- the packet has its bytes, in a table of as many entries
       pub record Spared : Type 0 where
         pub table : List ℕ
-        pub live : LiveAgain e g (step e st (sparePacket p y noCut) .state) (n + 1) table (store (puts (σ .blocks) p (blocksIn 32 y 0)) (σ .copy))
+        pub live : LiveAgain e g (step e st (sparePacket p y noCut) .state) (n + 1) table (store (puts (σ .blocks) p (slotsIn 32 y 0)) (σ .copy))
         pub count : length (entries table) ≡ length (entries l)
 
       pub spare-live : Spared

@@ -20,7 +20,7 @@ use Rattle.model.specs.Examine.{Setting, geometry, lentTable}
 use Rattle.model.specs.Once.{filledFrom}
 use Rattle.model.specs.Rewrite.{isNone, noEntry, isSpared, entriesOn, stale, copiesTo, copyOrder, packetWrites, packetTests, packetLent, spareTests, sparedTable, spareWrites, sparePlan}
 use Rattle.model.specs.Calls.{sparePacket, State, step}
-use Rattle.model.specs.Store.{Slot, holds, slotAt, slotAfter, puts, blocksIn, Store, Shape, cutIn, writesIn, taken}
+use Rattle.model.specs.Store.{Slot, holds, slotAt, slotAfter, puts, slotsIn, Store, Shape, cutIn, writesIn, taken}
 use Rattle.model.proofs.Basics.{by-eq, and-true}
 use Rattle.model.proofs.Sectors.{Made, Placed, Elsewhere, shapely-made, landed-made, landed-marks-length, sector-other, mark-other, sector-done, mark-done, mark-unreadable, sector-unreadable, writes-marks-length, writes-shapely, writes-inside, writes-made, writes-other, writes-append, landing-uncut, landing-done-before, landing-lost}
 use Rattle.model.proofs.SectorsRuns.{length-upward, placed-upward, elsewhere-upward, upward-sector, upward-mark}
@@ -388,10 +388,10 @@ module _ (e : Setting) (g : Geometry) (γ : Ground e g) (d : Disc) (n : ℕ) (l 
         ∙ ap (λ (lg : Landing). slotAfter lg (slotAt d (m + j)) (holds (part x (0 + 2048 * j) 2048)))
         (landing-done-before 33 (1 + j) c whole (omega arith) (omega arith))
 
-    fits-blocks : b + length (blocksIn 32 x 0) ≤ length bs
+    fits-blocks : b + length (slotsIn 32 x 0) ≤ length bs
     fits-blocks = omega (arith, length-blocks 32 x 0, r .count, packet-inside b (g .span) (γ .span-32) below, packet-rest b)
 
-    pub spare-done : Ready e g d₂ (n + 1) (flat es′) (puts bs b (blocksIn 32 x 0))
+    pub spare-done : Ready e g d₂ (n + 1) (flat es′) (puts bs b (slotsIn 32 x 0))
     spare-done =
         record {
           shape = shape₂;
@@ -400,7 +400,7 @@ module _ (e : Setting) (g : Geometry) (γ : Ground e g) (d : Disc) (n : ℕ) (l 
           settled = settled-new;
           small = small′;
           even = ap flat (entries-flat es′);
-          count = length-puts bs b (blocksIn 32 x 0) ∙ r .count;
+          count = length-puts bs b (slotsIn 32 x 0) ∙ r .count;
           same = λ y h.
               rw (entries-flat es′)
               (by-eq (packetOf y) b
@@ -408,12 +408,12 @@ module _ (e : Setting) (g : Geometry) (γ : Ground e g) (d : Disc) (n : ℕ) (l 
               let j : ℕ = y % 32 in
               let yj : y ≡ b + j = omega (arith, packet-rest y) in
               rw yj
-              (puts-inside bs b (blocksIn 32 x 0) j (rw (length-blocks 32 x 0) (omega arith)) fits-blocks
+              (puts-inside bs b (slotsIn 32 x 0) j (rw (length-blocks 32 x 0) (omega arith)) fits-blocks
               ∙ block-in 32 x 0 j (omega arith)
               ∙ sym (spare-slot j (omega arith))
               ∙ ap (slotAt d₂) (sym (locate-spared g (entries l) b (ready-fits r) multiple below unspared span-small some j (omega arith)))))
               (λ w.
-              puts-other bs b (blocksIn 32 x 0) y (rw (length-blocks 32 x 0) (other-packet b y multiple w))
+              puts-other bs b (slotsIn 32 x 0) y (rw (length-blocks 32 x 0) (other-packet b y multiple w))
               ∙ r .same y h
               ∙ sym (slot-kept y h)
               ∙ ap (slotAt d₂) (sym (locate-unspared g (entries l) b (ready-fits r) multiple below unspared span-small some y h w))));

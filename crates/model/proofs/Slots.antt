@@ -14,7 +14,7 @@ use Rattle.model.specs.declared.Cut.{Cut}
 use Rattle.model.specs.declared.Landing.{Landing}
 use Rattle.model.specs.Disc.{Disc, sector, mark, recorded}
 use Rattle.model.specs.Writes.{landing, landed}
-use Rattle.model.specs.Store.{Slot, holds, unused, slotAt, puts, putsCut, blocksIn, slotAfter}
+use Rattle.model.specs.Store.{Slot, holds, unused, slotAt, puts, putsCut, slotsIn, slotAfter}
 use Rattle.model.proofs.Sectors.{Made, sector-done, recorded-done, mark-unreadable}
 
 -- ---- sectors as blocks
@@ -41,13 +41,13 @@ slot-recorded d p h = rw h
 
 -- ---- lent bytes as blocks
 
-pub length-blocks : (n : ℕ) (b : List ℕ) (at : ℕ) → length (blocksIn n b at) ≡ n
-unfolding blocksIn
+pub length-blocks : (n : ℕ) (b : List ℕ) (at : ℕ) → length (slotsIn n b at) ≡ n
+unfolding slotsIn
 length-blocks zero b at = refl
 length-blocks (suc n) b at = ap suc (length-blocks n b (at + 2048))
 
-pub block-in : (n : ℕ) (b : List ℕ) (at i : ℕ) → i < n → getD (blocksIn n b at) i unused ≡ holds (part b (at + 2048 * i) 2048)
-unfolding blocksIn
+pub block-in : (n : ℕ) (b : List ℕ) (at i : ℕ) → i < n → getD (slotsIn n b at) i unused ≡ holds (part b (at + 2048 * i) 2048)
+unfolding slotsIn
 block-in zero b at i h = absurd (omega arith)
 block-in (suc n) b at zero h = let q : at ≡ at + 2048 * 0 = omega arith in ap (λ (x : ℕ). holds (part b x 2048)) q
 block-in (suc n) b at (suc i) h =

@@ -32,7 +32,7 @@ zeroBlock = replicate 2048 0
 -- ---- a made disc opens
 
 -- what opening finds on the disc d, which was made with a list of spares, when it is lent the table t ("Calls and their sector writes")
-pub record OpensEmpty (e : Setting) (d : Disc) (spares t : List ℕ) : Type 0 where
+pub record OpensFree (e : Setting) (d : Disc) (spares t : List ℕ) : Type 0 where
   -- no line turns it down
   pub goes : openVerdict e d t ≡ Go
   -- it answers with as many entries as there are spares, sequence 0, and 0 sectors passed over
@@ -52,7 +52,7 @@ RewritableMadeOpens =
     → writeOnce e ≡ false
     → makeVerdict e d spares ≡ Go
     → 4096 ≤ length t
-    → OpensEmpty e (made e d spares) spares t
+    → OpensFree e (made e d spares) spares t
 
 -- ---- what is saved and spared there reads back
 

@@ -112,9 +112,9 @@ puts l p [] = l
 puts l p (x ∷ xs) = puts (set l p x) (p + 1) xs
 
 -- n blocks of lent bytes from `at` on
-unfoldable pub blocksIn : ℕ → List ℕ → ℕ → List Slot
-blocksIn zero b at = []
-blocksIn (suc n) b at = holds (part b at 2048) ∷ blocksIn n b (at + 2048)
+unfoldable pub slotsIn : ℕ → List ℕ → ℕ → List Slot
+slotsIn zero b at = []
+slotsIn (suc n) b at = holds (part b at 2048) ∷ slotsIn n b (at + 2048)
 
 -- a block o, to be written as x, once the write has landed
 unfoldable pub slotAfter : Landing → Slot → Slot → Slot
@@ -152,10 +152,10 @@ taken h σ (commit c) true = cond (wholeAt (writesIn h σ (commit c)) c) (store 
 taken h σ (commit c) false = store (σ .blocks) (σ .blocks)
 taken h σ (saveBlock b x c) true = store (putsCut 1 c (σ .blocks) (packetOf b) (packetWith (σ .blocks) b x)) (σ .copy)
 taken h σ (saveBlock b x c) false = store (set (σ .blocks) b (holds x)) (σ .copy)
-taken h σ (savePacket b x c) true = store (putsCut 1 c (σ .blocks) b (blocksIn 32 x 0)) (σ .copy)
-taken h σ (savePacket b x c) false = store (puts (σ .blocks) b (blocksIn 32 x 0)) (σ .copy)
-taken h σ (sparePacket b x c) true = cond (wholeAt 33 c) (store (puts (σ .blocks) b (blocksIn 32 x 0)) (σ .copy)) σ
-taken h σ (sparePacket b x c) false = store (puts (σ .blocks) b (blocksIn 32 x 0)) (σ .copy)
+taken h σ (savePacket b x c) true = store (putsCut 1 c (σ .blocks) b (slotsIn 32 x 0)) (σ .copy)
+taken h σ (savePacket b x c) false = store (puts (σ .blocks) b (slotsIn 32 x 0)) (σ .copy)
+taken h σ (sparePacket b x c) true = cond (wholeAt 33 c) (store (puts (σ .blocks) b (slotsIn 32 x 0)) (σ .copy)) σ
+taken h σ (sparePacket b x c) false = store (puts (σ .blocks) b (slotsIn 32 x 0)) (σ .copy)
 taken h σ openDisc true = σ
 taken h σ openDisc false = cond (h .once) (store (σ .copy) (σ .copy)) σ
 

@@ -39,7 +39,7 @@ fn free_place(table: &[u32], held: Record) -> PhysicalAddress
     requires { ⌜ 2 * countHeld held ≤ length (now table) ⌝ }
     ensures { λ r. ⌜ r .0 ≡ firstFree (freeOf (entriesLent (now (table .entry)) held)) ⌝ }
 {
-    let entries = sparing_current::entries_held(held);
+    let entries = sparing_current::count_held(held);
     let free = sparing_table::first_free(table, entries);
     match free {
         FirstFree::At(m) => m,
@@ -52,7 +52,7 @@ fn has_free(table: &[u32], held: Record) -> bool
     requires { ⌜ 2 * countHeld held ≤ length (now table) ⌝ }
     ensures { λ r. ⌜ r ≡ not (noEntry (freeOf (entriesLent (now (table .entry)) held))) ⌝ }
 {
-    let entries = sparing_current::entries_held(held);
+    let entries = sparing_current::count_held(held);
     let free = sparing_table::first_free(table, entries);
     match free {
         FirstFree::At(_) => true,
@@ -76,7 +76,7 @@ fn judge_sparing(count: u8, l: u32, table: &[u32], held: Record, b: LogicalAddre
     if count < 2 {
         return Verdict::Stop(Refusal::OneTable);
     }
-    let entries = sparing_current::entries_held(held);
+    let entries = sparing_current::count_held(held);
     if sparing_table::is_spared(table, entries, b) {
         return Verdict::Stop(Refusal::AlreadySpared);
     }
@@ -188,7 +188,7 @@ pub fn spare_packet(
     }
     let layout = judged.layout;
     let copy = judged.at;
-    let entries = sparing_current::entries_held(held);
+    let entries = sparing_current::count_held(held);
     let sequence = sparing_current::sequence_held(held);
     let next = next_sequence(sequence);
     let first = free_place(table, held);

@@ -193,7 +193,7 @@ pub fn judge(
 // ---- the record: R and the sequence
 
 // R, 0 of a record of the other kind.
-pub fn entries_held(held: Record) -> u32
+pub fn count_held(held: Record) -> u32
     ensures { λ r. ⌜ r ≡ countHeld held ⌝ }
 {
     match held {
@@ -232,7 +232,7 @@ pub fn packet_place(table: &[u32], held: Record, s: u32, b: LogicalAddress) -> P
     requires { ⌜ (2 * countHeld held ≤ length (now table)) × (s + b .0 < 2 ^ 32) ⌝ }
     ensures { λ r. ⌜ r .0 ≡ locate s (entriesLent (now (table .entry)) held) (packetOf (b .0)) ⌝ }
 {
-    let entries = entries_held(held);
+    let entries = count_held(held);
     let first = LogicalAddress(b.0 - b.0 % PACKET);
     sparing_table::find_packet(table, entries, s, first)
 }

@@ -10,7 +10,7 @@ use lib.Seq.{take-suc, take-at, drop-append-add, length-take-le}
 use Rattle.fields.specs.Bytes.{splice, part, join}
 use Rattle.fields.specs.Number.{digits, quads}
 use Rattle.fields.specs.Regid.{regid, identifier}
-use Rattle.fields.proofs.Laws.{splice-append, length-part}
+use Rattle.fields.proofs.Laws.{splice-append, length-part, drop-zeros}
 use Rattle.fields.proofs.Words.{length-quads, quads-append}
 use Rattle.model.specs.Vat.{none}
 use Rattle.model.specs.VatWritten.{filled}
@@ -64,17 +64,6 @@ pub begun-written : (s x y z : List ℕ) (n k : ℕ) → s ≡ replicate 2048 0 
 begun-written s x y z n k es ex ey ez = (cc) ∙ fields-written n k
 
 -- ---- the whole sector
-
-drop-zeros : (k n : ℕ) → drop {A = ℕ} k (replicate n 0) ≡ replicate (n - k) 0
-drop-zeros zero n =
-    let e : n ≡ n - 0 = omega arith in
-    ap (λ (j : ℕ). replicate {A = ℕ} j 0) e
-drop-zeros (suc k) zero =
-    let e : 0 ≡ 0 - suc k = omega arith in
-    ap (λ (j : ℕ). replicate {A = ℕ} j 0) e
-drop-zeros (suc k) (suc n) =
-    let e : n - k ≡ suc n - suc k = omega arith in
-    drop-zeros k n ∙ ap (λ (j : ℕ). replicate {A = ℕ} j 0) e
 
 -- the bytes before the entries
 front : ℕ → ℕ → List ℕ

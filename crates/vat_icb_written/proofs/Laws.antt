@@ -9,7 +9,7 @@ use lib.Seq.{take-at, length-take-le}
 use borrow.Author.Tests.{lt-ltb, le-ltb}
 use Rattle.fields.specs.Bytes.{splice, join}
 use Rattle.fields.specs.Number.{digits}
-use Rattle.fields.proofs.Laws.{length-digits, part-all, splice-append}
+use Rattle.fields.proofs.Laws.{length-digits, part-all, splice-append, drop-zeros}
 use Rattle.tag.specs.Checksum.{checksumOf}
 use Rattle.tag.specs.Crc.{crcFrom}
 use Rattle.tag.proofs.Laws.{checksum-below}
@@ -22,17 +22,11 @@ use Rattle.vat_icb_written.specs.Parts.{allocationBytes, headOf, entryHe
 
 -- ---- zeros filled up to
 
--- zeros that are left
-drop-zeros : (n k : ℕ) → drop {A = ℕ} k (replicate n 0) ≡ replicate (n - k) 0
-drop-zeros n zero = let e : n ≡ n - 0 = omega arith in ap (λ (m : ℕ). replicate {A = ℕ} m 0) e
-drop-zeros zero (suc k) = let e : 0 ≡ 0 - suc k = omega arith in ap (λ (m : ℕ). replicate {A = ℕ} m 0) e
-drop-zeros (suc n) (suc k) = let e : n - k ≡ suc n - suc k = omega arith in drop-zeros n k ∙ ap (λ (m : ℕ). replicate {A = ℕ} m 0) e
-
 -- b put in at the start of n zeros
 zeros-spliced : (n : ℕ) (b : List ℕ) → splice (replicate n 0) 0 b ≡ filled n b
 unfolding splice filled
 zeros-spliced n b =
-    ap (λ (l : List ℕ). b ++ l) (ap (λ (k : ℕ). drop k (replicate n 0)) (zero-add (length b)) ∙ drop-zeros n (length b))
+    ap (λ (l : List ℕ). b ++ l) (ap (λ (k : ℕ). drop k (replicate n 0)) (zero-add (length b)) ∙ drop-zeros (length b) n)
 
 -- of two lists in a row, the second is filled up
 filled-append : (n m : ℕ) (a b : List ℕ) → length a + m ≡ n → filled n (a ++ b) ≡ a ++ filled m b

@@ -1,4 +1,4 @@
--- Laws of the file of an ICB by position: the bytes of its extents stand where `placeOf` says, none of them outside the disc, and the file
+-- Laws of the file of an ICB by position: the bytes of its extents stand where `positionOf` says, none of them outside the disc, and the file
 -- has F bytes. Assumes nothing.
 use Prim.Native.Nat.{ℕ, _+_, _-_, _*_, _/_, _%_, _^_, _≤_, _<_}
 use mathlib.Core.Path.{_≡_, refl, sym, ap, ap₂, _∙_}
@@ -18,7 +18,7 @@ use Rattle.model.specs.Vat.{Extent, form, fileLength, attributes, allocation, e
 use Rattle.model.proofs.Basics.{and-true, both, by-bool, by-lt}
 use Rattle.model.proofs.SectorsRuns.{joined-bytes}
 use Rattle.vat_icb.proofs.Entry.{entry-ends}
-use Rattle.vat_read.specs.File.{Lent, Filed, Together, fileIn, placeOf, leftOf, onDisc, allThere}
+use Rattle.vat_read.specs.File.{Lent, Filed, Together, fileIn, positionOf, leftOf, onDisc, allThere}
 use Rattle.vat_read.proofs.Table.{words-part}
 
 -- ---- the blocks of an extent
@@ -84,8 +84,8 @@ Some l v n w = (0 < w) × (w % 4 ≡ 0) × (4 * v + w ≤ 4 * n) × (w ≤ leftO
 
 -- w bytes of the extents from o on stand together on the disc
 pub record Stands (d : Disc) (s : ℕ) (l : List Extent) (o w : ℕ) : Type 0 where
-  pub same : part (contents d s l) o w ≡ part (d .bytes) (placeOf s l o) w
-  pub inside : placeOf s l o + w ≤ length (d .bytes)
+  pub same : part (contents d s l) o w ≡ part (d .bytes) (positionOf s l o) w
+  pub inside : positionOf s l o + w ≤ length (d .bytes)
 
 module _ (d : Disc) (s : ℕ) where
   -- the blocks of an extent have 2,048 bytes each
@@ -96,10 +96,10 @@ module _ (d : Disc) (s : ℕ) where
 
   -- bytes in the first extent
   in-first : (x : Extent) (l : List Extent) (o w : ℕ) → 2048 * (s + x .block + blocksIn (x .size)) ≤ length (d .bytes) → o < x .size → o + w ≤ 2048 * blocksIn (x .size) → Stands d s (x ∷ l) o w
-  unfolding contents placeOf
+  unfolding contents positionOf
   in-first x l o w h lt k =
       let n = length-blocks x h in
-      let p : placeOf s (x ∷ l) o ≡ 2048 * (s + x .block) + o = rw (lt-ltb _ _ lt) in
+      let p : positionOf s (x ∷ l) o ≡ 2048 * (s + x .block) + o = rw (lt-ltb _ _ lt) in
       record {
         same =
             part-append (joined d (s + x .block) (blocksIn (x .size))) (contents d s l) o w (omega arith)
@@ -111,11 +111,11 @@ module _ (d : Disc) (s : ℕ) where
 
   -- bytes behind it
   in-later : (x : Extent) (l : List Extent) (o w : ℕ) → 2048 * (s + x .block + blocksIn (x .size)) ≤ length (d .bytes) → x .size % 2048 ≡ 0 → x .size ≤ o → Stands d s l (o - x .size) w → Stands d s (x ∷ l) o w
-  unfolding contents placeOf
+  unfolding contents positionOf
   in-later x l o w h m le st =
       let n = length-blocks x h in
       let k = blocks-whole (x .size) m in
-      let p : placeOf s (x ∷ l) o ≡ placeOf s l (o - x .size) = rw (le-ltb _ _ le) in
+      let p : positionOf s (x ∷ l) o ≡ positionOf s l (o - x .size) = rw (le-ltb _ _ le) in
       let e : o ≡ length (joined d (s + x .block) (blocksIn (x .size))) + (o - x .size) = omega arith in
       record {
         same =
@@ -266,8 +266,8 @@ module _ (bytes : List ℕ) (s : ℕ) (b : List ℕ) (t : Filed bytes s b) where
   unfolding fileIn fileOf
   embedded-part o w e h = rw (eq-eqb _ _ e) (part-part b (176 + attributes b) (fileLength b) o w h)
 
-  -- otherwise bytes of one extent stand where `placeOf` says
-  extended-part : (o w : ℕ) → (form b ≡ 3 → ⊥) → 0 < w → o + w ≤ fileLength b → w ≤ leftOf (extents b) o → (part (fileIn bytes s b) o w ≡ part bytes (placeOf s (extents b) o) w) × (placeOf s (extents b) o + w ≤ length bytes)
+  -- otherwise bytes of one extent stand where `positionOf` says
+  extended-part : (o w : ℕ) → (form b ≡ 3 → ⊥) → 0 < w → o + w ≤ fileLength b → w ≤ leftOf (extents b) o → (part (fileIn bytes s b) o w ≡ part bytes (positionOf s (extents b) o) w) × (positionOf s (extents b) o + w ≤ length bytes)
   unfolding fileIn fileOf
   extended-part o w e z h k =
       let a = extended-all e in
@@ -288,10 +288,10 @@ module _ (bytes : List ℕ) (s : ℕ) (b : List ℕ) (t : Filed bytes s b) where
   embedded-byte o e h = same-byte b (fileIn bytes s b) (176 + attributes b + o) o (sym (embedded-part o 1 e (omega arith)))
 
   -- otherwise it stands on the disc, at its place
-  pub extended-byte : (o : ℕ) → (form b ≡ 3 → ⊥) → o < fileLength b → (placeOf s (extents b) o < length bytes) × (getD bytes (placeOf s (extents b) o) 0 ≡ getD (fileIn bytes s b) o 0)
+  pub extended-byte : (o : ℕ) → (form b ≡ 3 → ⊥) → o < fileLength b → (positionOf s (extents b) o < length bytes) × (getD bytes (positionOf s (extents b) o) 0 ≡ getD (fileIn bytes s b) o 0)
   extended-byte o e h =
       let p = extended-part o 1 e (omega arith) (omega arith) (extended-sector o 1 e (omega arith) (omega arith) (omega arith)) in
-      (omega (arith, p .1), same-byte bytes (fileIn bytes s b) (placeOf s (extents b) o) o (sym (p .0)))
+      (omega (arith, p .1), same-byte bytes (fileIn bytes s b) (positionOf s (extents b) o) o (sym (p .0)))
 
   -- ---- words that stand together
 
@@ -323,13 +323,13 @@ module _ (bytes : List ℕ) (s : ℕ) (b : List ℕ) (t : Filed bytes s b) where
         (omega arith, g, omega arith, omega arith)
 
     -- lent from their place on
-    pub run-words : (w from to : ℕ) → Some (extents b) v n w → from ≡ placeOf s (extents b) (4 * v) → to ≡ from + w → (to ≤ length bytes) × Together (fileIn bytes s b) v n (take (to - from) (drop from bytes))
+    pub run-words : (w from to : ℕ) → Some (extents b) v n w → from ≡ positionOf s (extents b) (4 * v) → to ≡ from + w → (to ≤ length bytes) × Together (fileIn bytes s b) v n (take (to - from) (drop from bytes))
     unfolding part
     run-words w from to k p q =
         let x = extended-part (4 * v) w e (k .0) (omega (arith, k .2)) (k .3) in
         let m : to - from ≡ w = omega arith in
-        let y : take (to - from) (drop from bytes) ≡ part bytes (placeOf s (extents b) (4 * v)) w = ap₂ (λ (j o : ℕ). take j (drop o bytes)) m p in
-        let l : length (take (to - from) (drop from bytes)) ≡ w = ap length y ∙ length-part bytes (placeOf s (extents b) (4 * v)) w (x .1) in (
+        let y : take (to - from) (drop from bytes) ≡ part bytes (positionOf s (extents b) (4 * v)) w = ap₂ (λ (j o : ℕ). take j (drop o bytes)) m p in
+        let l : length (take (to - from) (drop from bytes)) ≡ w = ap length y ∙ length-part bytes (positionOf s (extents b) (4 * v)) w (x .1) in (
           omega (arith, x .1),
           record {
             some = omega (arith, k .0);

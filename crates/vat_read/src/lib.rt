@@ -22,7 +22,7 @@ ghost use Rattle.model.specs.Disc.{disc as discOf, sector};
 ghost use Rattle.model.specs.Vat.{vatName, countOf, entriesOf, allBelow, form, fileLength, attributes, entryFits, extents, tableFits, passes as passesAt, vatIcb, vatFile};
 ghost use Rattle.model.specs.Once.{filledFrom};
 ghost use Rattle.address.specs.Translation.{mostSectors};
-ghost use Rattle.vat_read.specs.File.{Lent, Filed, Together, fileIn, placeOf, leftOf, onDisc};
+ghost use Rattle.vat_read.specs.File.{Lent, Filed, Together, fileIn, positionOf, leftOf, onDisc};
 
 // A VAT file: entries, a regid and the previous ICB.
 const ENTRY: u64 = 4;
@@ -48,7 +48,7 @@ struct Run {
 fn run_at(s: u32, icb: &[u8], o: u64) -> Run
     requires { ⌜ (length (now icb) ≡ 2048) × (entryFits (now icb) ≡ true) ⌝ }
     requires { ⌜ onDisc (2048 * mostSectors) s (extents (now icb)) ≡ true ⌝ }
-    ensures { λ r. ⌜ (r .at ≡ placeOf s (extents (now (icb .entry))) o) × (r .bytes ≡ leftOf (extents (now (icb .entry))) o) ⌝ }
+    ensures { λ r. ⌜ (r .at ≡ positionOf s (extents (now (icb .entry))) o) × (r .bytes ≡ leftOf (extents (now (icb .entry))) o) ⌝ }
 {
     let first = ALLOCATION_AT + vat_icb::attributes_of(icb);
     let count = vat_icb::allocation_of(icb) / PAIR;

@@ -1,18 +1,18 @@
--- `disc_marks::highest_few` meets its contract. The loop's invariant: the highest so far and the highest of the marks that are left are together
--- the highest of all. Assumes nothing.
+-- `disc_marks::highest_few` meets its contract. The loop's invariant: the highestOf so far and the highestOf of the marks that are left are together
+-- the highestOf of all. Assumes nothing.
 use borrow.Author.Needs.{needs}
 use Prim.Native.Nat.{_-_, _≤_, max}
 use mathlib.Core.Path.{_≡_}
 use mathlib.Core.Logic.{⊎-elim}
 use native.Mathlib.Omega.{arith}
 use lib.ListN.{length, drop}
-use Rattle.disc_marks.specs.Marks.{highest}
+use Rattle.disc_marks.specs.Marks.{highestOf}
 use Rattle.disc_marks.proofs.Laws.{highest-next, highest-end}
 use Rattle.disc_marks.proofs.highest_few.Statement.{statement}
 use Rattle.disc_marks.proofs.highest_few.Tie as tie
 
 abbrev Inv-loop : tie.InvT-loop
-Inv-loop marks least top₀ i₀ top i = (i ≤ length marks) × (max top (highest (drop i marks)) ≡ max least (highest marks))
+Inv-loop marks least top₀ i₀ top i = (i ≤ length marks) × (max top (highestOf (drop i marks)) ≡ max least (highestOf marks))
 
 abbrev μ-loop : tie.MeasureT-loop
 μ-loop marks least top₀ i₀ top i = length marks - i

@@ -1,24 +1,24 @@
--- `disc_marks::highest_many` meets its contract. The loop's invariant: the highest so far and the highest of the marks that are left are together
--- the highest of all. Assumes nothing.
+-- `disc_marks::highest_many` meets its contract. The loop's invariant: the highestOf so far and the highestOf of the marks that are left are together
+-- the highestOf of all. Assumes nothing.
 use Prim.Native.Nat.{ℕ, _+_, _-_, _*_, _/_, _≤_, max}
 use mathlib.Core.Path.{_≡_, refl, ap, _∙_}
 use native.Mathlib.Omega.{arith}
 use borrow.Author.Needs.{needs}
 use lib.ListN.{length, take, drop, length-drop}
 use lib.Seq.{take-all, drop-drop}
-use Rattle.disc_marks.specs.Marks.{highest}
+use Rattle.disc_marks.specs.Marks.{highestOf}
 use Rattle.disc_marks.proofs.Laws.{highest-split}
 use Rattle.disc_marks.proofs.highest_many.Statement.{statement}
 use Rattle.disc_marks.proofs.highest_many.Tie as tie
 
 abbrev Inv-loop : tie.InvT-loop
-Inv-loop marks turns tops₀ turn₀ tops turn = (turn ≤ turns) × (length tops ≡ 64) × (max (highest tops) (highest (drop (64 * turn) marks)) ≡ highest marks)
+Inv-loop marks turns tops₀ turn₀ tops turn = (turn ≤ turns) × (length tops ≡ 64) × (max (highestOf tops) (highestOf (drop (64 * turn) marks)) ≡ highestOf marks)
 
 abbrev μ-loop : tie.MeasureT-loop
 μ-loop marks turns tops₀ turn₀ tops turn = turns - turn
 
 loop-holds : tie.Need-loop-holds Inv-loop μ-loop
-unfolding highest
+unfolding highestOf
 loop-holds c = (omega arith, refl, omega arith)
 
 mul-from : tie.Need-mul-from Inv-loop μ-loop
@@ -54,8 +54,8 @@ loop-again c =
     let m = c .before .before .before .before .before .before .before .args .marks .now in
     let e : 64 * l .turn + 64 - 64 * l .turn ≡ 64 = omega arith in
     let f : 64 * l .turn + 64 ≡ 64 * (l .turn + 1) = omega arith in
-    let part = ap (λ (k : ℕ). highest (take k (drop (64 * l .turn) m))) e in
-    let rest = ap highest (drop-drop 64 (64 * l .turn) m ∙ ap (λ (k : ℕ). drop k m) f) in
+    let part = ap (λ (k : ℕ). highestOf (take k (drop (64 * l .turn) m))) e in
+    let rest = ap highestOf (drop-drop 64 (64 * l .turn) m ∙ ap (λ (k : ℕ). drop k m) f) in
     (omega arith, c .before .raise .kept .0 ∙ l .inv .1, omega (arith, c .before .raise .ensures, highest-split (drop (64 * l .turn) m) 64, part, rest, l .inv .2))
 
 mul-highest-few : tie.Need-mul-highest-few Inv-loop μ-loop
@@ -85,8 +85,8 @@ returns c =
     let m = c .before .before .before .before .before .before .before .args .marks .now in
     let at : ℕ = 64 * (length m / 64) in
     let e : 64 * l .turn ≡ at = omega arith in
-    let same = ap (λ (k : ℕ). highest (drop k m)) e in
-    let rest = ap highest (take-all (length m - at) (drop at m) (simp length-drop (omega arith))) in
+    let same = ap (λ (k : ℕ). highestOf (drop k m)) e in
+    let rest = ap highestOf (take-all (length m - at) (drop at m) (simp length-drop (omega arith))) in
     omega (arith, c .before .before .highest-few .ensures, c .highest-few2 .ensures, rest, same, l .inv .2)
 
 pub highest-many-spec : {M : Type 1} → statement M

@@ -1,19 +1,19 @@
--- `disc_marks::raise` meets its contract. The loop's invariant: the highest so far and the highest of the marks that are left are together the
--- highest of both. Assumes nothing.
+-- `disc_marks::raise` meets its contract. The loop's invariant: the highestOf so far and the highestOf of the marks that are left are together the
+-- highestOf of both. Assumes nothing.
 use Prim.Native.Nat.{_-_, _≤_, max}
 use mathlib.Core.Path.{_≡_, refl, ap, _∙_}
 use mathlib.Core.Logic.{⊎-elim}
 use native.Mathlib.Omega.{arith}
 use borrow.Author.Needs.{needs}
 use lib.ListN.{length, getD, drop, length-set}
-use Rattle.disc_marks.specs.Marks.{highest}
+use Rattle.disc_marks.specs.Marks.{highestOf}
 use Rattle.disc_marks.proofs.Laws.{highest-next, highest-end, highest-above, highest-raised}
 use Rattle.disc_marks.proofs.raise.Statement.{statement}
 use Rattle.disc_marks.proofs.raise.Tie as tie
 
 abbrev Inv-loop : tie.InvT-loop
 Inv-loop tops₀ marks i₀ tops i =
-    (i ≤ 64) × (length tops ≡ length tops₀) × (max (highest tops) (highest (drop i marks)) ≡ max (highest tops₀) (highest marks))
+    (i ≤ 64) × (length tops ≡ length tops₀) × (max (highestOf tops) (highestOf (drop i marks)) ≡ max (highestOf tops₀) (highestOf marks))
 
 abbrev μ-loop : tie.MeasureT-loop
 μ-loop tops₀ marks i₀ tops i = 64 - i
@@ -45,10 +45,10 @@ loop-again c =
     ⊎-elim
     (λ w.
     let raised = highest-raised (l .tops) (l .i) (getD m (l .i) 0) (omega arith) (omega (arith, w .0 .taken)) in
-    (omega arith, ap length (w .1) ∙ length-set (l .tops) (l .i) _ ∙ l .inv .1, omega (arith, ap highest (w .1), raised, next, l .inv .2)))
+    (omega arith, ap length (w .1) ∙ length-set (l .tops) (l .i) _ ∙ l .inv .1, omega (arith, ap highestOf (w .1), raised, next, l .inv .2)))
     (λ w.
     let above = highest-above (l .tops) (l .i) in
-    (omega arith, ap length (w .1) ∙ l .inv .1, omega (arith, ap highest (w .1), above, w .0 .left, next, l .inv .2)))
+    (omega arith, ap length (w .1) ∙ l .inv .1, omega (arith, ap highestOf (w .1), above, w .0 .left, next, l .inv .2)))
     (c .if1 .came)
 
 same-length : tie.Need-same-length Inv-loop μ-loop

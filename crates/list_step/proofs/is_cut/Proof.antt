@@ -3,7 +3,7 @@ use mathlib.Core.Path.{sym, ap}
 use borrow.Author.Needs.{needs}
 use Rattle.model.specs.Calls.{isCut}
 use Rattle.list_step.specs.declared.Answered.{Answered}
-use Rattle.list_step.specs.Stepped.{answerOf}
+use Rattle.list_step.specs.Stepped.{answerIs}
 use Rattle.list_step.proofs.is_cut.Statement.{statement}
 use Rattle.list_step.proofs.is_cut.Tie as tie
 
@@ -21,19 +21,19 @@ enum-told-4 c = search needs
 
 returns : tie.Need-returns
 unfolding isCut
-returns c = sym (ap (λ (x : Answered). isCut (answerOf x)) (c .enum-told .given .1))
+returns c = sym (ap (λ (x : Answered). isCut (answerIs x)) (c .enum-told .given .1))
 
 returns-2 : tie.Need-returns-2
 unfolding isCut
-returns-2 c = sym (ap (λ (x : Answered). isCut (answerOf x)) (c .enum-told2 .given .1))
+returns-2 c = sym (ap (λ (x : Answered). isCut (answerIs x)) (c .enum-told2 .given .1))
 
 returns-3 : tie.Need-returns-3
 unfolding isCut
-returns-3 c = sym (ap (λ (x : Answered). isCut (answerOf x)) (c .enum-told3 .given .1))
+returns-3 c = sym (ap (λ (x : Answered). isCut (answerIs x)) (c .enum-told3 .given .1))
 
 returns-4 : tie.Need-returns-4
 unfolding isCut
-returns-4 c = sym (ap (λ (x : Answered). isCut (answerOf x)) (c .enum-told4 .given .1))
+returns-4 c = sym (ap (λ (x : Answered). isCut (answerIs x)) (c .enum-told4 .given .1))
 
 pub is-cut-spec : {M : Type 1} → statement M
 is-cut-spec =

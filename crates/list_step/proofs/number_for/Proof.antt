@@ -2,7 +2,7 @@
 use mathlib.Core.Path.{sym, ap, _∙_}
 use borrow.Author.Needs.{needs}
 use Rattle.list_step.specs.declared.Answered.{Answered}
-use Rattle.list_step.specs.Stepped.{answerOf, numberFor}
+use Rattle.list_step.specs.Stepped.{answerIs, numberFor}
 use Rattle.list_step.proofs.number_for.Statement.{statement}
 use Rattle.list_step.proofs.number_for.Tie as tie
 
@@ -28,7 +28,7 @@ returns-2 : tie.Need-returns-2
 returns-2 c = search needs
 
 returns-3 : tie.Need-returns-3
-returns-3 c = c .number .ensures ∙ sym (ap (λ (x : Answered). numberFor (answerOf x)) (c .before .before .a .given .1))
+returns-3 c = c .number .ensures ∙ sym (ap (λ (x : Answered). numberFor (answerIs x)) (c .before .before .a .given .1))
 
 returns-4 : tie.Need-returns-4
 returns-4 c = search needs

@@ -5,13 +5,13 @@ use native.Mathlib.Omega.{arith}
 use borrow.Author.Needs.{needs}
 use lib.ListN.{length, drop}
 use Rattle.maps.specs.Walk.{walk}
-use Rattle.maps.specs.Told.{isCut}
+use Rattle.maps.specs.Told.{isShort}
 use Rattle.maps.proofs.Walk.{uncut-end, cut-head, cut-none, cut-tail, cut-next}
 use Rattle.maps.proofs.is_short.Statement.{statement}
 use Rattle.maps.proofs.is_short.Tie as tie
 
 abbrev Inv-loop : tie.InvT-loop
-Inv-loop maps at₀ at = (at ≤ length maps) × (isCut (walk (drop at maps)) ≡ isCut (walk maps))
+Inv-loop maps at₀ at = (at ≤ length maps) × (isShort (walk (drop at maps)) ≡ isShort (walk maps))
 
 abbrev μ-loop : tie.MeasureT-loop
 μ-loop maps at₀ at = length maps - at
@@ -61,7 +61,7 @@ loop-again c =
     let at = b .before .before .loop in
     let w = c .before .before .wide in
     let maps = b .before .before .before .before .args .maps .now in
-    (omega arith, ap (λ (k : ℕ). isCut (walk (drop (at .at + k) maps))) (w .ensures .0) ∙ cut-next _ (at .at) (b .if1 .left) (omega arith) (omega arith) ∙ at .inv .1)
+    (omega arith, ap (λ (k : ℕ). isShort (walk (drop (at .at + k) maps))) (w .ensures .0) ∙ cut-next _ (at .at) (b .if1 .left) (omega arith) (omega arith) ∙ at .inv .1)
 
 returns-4 : tie.Need-returns-4 Inv-loop μ-loop
 returns-4 c = uncut-end _ _ (c .loop-test .left) ∙ c .before .loop .inv .1

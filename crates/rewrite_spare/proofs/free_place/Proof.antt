@@ -4,8 +4,8 @@ use Rattle.rewrite_spare.proofs.Spares.{free-at, free-nowhere}
 use Rattle.rewrite_spare.proofs.free_place.Statement.{statement}
 use Rattle.rewrite_spare.proofs.free_place.Tie as tie
 
-entries-held-requires : tie.Need-entries-held-requires
-entries-held-requires c κs = search needs
+count-held-requires : tie.Need-count-held-requires
+count-held-requires c κs = search needs
 
 first-free-requires : tie.Need-first-free-requires
 first-free-requires c κs = search needs
@@ -20,10 +20,10 @@ nowhere-requires : tie.Need-nowhere-requires
 nowhere-requires c κs = search needs
 
 returns : tie.Need-returns
-returns c = let z = c .before .before .before .before .before .before in free-at (z .args .table .now) (z .args .held) (c .before .before .before .before .entries-held .ensures) (c .before .before .before .first-free .ensures) (c .before .free .given .1)
+returns c = let z = c .before .before .before .before .before .before in free-at (z .args .table .now) (z .args .held) (c .before .before .before .before .count-held .ensures) (c .before .before .before .first-free .ensures) (c .before .free .given .1)
 
 returns-2 : tie.Need-returns-2
-returns-2 c = let z = c .before .before .before .before .before .before in free-nowhere (z .args .table .now) (z .args .held) (c .before .before .before .before .entries-held .ensures) (c .before .before .before .first-free .ensures) (c .nowhere .ensures) (c .before .enum-told .given .1)
+returns-2 c = let z = c .before .before .before .before .before .before in free-nowhere (z .args .table .now) (z .args .held) (c .before .before .before .before .count-held .ensures) (c .before .before .before .first-free .ensures) (c .nowhere .ensures) (c .before .enum-told .given .1)
 
 pub free-place-spec : {M : Type 1} → statement M
-free-place-spec = tie.close (tie.spec entries-held-requires first-free-requires enum-known-free enum-told nowhere-requires returns returns-2)
+free-place-spec = tie.close (tie.spec count-held-requires first-free-requires enum-known-free enum-told nowhere-requires returns returns-2)

@@ -20,8 +20,8 @@ returns-3 : tie.Need-returns-3
 returns-3 c e d span count lent sequence =
     spare-one e d (c .before .before .before .before .before .before .args .b .0) (c .before .before .before .if1 .left) (omega (arith, span, c .before .if2 .left)) (omega (arith, count, c .if3 .taken))
 
-entries-held-requires : tie.Need-entries-held-requires
-entries-held-requires c κs = search needs
+count-held-requires : tie.Need-count-held-requires
+count-held-requires c κs = search needs
 
 is-spared-requires : tie.Need-is-spared-requires
 is-spared-requires c κs = search needs
@@ -30,7 +30,7 @@ returns-4 : tie.Need-returns-4
 returns-4 c e d span count lent sequence =
     let z = c .before .before .before .before .before .before .before .before .before in
     spare-again e d (z .args .b .0) (c .before .before .before .before .before .before .if1 .left) (omega (arith, span, c .before .before .before .before .if2 .left)) (omega (arith, count, c .before .before .before .if3 .left))
-    (spared-lent e d (z .args .table .now) (z .args .held) (z .args .b .0) (c .before .before .entries-held .ensures) (c .before .is-spared .ensures) lent)
+    (spared-lent e d (z .args .table .now) (z .args .held) (z .args .b .0) (c .before .before .count-held .ensures) (c .before .is-spared .ensures) lent)
     (c .if4 .taken)
 
 has-free-requires : tie.Need-has-free-requires
@@ -40,7 +40,7 @@ returns-5 : tie.Need-returns-5
 returns-5 c e d span count lent sequence =
     let z = c .before .before .before .before .before .before .before .before .before .before .before in
     spare-none e d (z .args .b .0) (c .before .before .before .before .before .before .before .before .if1 .left) (omega (arith, span, c .before .before .before .before .before .before .if2 .left)) (omega (arith, count, c .before .before .before .before .before .if3 .left))
-    (spared-lent e d (z .args .table .now) (z .args .held) (z .args .b .0) (c .before .before .before .before .entries-held .ensures) (c .before .before .before .is-spared .ensures) lent)
+    (spared-lent e d (z .args .table .now) (z .args .held) (z .args .b .0) (c .before .before .before .before .count-held .ensures) (c .before .before .before .is-spared .ensures) lent)
     (c .before .before .if4 .left)
     (c .before .has-free .ensures ∙ sym (ap (λ (es : List Entry). not (noEntry (freeOf es))) lent))
     (c .if5 .taken)
@@ -52,7 +52,7 @@ returns-6 : tie.Need-returns-6
 returns-6 c e d span count lent sequence =
     let z = c .before .before .before .before .before .before .before .before .before .before .before .before .before in
     spare-last e d (z .args .b .0) (c .before .before .before .before .before .before .before .before .before .before .if1 .left) (omega (arith, span, c .before .before .before .before .before .before .before .before .if2 .left)) (omega (arith, count, c .before .before .before .before .before .before .before .if3 .left))
-    (spared-lent e d (z .args .table .now) (z .args .held) (z .args .b .0) (c .before .before .before .before .before .before .entries-held .ensures) (c .before .before .before .before .before .is-spared .ensures) lent)
+    (spared-lent e d (z .args .table .now) (z .args .held) (z .args .b .0) (c .before .before .before .before .before .before .count-held .ensures) (c .before .before .before .before .before .is-spared .ensures) lent)
     (c .before .before .before .before .if4 .left)
     (c .before .before .before .has-free .ensures ∙ sym (ap (λ (es : List Entry). not (noEntry (freeOf es))) lent))
     (c .before .before .if5 .left)
@@ -62,7 +62,7 @@ returns-7 : tie.Need-returns-7
 returns-7 c e d span count lent sequence =
     let z = c .before .before .before .before .before .before .before .before .before .before .before .before .before in
     spare-fits e d (z .args .b .0) (c .before .before .before .before .before .before .before .before .before .before .if1 .left) (omega (arith, span, c .before .before .before .before .before .before .before .before .if2 .left)) (omega (arith, count, c .before .before .before .before .before .before .before .if3 .left))
-    (spared-lent e d (z .args .table .now) (z .args .held) (z .args .b .0) (c .before .before .before .before .before .before .entries-held .ensures) (c .before .before .before .before .before .is-spared .ensures) lent)
+    (spared-lent e d (z .args .table .now) (z .args .held) (z .args .b .0) (c .before .before .before .before .before .before .count-held .ensures) (c .before .before .before .before .before .is-spared .ensures) lent)
     (c .before .before .before .before .if4 .left)
     (c .before .before .before .has-free .ensures ∙ sym (ap (λ (es : List Entry). not (noEntry (freeOf es))) lent))
     (c .before .before .if5 .left)
@@ -75,7 +75,7 @@ judge-sparing-spec =
     returns
     returns-2
     returns-3
-    entries-held-requires
+    count-held-requires
     is-spared-requires
     returns-4
     has-free-requires

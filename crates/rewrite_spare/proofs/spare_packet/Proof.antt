@@ -51,7 +51,7 @@ plan c =
 written : (c : tie.After-write-spared) → c .write-spared .last .0 ≡ writtenTable (sequenceOn (settingOf (c .before .before .before .before .before .before .before .before .before .before .before .before .before .before .before .before .before .before .before .before .before)) (discOf (c .before .before .before .before .before .before .before .before .before .before .before .before .before .before .before .before .before .before .before .before .before)) + 1) (sparedTable (settingOf (c .before .before .before .before .before .before .before .before .before .before .before .before .before .before .before .before .before .before .before .before .before)) (discOf (c .before .before .before .before .before .before .before .before .before .before .before .before .before .before .before .before .before .before .before .before .before)) (c .before .before .before .before .before .before .before .before .before .before .before .before .before .before .before .before .before .before .before .before .before .args .b))
 written c =
     let z = c .before .before .before .before .before .before .before .before .before .before .before .before .before .before .before .before .before .before .before .before .before in
-    spare-sector (settingOf z) (discOf z) (z .args .table .now) (z .args .held) (z .args .b) (z .args .packet .now) _ (safe (c .before .before .before .before .before .before .before .before .before .before)) (c .before .before .before .before .before .before .before .entries-held .ensures) (c .before .before .before .before .before .before .sequence-held .ensures) (c .before .before .before .before .before .next-sequence .ensures .0) (c .write-spared .ensures)
+    spare-sector (settingOf z) (discOf z) (z .args .table .now) (z .args .held) (z .args .b) (z .args .packet .now) _ (safe (c .before .before .before .before .before .before .before .before .before .before)) (c .before .before .before .before .before .before .before .count-held .ensures) (c .before .before .before .before .before .before .sequence-held .ensures) (c .before .before .before .before .before .next-sequence .ensures .0) (c .write-spared .ensures)
 
 -- the next sequence is one
 small : (c : tie.After-write-spared) → sequenceOn (settingOf (c .before .before .before .before .before .before .before .before .before .before .before .before .before .before .before .before .before .before .before .before .before)) (discOf (c .before .before .before .before .before .before .before .before .before .before .before .before .before .before .before .before .before .before .before .before .before)) + 1 < 4294967296
@@ -79,8 +79,8 @@ returns c = refused _ _ _ _ (unless-stop _ (sym (c .before .before .before .judg
 enum-told : tie.Need-enum-told
 enum-told c = search needs
 
-entries-held-requires : tie.Need-entries-held-requires
-entries-held-requires c κs = search needs
+count-held-requires : tie.Need-count-held-requires
+count-held-requires c κs = search needs
 
 sequence-held-requires : tie.Need-sequence-held-requires
 sequence-held-requires c κs = search needs
@@ -98,7 +98,7 @@ write-spared-requires : tie.Need-write-spared-requires
 write-spared-requires c κs =
     let z = c .before .before .before .before .before .before .before .before .before .before .before .before .before .before .before .before .before .before .before .before in
     let h = safe (c .before .before .before .before .before .before .before .before .before) in
-    let n = c .before .before .before .before .before .before .entries-held .ensures in
+    let n = c .before .before .before .before .before .before .count-held .ensures in
     (refl, (spare-asks (settingOf z) (discOf z) (z .args .table .now) (z .args .held) (z .args .b) (z .args .packet .now) _ h n, (spare-whole (settingOf z) (discOf z) (z .args .table .now) (z .args .held) (z .args .b) (z .args .packet .now) _ h n, spare-some (settingOf z) (discOf z) (z .args .table .now) (z .args .held) (z .args .b) (z .args .packet .now) _ h n)))
 
 slice-aggregate-write-sparing : tie.Need-slice-aggregate-write-sparing
@@ -159,7 +159,7 @@ returns-3 c =
     let h = safe (c .before .before .before .before .before .before .before .before .before .before .before .before .before .before .before .before .before .before .before .before .before .before .before .before .before .before .before) in
     carried _ _ _ _ (plan (c .before .before .before .before .before .before .before .before .before .before .before .before .before .before .before .before .before .before .before .before .before .before .before .before .before .before .before)) (spare-struck (settingOf z) (discOf z) (z .args .table .now) (z .args .held) (z .args .b) (z .args .packet .now) _ h _ (c .before .before .before .before .before .before .is-struck .ensures) (c .before .before .before .before .before .if1 .left))
     (spare-written (settingOf z) (discOf z) (z .args .table .now) (z .args .held) (z .args .b) (z .args .packet .now) _ h _ (c .before .before .before .before .before .before .before .before .before .before .before .before .before .before .before .before .before .before .before .before .before .before .before .sequence-held .ensures) (c .before .before .before .before .before .before .before .before .before .before .before .before .before .before .before .before .before .before .before .before .free-place .ensures) (written (c .before .before .before .before .before .before .before .before .before .before .before .before .before .before .before .before .before)) (c .before .before .before .before .before .before .before .before .before .before .before .before .write-sparing .ensures))
-    (spare-record (settingOf z) (discOf z) (z .args .table .now) (z .args .held) (z .args .b) (z .args .packet .now) _ h (c .before .before .before .before .before .before .before .before .before .before .before .before .before .before .before .before .before .before .before .before .before .before .before .before .entries-held .ensures) (c .before .before .before .before .before .before .before .before .before .before .before .before .before .before .before .before .before .before .before .before .before .before .before .sequence-held .ensures) (c .before .before .before .before .before .before .before .before .before .before .before .before .before .before .before .before .before .before .before .before .before .before .next-sequence .ensures .0))
+    (spare-record (settingOf z) (discOf z) (z .args .table .now) (z .args .held) (z .args .b) (z .args .packet .now) _ h (c .before .before .before .before .before .before .before .before .before .before .before .before .before .before .before .before .before .before .before .before .before .before .before .before .count-held .ensures) (c .before .before .before .before .before .before .before .before .before .before .before .before .before .before .before .before .before .before .before .before .before .before .before .sequence-held .ensures) (c .before .before .before .before .before .before .before .before .before .before .before .before .before .before .before .before .before .before .before .before .before .before .next-sequence .ensures .0))
     (spare-filled (settingOf z) (discOf z) (z .args .table .now) (z .args .held) (z .args .b) (z .args .packet .now) _ h (written (c .before .before .before .before .before .before .before .before .before .before .before .before .before .before .before .before .before)) (small (c .before .before .before .before .before .before .before .before .before .before .before .before .before .before .before .before .before)) (c .before .before .fill-table .ensures))
 
 pub spare-packet-spec : {M : Type 1} → statement M
@@ -173,7 +173,7 @@ spare-packet-spec =
     same-length-3
     returns
     enum-told
-    entries-held-requires
+    count-held-requires
     sequence-held-requires
     next-sequence-requires
     free-place-requires

@@ -8,7 +8,7 @@ use native.Mathlib.Omega.{arith}
 use borrow.Author.Needs.{needs}
 use Rattle.address.specs.Translation.{mostSectors}
 use Rattle.model.specs.Vat.{Extent, attributes, allocation, extents}
-use Rattle.vat_read.specs.File.{placeOf, leftOf, onDisc}
+use Rattle.vat_read.specs.File.{positionOf, leftOf, onDisc}
 use Rattle.vat_icb.proofs.Extents.{extentsFrom, from-start, from-end, from-zero, from-next}
 use Rattle.vat_icb.proofs.Entry.{entry-ends}
 use Rattle.vat_read.proofs.Places.{run-none, run-here, run-later, next-on-disc}
@@ -21,7 +21,7 @@ Inv-loop s icb o first count left₀ pair₀ left pair =
     × (count ≡ allocation icb / 8)
     × (first + 8 * count ≤ 2048)
     × (pair ≤ count)
-    × (placeOf s (extentsFrom icb pair) left ≡ placeOf s (extents icb) o)
+    × (positionOf s (extentsFrom icb pair) left ≡ positionOf s (extents icb) o)
     × (leftOf (extentsFrom icb pair) left ≡ leftOf (extents icb) o)
     × (onDisc (2048 * mostSectors) s (extentsFrom icb pair) ≡ true)
 
@@ -47,7 +47,7 @@ loop-holds c =
       ap (λ (m : ℕ). m / 8) n,
       omega arith,
       omega arith,
-      ap (λ (l : List Extent). placeOf (a .s) l (a .o)) (from-start (a .icb .now)),
+      ap (λ (l : List Extent). positionOf (a .s) l (a .o)) (from-start (a .icb .now)),
       ap (λ (l : List Extent). leftOf l (a .o)) (from-start (a .icb .now)),
       ap (onDisc (2048 * mostSectors) (a .s)) (from-start (a .icb .now)) ∙ c .before .before .before .pre .1,
     )
