@@ -51,21 +51,23 @@ previousIn f = unlessPrevious (first (fileTests f)) (previousOf f)
 
 -- ---- what a caller is told (of a look-up: address, Told.antt)
 
--- the number of a count of entries, and its value
+-- the number of a count of entries
 abbrev pub countedNumber : Counted → ℕ
 countedNumber (Counted.Entries n) = 0
 countedNumber (Counted.Refused why) = numberOf why
 
+-- and its value
 abbrev pub countedValues : Counted → List ℕ
 countedValues (Counted.Entries n) = n ∷ []
 countedValues (Counted.Refused why) = []
 
--- the number of a previous ICB, and its value: the block, or 0xffffffff for none
+-- the number of a previous ICB
 abbrev pub previousNumber : ToPrevious → ℕ
 previousNumber (ToPrevious.At b) = 0
 previousNumber ToPrevious.None = 0
 previousNumber (ToPrevious.Refused why) = numberOf why
 
+-- and its value: the block, or 0xffffffff for none
 abbrev pub previousValues : ToPrevious → List ℕ
 previousValues (ToPrevious.At b) = b .0 ∷ []
 previousValues ToPrevious.None = none ∷ []
