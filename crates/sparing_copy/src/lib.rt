@@ -2,6 +2,8 @@
 // one, and whether a list of spares can become one.
 // The layers above count on the equations: each function gives what the definition of its name gives.
 // All functions here are inside the layers: where one has a `requires`, the callers have tested it.
+use address::MediaBlockAddress;
+use address::PhysicalAddress;
 use maps::PACKET;
 use maps::Volume;
 use model::SECTOR;
@@ -74,25 +76,26 @@ pub fn wide32(x: u32) -> usize
 }
 
 // Whether two packets have no sector in common.
-fn is_apart(a: u32, b: u32) -> bool
-    ensures { λ r. ⌜ r ≡ apart a b ⌝ }
+fn is_apart(a: PhysicalAddress, b: PhysicalAddress) -> bool
+    ensures { λ r. ⌜ r ≡ apart (a .0) (b .0) ⌝ }
 {
-    if a < b {
-        return PACKET <= b - a;
+    if a.0 < b.0 {
+        return PACKET <= b.0 - a.0;
     }
-    PACKET <= a - b
+    PACKET <= a.0 - b.0
 }
 
 // Whether a packet is apart from every table's.
-fn is_apart_from_tables(x: Layout, m: u32) -> bool
+fn is_apart_from_tables(x: Layout, m: PhysicalAddress) -> bool
     requires { ⌜ x .count ≤ 4 ⌝ }
-    ensures { λ r. ⌜ r ≡ apartFrom m (geometryIn x .tables) ⌝ }
+    ensures { λ r. ⌜ r ≡ apartFrom (m .0) (geometryIn x .tables) ⌝ }
 {
     let tables = x.volume.tables;
     let n = wide8(x.count);
     let mut i: usize = 0;
     while i < n {
-        if !is_apart(m, tables[i]) {
+        let table = address::media_to_physical(MediaBlockAddress(tables[i]));
+        if !is_apart(m, table) {
             return false;
         }
         i += 1;
@@ -101,29 +104,30 @@ fn is_apart_from_tables(x: Layout, m: u32) -> bool
 }
 
 // Whether a packet is a whole one on the disc, outside the partition.
-fn is_outside(x: Layout, m: u32) -> bool
-    ensures { λ r. ⌜ r ≡ outside (geometryIn x) m ⌝ }
+fn is_outside(x: Layout, m: PhysicalAddress) -> bool
+    ensures { λ r. ⌜ r ≡ outside (geometryIn x) (m .0) ⌝ }
 {
-    if m % PACKET != 0 {
+    let at = m.0;
+    if at % PACKET != 0 {
         return false;
     }
-    if x.sectors < m {
+    if x.sectors < at {
         return false;
     }
-    if x.sectors - m < PACKET {
+    if x.sectors - at < PACKET {
         return false;
     }
     let span = x.volume.span;
-    if m < span.start {
-        return PACKET <= span.start - m;
+    if at < span.start {
+        return PACKET <= span.start - at;
     }
-    span.length <= m - span.start
+    span.length <= at - span.start
 }
 
 // Whether a packet may be a spare: on the disc, outside the partition and every table's packet.
-fn is_placed(x: Layout, m: u32) -> bool
+fn is_placed(x: Layout, m: PhysicalAddress) -> bool
     requires { ⌜ x .count ≤ 4 ⌝ }
-    ensures { λ r. ⌜ r ≡ placed (geometryIn x) m ⌝ }
+    ensures { λ r. ⌜ r ≡ placed (geometryIn x) (m .0) ⌝ }
 {
     if !is_outside(x, m) {
         return false;
@@ -140,11 +144,11 @@ fn original_at(b: &[u8], i: usize) -> u32
 }
 
 // Its mapped start.
-fn mapped_at(b: &[u8], i: usize) -> u32
+fn mapped_at(b: &[u8], i: usize) -> PhysicalAddress
     requires { ⌜ 64 + 8 * i ≤ length (now b) ⌝ }
-    ensures { λ r. ⌜ r ≡ entryIn (now (b .entry)) i .mapped ⌝ }
+    ensures { λ r. ⌜ r .0 ≡ entryIn (now (b .entry)) i .mapped ⌝ }
 {
-    fields::read32(b, ENTRIES_AT + ENTRY * i + MAPPED_IN)
+    address::mapped_to_physical(fields::read32(b, ENTRIES_AT + ENTRY * i + MAPPED_IN))
 }
 
 // Whether an original is that of a free spare, or a multiple of 32 below L.
@@ -204,14 +208,14 @@ fn is_ascending(b: &[u8], n: usize) -> bool
 }
 
 // Whether none of the entries from `from` to `n` is mapped to `m`.
-fn is_absent(b: &[u8], from: usize, n: usize, m: u32) -> bool
+fn is_absent(b: &[u8], from: usize, n: usize, m: PhysicalAddress) -> bool
     requires { ⌜ 56 + 8 * n ≤ length (now b) ⌝ }
-    ensures { λ r. ⌜ r ≡ absent m (mappedOf (drop from (entriesIn (now (b .entry)) n))) ⌝ }
+    ensures { λ r. ⌜ r ≡ absent (m .0) (mappedOf (drop from (entriesIn (now (b .entry)) n))) ⌝ }
 {
     let mut none = true;
     let mut i = from;
     while i < n {
-        if m == mapped_at(b, i) {
+        if m.0 == mapped_at(b, i).0 {
             none = false;
         }
         i += 1;
@@ -220,18 +224,18 @@ fn is_absent(b: &[u8], from: usize, n: usize, m: u32) -> bool
 }
 
 // The slot of a packet.
-fn slot_of(m: u32) -> usize
-    ensures { λ r. ⌜ (r ≡ m / 32 % 256) × (r < 256) ⌝ }
+fn slot_of(m: PhysicalAddress) -> usize
+    ensures { λ r. ⌜ (r ≡ m .0 / 32 % 256) × (r < 256) ⌝ }
 {
-    wide32(m / PACKET) % SLOTS
+    wide32(m.0 / PACKET) % SLOTS
 }
 
 // Whether none of the entries from `from` to `n` is mapped to `m`. Where `seen` is 0 none is, and they are
 // not looked at.
-fn is_new(b: &[u8], from: usize, n: usize, m: u32, seen: u8) -> bool
+fn is_new(b: &[u8], from: usize, n: usize, m: PhysicalAddress, seen: u8) -> bool
     requires { ⌜ 56 + 8 * n ≤ length (now b) ⌝ }
-    requires { ⌜ (seen ≡ 0 → absent m (mappedOf (drop from (entriesIn (now b) n))) ≡ true) ⌝ }
-    ensures { λ r. ⌜ r ≡ absent m (mappedOf (drop from (entriesIn (now (b .entry)) n))) ⌝ }
+    requires { ⌜ (seen ≡ 0 → absent (m .0) (mappedOf (drop from (entriesIn (now b) n))) ≡ true) ⌝ }
+    ensures { λ r. ⌜ r ≡ absent (m .0) (mappedOf (drop from (entriesIn (now (b .entry)) n))) ⌝ }
 {
     if seen == 0 {
         return true;
@@ -290,13 +294,13 @@ pub fn copy_fits(x: Layout, b: &[u8]) -> bool
 }
 
 // Whether none of the spares from `from` on is `m`.
-fn is_absent_spare(spares: &[u32], from: usize, m: u32) -> bool
-    ensures { λ r. ⌜ r ≡ absent m (mappedOf (drop from (spareEntries (now (spares .entry))))) ⌝ }
+fn is_absent_spare(spares: &[u32], from: usize, m: PhysicalAddress) -> bool
+    ensures { λ r. ⌜ r ≡ absent (m .0) (mappedOf (drop from (spareEntries (now (spares .entry))))) ⌝ }
 {
     let mut none = true;
     let mut i = from;
     while i < spares.len() {
-        if m == spares[i] {
+        if m.0 == spares[i] {
             none = false;
         }
         i += 1;
@@ -311,7 +315,7 @@ fn spares_placed(x: Layout, spares: &[u32]) -> bool
 {
     let mut i: usize = 0;
     while i < spares.len() {
-        let m = spares[i];
+        let m = address::mapped_to_physical(spares[i]);
         if !is_placed(x, m) {
             return false;
         }

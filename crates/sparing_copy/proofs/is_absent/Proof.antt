@@ -14,7 +14,7 @@ use Rattle.sparing_copy.proofs.is_absent.Statement.{statement}
 use Rattle.sparing_copy.proofs.is_absent.Tie as tie
 
 abbrev Inv-loop : tie.InvT-loop
-Inv-loop b from n m none₀ i₀ none i = none && absent m (mappedOf (drop i (entriesIn b n))) ≡ absent m (mappedOf (drop from (entriesIn b n)))
+Inv-loop b from n m none₀ i₀ none i = none && absent (m .0) (mappedOf (drop i (entriesIn b n))) ≡ absent (m .0) (mappedOf (drop from (entriesIn b n)))
 
 abbrev μ-loop : tie.MeasureT-loop
 μ-loop b from n m none₀ i₀ none i = n - i
@@ -33,14 +33,14 @@ loop-less c = search needs
 
 loop-again : tie.Need-loop-again Inv-loop μ-loop
 loop-again c =
-    let l = c .before .before in
+    let l = c .before .before .before .before in
     let v = l .before .loop in
     let a = l .before .before .before .args in
     let es = entriesIn (a .b .now) (a .n) in
     let step = sector-step (a .b .now) (a .n) (v .i) (l .loop-test .taken) in
     ⊎-elim
-    (λ w. absent-found es (v .i) _ step _ (v .none) _ _ (v .inv) (w .0 .taken ∙ c .before .mapped-at .ensures) (w .1))
-    (λ w. absent-next es (v .i) _ step _ _ _ _ (v .inv) (λ e. w .0 .left (e ∙ sym (c .before .mapped-at .ensures))) (w .1))
+    (λ w. absent-found es (v .i) _ step _ (v .none) _ _ (v .inv) (w .0 .taken ∙ c .before .before .before .mapped-at .ensures) (w .1))
+    (λ w. absent-next es (v .i) _ step _ _ _ _ (v .inv) (λ e. w .0 .left (e ∙ sym (c .before .before .before .mapped-at .ensures))) (w .1))
     (c .if1 .came)
 
 returns : tie.Need-returns Inv-loop μ-loop

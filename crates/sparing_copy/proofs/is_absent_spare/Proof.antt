@@ -14,7 +14,7 @@ use Rattle.sparing_copy.proofs.is_absent_spare.Statement.{statement}
 use Rattle.sparing_copy.proofs.is_absent_spare.Tie as tie
 
 abbrev Inv-loop : tie.InvT-loop
-Inv-loop spares from m none₀ i₀ none i = none && absent m (mappedOf (drop i (spareEntries spares))) ≡ absent m (mappedOf (drop from (spareEntries spares)))
+Inv-loop spares from m none₀ i₀ none i = none && absent (m .0) (mappedOf (drop i (spareEntries spares))) ≡ absent (m .0) (mappedOf (drop from (spareEntries spares)))
 
 abbrev μ-loop : tie.MeasureT-loop
 μ-loop spares from m none₀ i₀ none i = length spares - i
@@ -36,9 +36,9 @@ loop-less c = search needs
 
 loop-again : tie.Need-loop-again Inv-loop μ-loop
 loop-again c =
-    let v = c .before .before .before .loop in
-    let s = c .before .before .before .before .args .spares .now in
-    let step = spare-step s (v .i) (c .before .before .loop-test .taken) in
+    let v = c .before .before .before .before .loop in
+    let s = c .before .before .before .before .before .args .spares .now in
+    let step = spare-step s (v .i) (c .before .before .before .loop-test .taken) in
     ⊎-elim
     (λ w. absent-found (spareEntries s) (v .i) _ step _ (v .none) _ _ (v .inv) (w .0 .taken) (w .1))
     (λ w. absent-next (spareEntries s) (v .i) _ step _ _ _ _ (v .inv) (w .0 .left) (w .1))

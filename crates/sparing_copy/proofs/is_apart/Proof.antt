@@ -8,10 +8,10 @@ sub-result : tie.Need-sub-result
 sub-result c = search needs
 
 returns : tie.Need-returns
-returns c = apart-below _ _ (c .if1 .taken)
+returns c = apart-below _ _ (c .before .before .if1 .taken)
 
 returns-2 : tie.Need-returns-2
-returns-2 c = apart-above _ _ (c .if1 .left)
+returns-2 c = apart-above _ _ (c .before .before .if1 .left)
 
 pub is-apart-spec : {M : Type 1} → statement M
 is-apart-spec = tie.close (tie.spec sub-result returns returns-2)

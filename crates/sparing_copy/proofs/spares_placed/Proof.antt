@@ -21,20 +21,23 @@ abbrev μ-loop : tie.MeasureT-loop
 loop-holds : tie.Need-loop-holds Inv-loop μ-loop
 loop-holds c = refl
 
-mul-m : tie.Need-mul-m Inv-loop μ-loop
-mul-m c = search needs
+mul-mapped-to-physical : tie.Need-mul-mapped-to-physical Inv-loop μ-loop
+mul-mapped-to-physical c = search needs
 
-shared-slice-read-m : tie.Need-shared-slice-read-m Inv-loop μ-loop
-shared-slice-read-m c = search needs
+shared-slice-read-mapped-to-physical : tie.Need-shared-slice-read-mapped-to-physical Inv-loop μ-loop
+shared-slice-read-mapped-to-physical c = search needs
+
+mapped-to-physical-requires : tie.Need-mapped-to-physical-requires Inv-loop μ-loop
+mapped-to-physical-requires c κs = search needs
 
 is-placed-requires : tie.Need-is-placed-requires Inv-loop μ-loop
 is-placed-requires c κs = search needs
 
 returns : tie.Need-returns Inv-loop μ-loop
 returns c =
-    let v = c .before .before .before .before in
+    let v = c .before .before .before .before .before in
     let s = v .before .before .args .spares .now in
-    mapped-off (spareEntries s) (v .loop .i) _ (spare-step s (v .loop .i) (c .before .before .before .loop-test .taken)) _ _ refl _ (c .before .is-placed .ensures) (not-true _ (c .if1 .taken))
+    mapped-off (spareEntries s) (v .loop .i) _ (spare-step s (v .loop .i) (c .before .before .before .before .loop-test .taken)) _ _ (c .before .before .mapped-to-physical .ensures) _ (c .before .is-placed .ensures) (not-true _ (c .if1 .taken))
     ∙ v .loop .inv
 
 add-is-absent-spare : tie.Need-add-is-absent-spare Inv-loop μ-loop
@@ -46,9 +49,9 @@ is-absent-spare-requires c κs = search needs
 returns-2 : tie.Need-returns-2 Inv-loop μ-loop
 returns-2 c =
     let p = c .before .before in
-    let v = p .before .before .before .before in
+    let v = p .before .before .before .before .before in
     let s = v .before .before .args .spares .now in
-    mapped-twice (spareEntries s) (v .loop .i) _ (spare-step s (v .loop .i) (p .before .before .before .loop-test .taken)) _ _ refl _ _ (p .before .is-placed .ensures) (not-false _ (p .if1 .left)) (c .before .is-absent-spare .ensures) (not-true _ (c .if2 .taken))
+    mapped-twice (spareEntries s) (v .loop .i) _ (spare-step s (v .loop .i) (p .before .before .before .before .loop-test .taken)) _ _ (p .before .before .mapped-to-physical .ensures) _ _ (p .before .is-placed .ensures) (not-false _ (p .if1 .left)) (c .before .is-absent-spare .ensures) (not-true _ (c .if2 .taken))
     ∙ v .loop .inv
 
 add-i : tie.Need-add-i Inv-loop μ-loop
@@ -60,9 +63,9 @@ loop-less c = search needs
 loop-again : tie.Need-loop-again Inv-loop μ-loop
 loop-again c =
     let p = c .before .before in
-    let v = p .before .before .before .before in
+    let v = p .before .before .before .before .before in
     let s = v .before .before .args .spares .now in
-    mapped-next (spareEntries s) (v .loop .i) _ (spare-step s (v .loop .i) (p .before .before .before .loop-test .taken)) _ _ refl _ _ (p .before .is-placed .ensures) (not-false _ (p .if1 .left)) (c .before .is-absent-spare .ensures) (not-false _ (c .if2 .left))
+    mapped-next (spareEntries s) (v .loop .i) _ (spare-step s (v .loop .i) (p .before .before .before .before .loop-test .taken)) _ _ (p .before .before .mapped-to-physical .ensures) _ _ (p .before .is-placed .ensures) (not-false _ (p .if1 .left)) (c .before .is-absent-spare .ensures) (not-false _ (c .if2 .left))
     ∙ v .loop .inv
 
 returns-3 : tie.Need-returns-3 Inv-loop μ-loop
@@ -78,8 +81,9 @@ spares-placed-spec =
     Inv-loop
     μ-loop
     loop-holds
-    mul-m
-    shared-slice-read-m
+    mul-mapped-to-physical
+    shared-slice-read-mapped-to-physical
+    mapped-to-physical-requires
     is-placed-requires
     returns
     add-is-absent-spare
