@@ -1,5 +1,4 @@
 // A line of the file stdin: a name, of which the first four letters count, and numbers, each behind a blank.
-ghost use mathlib.Core.Path.{_≡_};
 ghost use Prim.Native.Nat.{_≤_, _<_};
 ghost use lib.ListN.{length};
 
@@ -26,18 +25,12 @@ fn letter(line: &[u8], at: usize) -> u8 {
     b' '
 }
 
-fn wide(x: u8) -> u32
-    ensures { λ r. ⌜ (r ≡ x) × (r < 256) ⌝ }
-{
-    x as u32
-}
-
 // The first four letters as a number of 4 bytes.
 pub fn name(line: &[u8]) -> u32 {
-    wide(letter(line, 0))
-        + 256 * wide(letter(line, 1))
-        + 65536 * wide(letter(line, 2))
-        + 16777216 * wide(letter(line, 3))
+    fields::u32_of_u8(letter(line, 0))
+        + 256 * fields::u32_of_u8(letter(line, 1))
+        + 65536 * fields::u32_of_u8(letter(line, 2))
+        + 16777216 * fields::u32_of_u8(letter(line, 3))
 }
 
 // Where word number n begins, the name being number 0; the line's end where there is none.
@@ -59,7 +52,7 @@ fn word(line: &[u8], n: usize) -> usize
 
 // A number with a digit more, modulo 2 to the 32nd power.
 fn onward(value: u32, digit: u8) -> u32 {
-    ((value as u64 * 10 + (wide(digit) % 16) as u64) % 4294967296) as u32
+    ((value as u64 * 10 + (fields::u32_of_u8(digit) % 16) as u64) % 4294967296) as u32
 }
 
 // Number n of the line, in decimal digits; 0 where there is none.

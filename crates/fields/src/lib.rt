@@ -1,5 +1,5 @@
 // Fields of a structure on disc, read from lent bytes: little-endian numbers of 2, 4 and 8 bytes, and regids
-// (document 01, first paragraph and "The disc and its addresses"); and bytes compared.
+// (document 01, first paragraph and "The disc and its addresses"); bytes compared; and numbers in a wider type.
 // The layers above count on the equations, and on the laws that what fields_written writes reads back.
 // All functions here are inside the layers: each requires that its field lies in the lent bytes.
 ghost use mathlib.Core.Path.{_≡_};
@@ -13,23 +13,41 @@ const FLAGS_AT: usize = 0;
 
 const SUFFIX_AT: usize = 24;
 
-// A byte, and a number of 4 bytes, in a wider type.
-fn wide16(x: u8) -> u16
+// A number in a wider type, with the bound of its own.
+pub fn u16_of_u8(x: u8) -> u16
     ensures { λ r. ⌜ (r ≡ x) × (r < 256) ⌝ }
 {
     x as u16
 }
 
-fn wide32(x: u8) -> u32
+pub fn u32_of_u8(x: u8) -> u32
     ensures { λ r. ⌜ (r ≡ x) × (r < 256) ⌝ }
 {
     x as u32
 }
 
-fn wide64(x: u32) -> u64
+pub fn u64_of_u32(x: u32) -> u64
     ensures { λ r. ⌜ (r ≡ x) × (r < 4294967296) ⌝ }
 {
     x as u64
+}
+
+pub fn usize_of_u8(x: u8) -> usize
+    ensures { λ r. ⌜ (r ≡ x) × (r < 256) ⌝ }
+{
+    x as usize
+}
+
+pub fn usize_of_u16(x: u16) -> usize
+    ensures { λ r. ⌜ (r ≡ x) × (r < 65536) ⌝ }
+{
+    x as usize
+}
+
+pub fn usize_of_u32(x: u32) -> usize
+    ensures { λ r. ⌜ (r ≡ x) × (r < 4294967296) ⌝ }
+{
+    x as usize
 }
 
 // The number of 2 bytes at `at`.
@@ -37,7 +55,7 @@ pub fn read16(s: &[u8], at: usize) -> u16
     requires { ⌜ at + 2 ≤ length (now s) ⌝ }
     ensures { λ r. ⌜ r ≡ field (now (s .entry)) at 2 ⌝ }
 {
-    wide16(s[at]) + 256 * wide16(s[at + 1])
+    u16_of_u8(s[at]) + 256 * u16_of_u8(s[at + 1])
 }
 
 // The number of 4 bytes at `at`.
@@ -45,10 +63,10 @@ pub fn read32(s: &[u8], at: usize) -> u32
     requires { ⌜ at + 4 ≤ length (now s) ⌝ }
     ensures { λ r. ⌜ r ≡ field (now (s .entry)) at 4 ⌝ }
 {
-    wide32(s[at])
-        + 256 * wide32(s[at + 1])
-        + 65536 * wide32(s[at + 2])
-        + 16777216 * wide32(s[at + 3])
+    u32_of_u8(s[at])
+        + 256 * u32_of_u8(s[at + 1])
+        + 65536 * u32_of_u8(s[at + 2])
+        + 16777216 * u32_of_u8(s[at + 3])
 }
 
 // The number of 8 bytes at `at`.
@@ -56,7 +74,7 @@ pub fn read64(s: &[u8], at: usize) -> u64
     requires { ⌜ at + 8 ≤ length (now s) ⌝ }
     ensures { λ r. ⌜ r ≡ field (now (s .entry)) at 8 ⌝ }
 {
-    wide64(read32(s, at)) + 4294967296 * wide64(read32(s, at + 4))
+    u64_of_u32(read32(s, at)) + 4294967296 * u64_of_u32(read32(s, at + 4))
 }
 
 // Whether the regid at `at` has the flags and the identifier of this one; no suffix is looked at. It looks at

@@ -104,13 +104,6 @@ pub struct MapsRead {
     pub volume: Volume,
 }
 
-// A byte as a number of bytes or of tables.
-fn wide(x: u8) -> usize
-    ensures { λ r. ⌜ (r ≡ x) × (r < 256) ⌝ }
-{
-    x as usize
-}
-
 // A reading that is turned down.
 fn refused(why: Refusal) -> MapsRead
     ensures { λ r. ⌜ r ≡ answered (Verdict.Stop why) noVolume ⌝ }
@@ -155,7 +148,7 @@ fn is_short(maps: &[u8]) -> bool
         if left < HEAD_BYTES {
             return true;
         }
-        let bytes = wide(maps[at + LENGTH_AT]);
+        let bytes = fields::usize_of_u8(maps[at + LENGTH_AT]);
         if bytes < 1 {
             return true;
         }
@@ -307,7 +300,7 @@ fn read_rewritable(maps: &[u8]) -> MapsRead
     ensures { λ r. ⌜ r ≡ readMaps (now (maps .entry)) ⌝ }
 {
     let tables = maps[TABLES_AT];
-    let n = wide(tables);
+    let n = fields::usize_of_u8(tables);
     let sectors = table_sectors(maps, n);
     if !tables_apart(sectors, n) {
         return refused(Refusal::Misaligned);

@@ -48,13 +48,6 @@ const RESERVED_AT: usize = 2;
 // The bytes of a write-once list.
 const WRITE_ONCE_BYTES: usize = TYPE_ONE_BYTES + TYPE_TWO_BYTES;
 
-// A byte as a number of tables.
-fn wide(x: u8) -> usize
-    ensures { λ r. ⌜ (r ≡ x) × (r < 256) ⌝ }
-{
-    x as usize
-}
-
 // Writes a type 1 map into the first bytes lent.
 fn put_type_one(map: &mut [u8], partition: u16)
     requires { ⌜ 6 ≤ length (now map) ⌝ }
@@ -110,7 +103,7 @@ fn put_rewritable(out: &mut [u8], partition: u16, tables: u8, size: u32, sectors
     fields_written::write16(out, PACKET_LENGTH_AT, PACKET_LENGTH);
     out[TABLES_AT] = tables;
     fields_written::write32(out, SIZE_AT, size);
-    put_sectors(out, sectors, wide(tables));
+    put_sectors(out, sectors, fields::usize_of_u8(tables));
 }
 
 // Writes a volume's map list into all bytes lent, or leaves them as they came. The volume's span is not
@@ -139,7 +132,7 @@ pub fn write_maps(volume: Volume, out: &mut [u8]) -> Verdict
             if !maps::tables_in_range(tables, size) {
                 return Verdict::Stop(Refusal::NeitherKind);
             }
-            if !maps::tables_apart(sectors, wide(tables)) {
+            if !maps::tables_apart(sectors, fields::usize_of_u8(tables)) {
                 return Verdict::Stop(Refusal::Misaligned);
             }
             put_rewritable(out, partition, tables, size, sectors);

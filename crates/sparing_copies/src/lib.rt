@@ -53,7 +53,7 @@ pub fn nowhere() -> PhysicalAddress
 fn start_of(t: PhysicalAddress) -> usize
     ensures { λ r. ⌜ (r ≡ 2048 * t .0) × (t .0 < 4294967296) ⌝ }
 {
-    SECTOR * sparing_copy::wide32(t.0)
+    SECTOR * fields::usize_of_u32(t.0)
 }
 
 // Whether the copy at sector `t` counts.
@@ -63,7 +63,7 @@ fn copy_counts(disc: &[u8], marks: &[u8], x: Layout, t: PhysicalAddress) -> bool
     requires { ⌜ t .0 < length (now marks) ⌝ }
     ensures { λ r. ⌜ r ≡ counts (discOf (now (disc .entry)) (now (marks .entry))) (geometryIn x) (t .0) ⌝ }
 {
-    let at = sparing_copy::wide32(t.0);
+    let at = fields::usize_of_u32(t.0);
     if marks[at] != RECORDED {
         return false;
     }
@@ -94,7 +94,7 @@ fn same_copy(disc: &[u8], t: PhysicalAddress, other: PhysicalAddress) -> bool
     requires { ⌜ ((marks : List ℕ) → 56 + 8 * countIn (sector (discOf (now disc) marks) (other .0)) ≤ 2048) ⌝ }
     ensures { λ r. ⌜ ((marks : List ℕ) → r ≡ same (usedAt (discOf (now (disc .entry)) marks) (other .0) (t .0)) (usedAt (discOf (now (disc .entry)) marks) (other .0) (other .0))) ⌝ }
 {
-    let used = ENTRIES_AT + ENTRY * sparing_copy::wide16(count_at(disc, other));
+    let used = ENTRIES_AT + ENTRY * fields::usize_of_u16(count_at(disc, other));
     let a = start_of(t);
     let b = start_of(other);
     let end_a = a + used;
@@ -120,7 +120,7 @@ pub fn counts_beside(
     if !same_copy(disc, t, at) {
         return copy_counts(disc, marks, x, t);
     }
-    let i = sparing_copy::wide32(t.0);
+    let i = fields::usize_of_u32(t.0);
     marks[i] == RECORDED
 }
 
@@ -134,7 +134,7 @@ fn same_table(disc: &[u8], t: PhysicalAddress, other: PhysicalAddress) -> bool
     if n != count_at(disc, other) {
         return false;
     }
-    let bytes = ENTRY * sparing_copy::wide16(n);
+    let bytes = ENTRY * fields::usize_of_u16(n);
     let a = start_of(t) + ENTRIES_AT;
     let b = start_of(other) + ENTRIES_AT;
     let end_a = a + bytes;
@@ -195,7 +195,7 @@ fn newest_copy(disc: &[u8], marks: &[u8], x: Layout) -> Newest
         at: nowhere(),
         sequence: 0,
     };
-    let mut i = sparing_copy::wide8(x.count);
+    let mut i = fields::usize_of_u8(x.count);
     while 0 < i {
         i -= 1;
         let t = address::media_to_physical(MediaBlockAddress(tables[i]));
@@ -242,7 +242,7 @@ fn copies_agree(disc: &[u8], marks: &[u8], x: Layout, at: PhysicalAddress, seque
     ensures { λ r. ⌜ r ≡ agreeing (discOf (now (disc .entry)) (now (marks .entry))) (geometryIn x) (at .0) sequence (geometryIn x .tables) ⌝ }
 {
     let tables = x.volume.tables;
-    let n = sparing_copy::wide8(x.count);
+    let n = fields::usize_of_u8(x.count);
     let mut i: usize = 0;
     while i < n {
         let t = address::media_to_physical(MediaBlockAddress(tables[i]));

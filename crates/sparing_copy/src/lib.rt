@@ -56,25 +56,6 @@ pub struct Layout {
     pub size: u32,
 }
 
-// A number in a wider type.
-pub fn wide8(x: u8) -> usize
-    ensures { λ r. ⌜ (r ≡ x) × (r < 256) ⌝ }
-{
-    x as usize
-}
-
-pub fn wide16(x: u16) -> usize
-    ensures { λ r. ⌜ (r ≡ x) × (r < 65536) ⌝ }
-{
-    x as usize
-}
-
-pub fn wide32(x: u32) -> usize
-    ensures { λ r. ⌜ (r ≡ x) × (r < 4294967296) ⌝ }
-{
-    x as usize
-}
-
 // Whether two packets have no sector in common.
 fn is_apart(a: PhysicalAddress, b: PhysicalAddress) -> bool
     ensures { λ r. ⌜ r ≡ apart (a .0) (b .0) ⌝ }
@@ -91,7 +72,7 @@ fn is_apart_from_tables(x: Layout, m: PhysicalAddress) -> bool
     ensures { λ r. ⌜ r ≡ apartFrom (m .0) (geometryIn x .tables) ⌝ }
 {
     let tables = x.volume.tables;
-    let n = wide8(x.count);
+    let n = fields::usize_of_u8(x.count);
     let mut i: usize = 0;
     while i < n {
         let table = address::media_to_physical(MediaBlockAddress(tables[i]));
@@ -227,7 +208,7 @@ fn is_absent(b: &[u8], from: usize, n: usize, m: PhysicalAddress) -> bool
 fn slot_of(m: PhysicalAddress) -> usize
     ensures { λ r. ⌜ (r ≡ m .0 / 32 % 256) × (r < 256) ⌝ }
 {
-    wide32(m.0 / PACKET) % SLOTS
+    fields::usize_of_u32(m.0 / PACKET) % SLOTS
 }
 
 // Whether none of the entries from `from` to `n` is mapped to `m`. Where `seen` is 0 none is, and they are
@@ -280,8 +261,8 @@ pub fn copy_fits(x: Layout, b: &[u8]) -> bool
     if !fields::has_regid(b, REGID_AT, &REGID) {
         return false;
     }
-    let n = wide16(fields::read16(b, COUNT_AT));
-    if wide32(x.size) < ENTRIES_AT + ENTRY * n {
+    let n = fields::usize_of_u16(fields::read16(b, COUNT_AT));
+    if fields::usize_of_u32(x.size) < ENTRIES_AT + ENTRY * n {
         return false;
     }
     if !originals_fit(b, n, x.volume.span.length) {
@@ -336,7 +317,7 @@ pub fn spares_fit(x: Layout, spares: &[u32]) -> bool
     if MOST_ENTRIES < spares.len() {
         return false;
     }
-    if wide32(x.size) < ENTRIES_AT + ENTRY * spares.len() {
+    if fields::usize_of_u32(x.size) < ENTRIES_AT + ENTRY * spares.len() {
         return false;
     }
     spares_placed(x, spares)

@@ -46,7 +46,7 @@ pub fn is_same(b: &[u8], table: &[u32], r: u32) -> bool
     requires { ⌜ (r ≡ countIn (now b)) × (56 + 8 * r ≤ 2048) × (2 * r ≤ length (now table)) ⌝ }
     ensures { λ s. ⌜ s ≡ same (take (2 * r) (now (table .entry))) (tableIn (now (b .entry))) ⌝ }
 {
-    let n = 2 * sparing_copy::wide32(r);
+    let n = 2 * fields::usize_of_u32(r);
     let mut i: usize = 0;
     while i < n {
         if table[i] != number_at(b, i) {
@@ -63,7 +63,7 @@ pub fn fill_table(b: &[u8], table: &mut [u32])
     requires { ⌜ (56 + 8 * countIn (now b) ≤ 2048) × (2 * countIn (now b) ≤ length (now table)) ⌝ }
     ensures { λ _. ⌜ now (table .exit) ≡ filledFrom (tableIn (now (b .entry))) (now (table .entry)) ⌝ }
 {
-    let n = 2 * sparing_copy::wide16(fields::read16(b, COUNT_AT));
+    let n = 2 * fields::usize_of_u16(fields::read16(b, COUNT_AT));
     let mut k: usize = 0;
     while k < n {
         table[k] = number_at(b, k);
@@ -107,7 +107,7 @@ pub fn find_packet(table: &[u32], r: u32, s: u32, p: LogicalAddress) -> Physical
     requires { ⌜ (p .0 % 32 ≡ 0) × (s + p .0 < 2 ^ 32) ⌝ }
     ensures { λ a. ⌜ a .0 ≡ locate s (entries (take (2 * r) (now (table .entry)))) (p .0) ⌝ }
 {
-    let n = sparing_copy::wide32(r);
+    let n = fields::usize_of_u32(r);
     let i = find_entry(table, n, p.0);
     if i < n {
         return address::mapped_to_physical(table[2 * i + 1]);
@@ -120,7 +120,7 @@ pub fn is_spared(table: &[u32], r: u32, p: LogicalAddress) -> bool
     requires { ⌜ 2 * r ≤ length (now table) ⌝ }
     ensures { λ s. ⌜ s ≡ isSpared (spotOf (entries (take (2 * r) (now (table .entry)))) (p .0)) ⌝ }
 {
-    let n = sparing_copy::wide32(r);
+    let n = fields::usize_of_u32(r);
     find_entry(table, n, p.0) < n
 }
 
@@ -129,7 +129,7 @@ pub fn first_free(table: &[u32], r: u32) -> FirstFree
     requires { ⌜ 2 * r ≤ length (now table) ⌝ }
     ensures { λ f. ⌜ f ≡ freeIn (freeOf (entries (take (2 * r) (now (table .entry))))) ⌝ }
 {
-    let n = sparing_copy::wide32(r);
+    let n = fields::usize_of_u32(r);
     let i = find_entry(table, n, FREE);
     if i < n {
         return FirstFree::At(address::mapped_to_physical(table[2 * i + 1]));
@@ -203,7 +203,7 @@ pub fn write_spared(sector: &mut [u8], table: &[u32], r: u32, p: LogicalAddress,
     requires { ⌜ noEntry (freeOf (entries (take (2 * r) (now table)))) ≡ false ⌝ }
     ensures { λ _. ⌜ now (sector .exit) ≡ writtenTable sequence (flat (resorted (entries (take (2 * r) (now (table .entry)))) (p .0))) ⌝ }
 {
-    let n = sparing_copy::wide32(r);
+    let n = fields::usize_of_u32(r);
     let place = find_above(table, n, p);
     let free = find_entry(table, n, FREE);
     begin_table(sector, r as u16, sequence);

@@ -52,13 +52,6 @@ const EXTENT_LENGTH_AT: usize = 0;
 
 const EXTENT: u32 = PAIR as u32;
 
-// A number of 4 bytes as one of 8.
-fn wide(x: u32) -> u64
-    ensures { λ r. ⌜ r ≡ x ⌝ }
-{
-    x as u64
-}
-
 // The form of the allocation of n entries.
 fn form_of(n: u32) -> u16
     requires { ⌜ n ≤ 4096 ⌝ }
@@ -94,9 +87,13 @@ fn write_entry(front: &mut [u8], n: u32)
     fields_written::write64(
         front,
         INFORMATION_LENGTH_AT,
-        wide(vat_file_written::file_bytes(n)),
+        fields::u64_of_u32(vat_file_written::file_bytes(n)),
     );
-    fields_written::write64(front, BLOCKS_AT, wide(vat_file_written::data_sectors(n)));
+    fields_written::write64(
+        front,
+        BLOCKS_AT,
+        fields::u64_of_u32(vat_file_written::data_sectors(n)),
+    );
     fields_written::write32(front, ATTRIBUTES_AT, ATTRIBUTES);
     fields_written::write32(front, ALLOCATION_LENGTH_AT, allocation_bytes(n));
 }

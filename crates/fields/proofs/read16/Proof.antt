@@ -5,20 +5,20 @@ use Rattle.fields.proofs.Laws.{field-2}
 use Rattle.fields.proofs.read16.Statement.{statement}
 use Rattle.fields.proofs.read16.Tie as tie
 
-shared-slice-read-wide16 : tie.Need-shared-slice-read-wide16
-shared-slice-read-wide16 c = search needs
+shared-slice-read-u16-of-u8 : tie.Need-shared-slice-read-u16-of-u8
+shared-slice-read-u16-of-u8 c = search needs
 
-wide16-requires : tie.Need-wide16-requires
-wide16-requires c κs = search needs
+u16-of-u8-requires : tie.Need-u16-of-u8-requires
+u16-of-u8-requires c κs = search needs
 
-add-wide16 : tie.Need-add-wide16
-add-wide16 c = search needs
+add-u16-of-u8 : tie.Need-add-u16-of-u8
+add-u16-of-u8 c = search needs
 
-shared-slice-read-wide16-2 : tie.Need-shared-slice-read-wide16-2
-shared-slice-read-wide16-2 c = search needs
+shared-slice-read-u16-of-u8-2 : tie.Need-shared-slice-read-u16-of-u8-2
+shared-slice-read-u16-of-u8-2 c = search needs
 
-wide16-requires-2 : tie.Need-wide16-requires-2
-wide16-requires-2 c κs = search needs
+u16-of-u8-requires-2 : tie.Need-u16-of-u8-requires-2
+u16-of-u8-requires-2 c κs = search needs
 
 mul-result : tie.Need-mul-result
 mul-result c = search needs
@@ -35,11 +35,11 @@ pub read16-spec : {M : Type 1} → statement M
 read16-spec =
     tie.close
     (tie.spec
-    shared-slice-read-wide16
-    wide16-requires
-    add-wide16
-    shared-slice-read-wide16-2
-    wide16-requires-2
+    shared-slice-read-u16-of-u8
+    u16-of-u8-requires
+    add-u16-of-u8
+    shared-slice-read-u16-of-u8-2
+    u16-of-u8-requires-2
     mul-result
     add-result
     returns)

@@ -8,8 +8,8 @@ use Rattle.fields.proofs.read64.Tie as tie
 read32-requires : tie.Need-read32-requires
 read32-requires c κs = search needs
 
-wide64-requires : tie.Need-wide64-requires
-wide64-requires c κs = search needs
+u64-of-u32-requires : tie.Need-u64-of-u32-requires
+u64-of-u32-requires c κs = search needs
 
 add-read32 : tie.Need-add-read32
 add-read32 c = search needs
@@ -17,8 +17,8 @@ add-read32 c = search needs
 read32-requires-2 : tie.Need-read32-requires-2
 read32-requires-2 c κs = search needs
 
-wide64-requires-2 : tie.Need-wide64-requires-2
-wide64-requires-2 c κs = search needs
+u64-of-u32-requires-2 : tie.Need-u64-of-u32-requires-2
+u64-of-u32-requires-2 c κs = search needs
 
 mul-result : tie.Need-mul-result
 mul-result c = search needs
@@ -36,10 +36,10 @@ read64-spec =
     tie.close
     (tie.spec
     read32-requires
-    wide64-requires
+    u64-of-u32-requires
     add-read32
     read32-requires-2
-    wide64-requires-2
+    u64-of-u32-requires-2
     mul-result
     add-result
     returns)

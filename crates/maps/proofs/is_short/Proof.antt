@@ -27,14 +27,14 @@ returns c =
     let at = c .before .before .loop in
     cut-head _ (at .at) (omega arith) (c .if1 .taken) ∙ at .inv .1
 
-add-wide : tie.Need-add-wide Inv-loop μ-loop
-add-wide c = search needs
+add-usize-of-u8 : tie.Need-add-usize-of-u8 Inv-loop μ-loop
+add-usize-of-u8 c = search needs
 
-shared-slice-read-wide : tie.Need-shared-slice-read-wide Inv-loop μ-loop
-shared-slice-read-wide c = search needs
+shared-slice-read-usize-of-u8 : tie.Need-shared-slice-read-usize-of-u8 Inv-loop μ-loop
+shared-slice-read-usize-of-u8 c = search needs
 
-wide-requires : tie.Need-wide-requires Inv-loop μ-loop
-wide-requires c κs = search needs
+usize-of-u8-requires : tie.Need-usize-of-u8-requires Inv-loop μ-loop
+usize-of-u8-requires c κs = search needs
 
 returns-2 : tie.Need-returns-2 Inv-loop μ-loop
 returns-2 c =
@@ -46,7 +46,7 @@ returns-3 : tie.Need-returns-3 Inv-loop μ-loop
 returns-3 c =
     let b = c .before .before .before .before in
     let at = b .before .before .loop in
-    let w = c .before .before .wide in
+    let w = c .before .before .usize-of-u8 in
     cut-tail _ (at .at) (b .if1 .left) (omega arith) (omega arith) ∙ at .inv .1
 
 add-at : tie.Need-add-at Inv-loop μ-loop
@@ -59,7 +59,7 @@ loop-again : tie.Need-loop-again Inv-loop μ-loop
 loop-again c =
     let b = c .before .before .before .before in
     let at = b .before .before .loop in
-    let w = c .before .before .wide in
+    let w = c .before .before .usize-of-u8 in
     let maps = b .before .before .before .before .args .maps .now in
     (omega arith, ap (λ (k : ℕ). isShort (walk (drop (at .at + k) maps))) (w .ensures .0) ∙ cut-next _ (at .at) (b .if1 .left) (omega arith) (omega arith) ∙ at .inv .1)
 
@@ -75,9 +75,9 @@ is-short-spec =
     loop-holds
     sub-left
     returns
-    add-wide
-    shared-slice-read-wide
-    wide-requires
+    add-usize-of-u8
+    shared-slice-read-usize-of-u8
+    usize-of-u8-requires
     returns-2
     returns-3
     add-at

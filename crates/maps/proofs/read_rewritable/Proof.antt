@@ -17,8 +17,8 @@ use Rattle.maps.proofs.read_rewritable.Tie as tie
 shared-slice-read-tables : tie.Need-shared-slice-read-tables
 shared-slice-read-tables c = let m = rewritable-map _ (c .before .before .pre) in omega arith
 
-wide-requires : tie.Need-wide-requires
-wide-requires c κs = search needs
+usize-of-u8-requires : tie.Need-usize-of-u8-requires
+usize-of-u8-requires c κs = search needs
 
 table-sectors-requires : tie.Need-table-sectors-requires
 table-sectors-requires c κs = let m = rewritable-map _ (c .before .before .before .pre) in omega (arith, rewritable-tables _ m)
@@ -33,13 +33,13 @@ refused-requires c κs = search needs
 sectors : (c : tie.After-table-sectors) → let s = c .before .before .before .before .args .maps .now in c .table-sectors .result ≡ used (getD s 42 0) (words s 48 4)
 sectors c =
     let s = c .before .before .before .before .args .maps .now in
-    c .table-sectors .ensures ∙ ap (λ (k : ℕ). used k (words s 48 4)) (c .before .wide .ensures .0)
+    c .table-sectors .ensures ∙ ap (λ (k : ℕ). used k (words s 48 4)) (c .before .usize-of-u8 .ensures .0)
 
 apart : (c : tie.After-tables-apart) → let s = c .before .before .before .before .before .args .maps .now in c .tables-apart .result ≡ tablesApart (take (getD s 42 0) (used (getD s 42 0) (words s 48 4)))
 apart c =
     let s = c .before .before .before .before .before .args .maps .now in
     c .tables-apart .ensures
-    ∙ ap (λ (k : ℕ). tablesApart (take k (c .before .table-sectors .result))) (c .before .before .wide .ensures .0)
+    ∙ ap (λ (k : ℕ). tablesApart (take k (c .before .table-sectors .result))) (c .before .before .usize-of-u8 .ensures .0)
     ∙ ap (λ (x : List ℕ). tablesApart (take (getD s 42 0) x)) (sectors (c .before))
 
 returns : tie.Need-returns
@@ -74,7 +74,7 @@ read-rewritable-spec =
     tie.close
     (tie.spec
     shared-slice-read-tables
-    wide-requires
+    usize-of-u8-requires
     table-sectors-requires
     tables-apart-requires
     refused-requires

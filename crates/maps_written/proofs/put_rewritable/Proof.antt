@@ -33,8 +33,8 @@ long-2 c = c .write32 .kept .0 ∙ simp length-set (long (c .before .before .bef
 write32-requires : tie.Need-write32-requires
 write32-requires c κs = let l = long (c .before .before .before) in simp length-set (omega arith)
 
-wide-requires : tie.Need-wide-requires
-wide-requires c κs = search needs
+usize-of-u8-requires : tie.Need-usize-of-u8-requires
+usize-of-u8-requires c κs = search needs
 
 put-sectors-requires : tie.Need-put-sectors-requires
 put-sectors-requires c κs = let l = long-2 (c .before .before .before .before) in omega arith
@@ -51,7 +51,7 @@ returns c =
     let b = d .before .before .before .before in
     let a = b .before .before .before .before in
     let s = a .before .before .before .before in
-    rewritable-written _ _ _ _ _ _ _ _ _ (omega (arith, s .good)) (s .pre .0) (c .before .before .before .wide .ensures .0) (a .put-type-two .ensures sparableName refl) (b .write16 .ensures) (d .write32 .ensures) (c .before .before .put-sectors .ensures)
+    rewritable-written _ _ _ _ _ _ _ _ _ (omega (arith, s .good)) (s .pre .0) (c .before .before .before .usize-of-u8 .ensures .0) (a .put-type-two .ensures sparableName refl) (b .write16 .ensures) (d .write32 .ensures) (c .before .before .put-sectors .ensures)
 
 pub put-rewritable-spec : {M : Type 1} → statement M
 put-rewritable-spec =
@@ -62,7 +62,7 @@ put-rewritable-spec =
     write16-requires
     slice-write-out
     write32-requires
-    wide-requires
+    usize-of-u8-requires
     put-sectors-requires
     same-length
     returns)

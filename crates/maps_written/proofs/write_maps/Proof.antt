@@ -2,7 +2,6 @@
 use Prim.Native.Nat.{ℕ}
 use mathlib.Core.Path.{_≡_, sym, ap, _∙_}
 use mathlib.Core.Bool.{true}
-use native.Mathlib.Omega.{arith}
 use borrow.Author.Needs.{needs}
 use borrow.Author.Tests.{not-true, not-false}
 use lib.ListN.{take}
@@ -43,10 +42,10 @@ in-range c = sym (c .before .tables-in-range .ensures) ∙ not-false _ (c .if3 .
 apart : (c : tie.After-tables-apart) → let b = c .before .before .before .before .before .before in c .tables-apart .result ≡ tablesApart (take (b .kind2 .given .0 .1 .0) (b .before .before .before .before .args .volume .tables))
 apart c =
     let v = c .before .before .before .before .before .before .before .before .before .before .args .volume in
-    c .tables-apart .ensures ∙ ap (λ (k : ℕ). tablesApart (take k (v .tables))) (c .before .wide .ensures .0)
+    c .tables-apart .ensures ∙ ap (λ (k : ℕ). tablesApart (take k (v .tables))) (c .before .usize-of-u8 .ensures .0)
 
-wide-requires : tie.Need-wide-requires
-wide-requires c κs = search needs
+usize-of-u8-requires : tie.Need-usize-of-u8-requires
+usize-of-u8-requires c κs = search needs
 
 tables-apart-requires : tie.Need-tables-apart-requires
 tables-apart-requires c κs = search needs
@@ -92,7 +91,7 @@ write-maps-spec =
     returns-2
     tables-in-range-requires
     returns-3
-    wide-requires
+    usize-of-u8-requires
     tables-apart-requires
     returns-4
     put-rewritable-requires

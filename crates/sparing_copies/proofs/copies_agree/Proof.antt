@@ -18,8 +18,8 @@ Inv-loop disc marks x at sequence tables n i₀ i = agreeing (discOf disc marks)
 abbrev μ-loop : tie.MeasureT-loop
 μ-loop disc marks x at sequence tables n i₀ i = n - i
 
-wide8-requires : tie.Need-wide8-requires Inv-loop μ-loop
-wide8-requires c κs = search needs
+usize-of-u8-requires : tie.Need-usize-of-u8-requires Inv-loop μ-loop
+usize-of-u8-requires c κs = search needs
 
 loop-holds : tie.Need-loop-holds Inv-loop μ-loop
 loop-holds c = refl
@@ -40,23 +40,23 @@ copy-agrees-requires c κs =
     (s .pre .0, (s .pre .1 .0, ((omega (arith, s .pre .1 .1 .0 .1 i (omega arith)), s .pre .1 .1 .1 .0), s .pre .1 .1 .1 .1)))
 
 -- at most four tables are used
-few : (c : tie.After-wide8 Inv-loop μ-loop) → c .wide8 .result ≤ length (c .before .before .before .before .args .x .volume .tables)
+few : (c : tie.After-usize-of-u8 Inv-loop μ-loop) → c .usize-of-u8 .result ≤ length (c .before .before .before .before .args .x .volume .tables)
 few c =
     let e : length (c .before .before .before .before .args .x .volume .tables) ≡ 4 = search needs in
     omega arith
 
 -- as many as the layout says
-counted : (c : tie.After-wide8 Inv-loop μ-loop) → let a = c .before .before .before .before .args in agreeing (discOf (a .disc .now) (a .marks .now)) (geometryIn (a .x)) (a .at .0) (a .sequence) (take (c .wide8 .result) (a .x .volume .tables)) ≡ agreeing (discOf (a .disc .now) (a .marks .now)) (geometryIn (a .x)) (a .at .0) (a .sequence) (take (a .x .count) (a .x .volume .tables))
+counted : (c : tie.After-usize-of-u8 Inv-loop μ-loop) → let a = c .before .before .before .before .args in agreeing (discOf (a .disc .now) (a .marks .now)) (geometryIn (a .x)) (a .at .0) (a .sequence) (take (c .usize-of-u8 .result) (a .x .volume .tables)) ≡ agreeing (discOf (a .disc .now) (a .marks .now)) (geometryIn (a .x)) (a .at .0) (a .sequence) (take (a .x .count) (a .x .volume .tables))
 counted c =
     let a = c .before .before .before .before .args in
-    ap (λ (n : ℕ). agreeing (discOf (a .disc .now) (a .marks .now)) (geometryIn (a .x)) (a .at .0) (a .sequence) (take n (a .x .volume .tables))) (c .wide8 .ensures .0)
+    ap (λ (n : ℕ). agreeing (discOf (a .disc .now) (a .marks .now)) (geometryIn (a .x)) (a .at .0) (a .sequence) (take n (a .x .volume .tables))) (c .usize-of-u8 .ensures .0)
 
 returns : tie.Need-returns Inv-loop μ-loop
 returns c =
     let l = c .before .before .before in
     let w = l .before .before in
     let a = w .before .before .before .before .args in
-    agreeing-off _ _ _ _ (a .x .volume .tables) (w .wide8 .result) (l .before .loop .i) (few w) _ (l .loop-test .taken) (c .before .copy-agrees .ensures ∙ ap (agrees _ _ _ _) (c .before .before .media-to-physical .ensures)) (not-true _ (c .if1 .taken))
+    agreeing-off _ _ _ _ (a .x .volume .tables) (w .usize-of-u8 .result) (l .before .loop .i) (few w) _ (l .loop-test .taken) (c .before .copy-agrees .ensures ∙ ap (agrees _ _ _ _) (c .before .before .media-to-physical .ensures)) (not-true _ (c .if1 .taken))
     ∙ l .before .loop .inv
     ∙ counted w
 
@@ -71,14 +71,14 @@ loop-again c =
     let l = c .before .before .before in
     let w = l .before .before in
     let a = w .before .before .before .before .args in
-    agreeing-next _ _ _ _ (a .x .volume .tables) (w .wide8 .result) (l .before .loop .i) (few w) _ (l .loop-test .taken) (c .before .copy-agrees .ensures ∙ ap (agrees _ _ _ _) (c .before .before .media-to-physical .ensures)) (not-false _ (c .if1 .left))
+    agreeing-next _ _ _ _ (a .x .volume .tables) (w .usize-of-u8 .result) (l .before .loop .i) (few w) _ (l .loop-test .taken) (c .before .copy-agrees .ensures ∙ ap (agrees _ _ _ _) (c .before .before .media-to-physical .ensures)) (not-false _ (c .if1 .left))
     ∙ l .before .loop .inv
 
 returns-2 : tie.Need-returns-2 Inv-loop μ-loop
 returns-2 c =
     let w = c .before .before in
     let a = w .before .before .before .before .args in
-    agreeing-end _ _ _ _ (a .x .volume .tables) (w .wide8 .result) (c .before .loop .i) (few w) (c .loop-test .left)
+    agreeing-end _ _ _ _ (a .x .volume .tables) (w .usize-of-u8 .result) (c .before .loop .i) (few w) (c .loop-test .left)
     ∙ c .before .loop .inv
     ∙ counted w
 
@@ -88,7 +88,7 @@ copies-agree-spec =
     (tie.spec
     Inv-loop
     μ-loop
-    wide8-requires
+    usize-of-u8-requires
     loop-holds
     mul-t11
     array-read-t14

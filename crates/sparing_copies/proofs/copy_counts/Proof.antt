@@ -7,14 +7,14 @@ use Rattle.model.specs.Sparing.{copyFits}
 use Rattle.sparing_copies.proofs.copy_counts.Statement.{statement}
 use Rattle.sparing_copies.proofs.copy_counts.Tie as tie
 
-wide32-requires : tie.Need-wide32-requires
-wide32-requires c κs = search needs
+usize-of-u32-requires : tie.Need-usize-of-u32-requires
+usize-of-u32-requires c κs = search needs
 
 shared-slice-read-if1 : tie.Need-shared-slice-read-if1
 shared-slice-read-if1 c = search needs
 
 returns : tie.Need-returns
-returns c = counts-blank _ _ _ _ _ (c .before .before .wide32 .ensures .0) (c .if1 .taken)
+returns c = counts-blank _ _ _ _ _ (c .before .before .usize-of-u32 .ensures .0) (c .if1 .taken)
 
 start-of-requires : tie.Need-start-of-requires
 start-of-requires c κs = search needs
@@ -38,13 +38,13 @@ returns-2 : tie.Need-returns-2
 unfolding sector
 returns-2 c =
     let w = c .before .before .before .before .before in
-    counts-recorded _ _ _ _ _ _ (w .wide32 .ensures .0) (c .before .before .before .if1 .left) (c .copy-fits .ensures ∙ ap (copyFits _) (span-part _ _ _ _ 2048 (c .before .before .start-of .ensures .0) refl))
+    counts-recorded _ _ _ _ _ _ (w .usize-of-u32 .ensures .0) (c .before .before .before .if1 .left) (c .copy-fits .ensures ∙ ap (copyFits _) (span-part _ _ _ _ 2048 (c .before .before .start-of .ensures .0) refl))
 
 pub copy-counts-spec : {M : Type 1} → statement M
 copy-counts-spec =
     tie.close
     (tie.spec
-    wide32-requires
+    usize-of-u32-requires
     shared-slice-read-if1
     returns
     start-of-requires

@@ -19,8 +19,8 @@ copy-counts-requires c κs = search needs
 returns : tie.Need-returns
 returns c = c .copy-counts .ensures
 
-wide32-requires : tie.Need-wide32-requires
-wide32-requires c κs = search needs
+usize-of-u32-requires : tie.Need-usize-of-u32-requires
+usize-of-u32-requires c κs = search needs
 
 shared-slice-read-result : tie.Need-shared-slice-read-result
 shared-slice-read-result c = search needs
@@ -29,7 +29,7 @@ returns-2 : tie.Need-returns-2
 returns-2 c =
     let l = c .before .before in
     let s = l .before .before .before .before in
-    counts-alike _ _ _ _ _ _ (c .before .wide32 .ensures .0) (same-true _ _ (sym (l .before .same-copy .ensures _) ∙ not-false _ (l .if1 .left))) (s .pre .1 .1 .1)
+    counts-alike _ _ _ _ _ _ (c .before .usize-of-u32 .ensures .0) (same-true _ _ (sym (l .before .same-copy .ensures _) ∙ not-false _ (l .if1 .left))) (s .pre .1 .1 .1)
 
 pub counts-beside-spec : {M : Type 1} → statement M
 counts-beside-spec =
@@ -38,6 +38,6 @@ counts-beside-spec =
     same-copy-requires
     copy-counts-requires
     returns
-    wide32-requires
+    usize-of-u32-requires
     shared-slice-read-result
     returns-2)

@@ -22,11 +22,11 @@ abbrev μ-loop : tie.MeasureT-loop
 nowhere-requires : tie.Need-nowhere-requires Inv-loop μ-loop
 nowhere-requires c κs = search needs
 
-wide8-requires : tie.Need-wide8-requires Inv-loop μ-loop
-wide8-requires c κs = search needs
+usize-of-u8-requires : tie.Need-usize-of-u8-requires Inv-loop μ-loop
+usize-of-u8-requires c κs = search needs
 
 -- four tables have a place
-four : (c : tie.After-wide8 Inv-loop μ-loop) → length (c .before .before .before .before .before .args .x .volume .tables) ≡ 4
+four : (c : tie.After-usize-of-u8 Inv-loop μ-loop) → length (c .before .before .before .before .before .args .x .volume .tables) ≡ 4
 four c = search needs
 
 loop-holds : tie.Need-loop-holds Inv-loop μ-loop
@@ -35,7 +35,7 @@ loop-holds c =
     let l = four c in (
       omega arith,
       ap (λ (p : ℕ). record { found = false; at = record { 0 = p }; sequence = 0 }) (c .before .nowhere .ensures)
-          ∙ newest-none _ _ (a .x .volume .tables) (a .x .count) (omega arith) _ (c .wide8 .ensures .0),
+          ∙ newest-none _ _ (a .x .volume .tables) (a .x .count) (omega arith) _ (c .usize-of-u8 .ensures .0),
     )
 
 sub-i : tie.Need-sub-i Inv-loop μ-loop
@@ -82,7 +82,7 @@ newest-copy-spec =
     Inv-loop
     μ-loop
     nowhere-requires
-    wide8-requires
+    usize-of-u8-requires
     loop-holds
     sub-i
     mul-t10

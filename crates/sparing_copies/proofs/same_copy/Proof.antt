@@ -11,8 +11,8 @@ use Rattle.sparing_copies.proofs.same_copy.Tie as tie
 count-at-requires : tie.Need-count-at-requires
 count-at-requires c κs = search needs
 
-wide16-requires : tie.Need-wide16-requires
-wide16-requires c κs = search needs
+usize-of-u16-requires : tie.Need-usize-of-u16-requires
+usize-of-u16-requires c κs = search needs
 
 mul-used : tie.Need-mul-used
 mul-used c = search needs
@@ -65,18 +65,18 @@ returns c =
     let s = n .before .before in
     let d = s .args .disc .now in
     λ m.
-    let k = w .wide16 .ensures .0 ∙ n .count-at .ensures m in
+    let k = w .usize-of-u16 .ensures .0 ∙ n .count-at .ensures m in
     c .same-bytes .ensures
     ∙ ap₂ same
-    (used-read d m (s .args .t .0) (s .args .other .0) (w .wide16 .result) _ _ k (omega (arith, k, s .pre .1 m)) (b .before .start-of .ensures .0) refl)
-    (used-read d m (s .args .other .0) (s .args .other .0) (w .wide16 .result) _ _ k (omega (arith, k, s .pre .1 m)) (b .start-of2 .ensures .0) refl)
+    (used-read d m (s .args .t .0) (s .args .other .0) (w .usize-of-u16 .result) _ _ k (omega (arith, k, s .pre .1 m)) (b .before .start-of .ensures .0) refl)
+    (used-read d m (s .args .other .0) (s .args .other .0) (w .usize-of-u16 .result) _ _ k (omega (arith, k, s .pre .1 m)) (b .start-of2 .ensures .0) refl)
 
 pub same-copy-spec : {M : Type 1} → statement M
 same-copy-spec =
     tie.close
     (tie.spec
     count-at-requires
-    wide16-requires
+    usize-of-u16-requires
     mul-used
     add-used
     start-of-requires

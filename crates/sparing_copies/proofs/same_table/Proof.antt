@@ -21,8 +21,8 @@ returns c =
     let a = c .before .before .before .before .args in
     λ m. tables-differ (discOf (a .disc .now) m) (a .t .0) (a .other .0) (λ e. c .if1 .taken (c .before .before .count-at .ensures m ∙ e ∙ sym (c .before .count-at2 .ensures m)))
 
-wide16-requires : tie.Need-wide16-requires
-wide16-requires c κs = search needs
+usize-of-u16-requires : tie.Need-usize-of-u16-requires
+usize-of-u16-requires c κs = search needs
 
 mul-bytes : tie.Need-mul-bytes
 mul-bytes c = search needs
@@ -75,12 +75,12 @@ returns-2 c =
     let o = u .before .before .before in
     let b = o .before .args in
     λ m.
-    let n = w .wide16 .ensures .0 ∙ u .before .before .count-at .ensures m in
+    let n = w .usize-of-u16 .ensures .0 ∙ u .before .before .count-at .ensures m in
     c .same-bytes .ensures
     ∙ ap₂ same
-    (span-part (b .disc .now) (t .start-of .result + 56) (t .start-of .result + 56 + 8 * w .wide16 .result) (2048 * b .t .0 + 56) (8 * w .wide16 .result) (omega arith) refl)
-    (span-part (b .disc .now) (s .start-of2 .result + 56) (s .start-of2 .result + 56 + 8 * w .wide16 .result) (2048 * b .other .0 + 56) (8 * w .wide16 .result) (omega arith) refl)
-    ∙ tables-alike (b .disc .now) m (b .t .0) (b .other .0) (w .wide16 .result) (λ i. omega (arith, o .shared-slice-known .given i)) (o .before .pre .0 .0) (o .before .pre .0 .1) n (w .wide16 .ensures .0 ∙ u .if1 .left ∙ u .before .count-at2 .ensures m) (omega (arith, o .before .pre .1 m))
+    (span-part (b .disc .now) (t .start-of .result + 56) (t .start-of .result + 56 + 8 * w .usize-of-u16 .result) (2048 * b .t .0 + 56) (8 * w .usize-of-u16 .result) (omega arith) refl)
+    (span-part (b .disc .now) (s .start-of2 .result + 56) (s .start-of2 .result + 56 + 8 * w .usize-of-u16 .result) (2048 * b .other .0 + 56) (8 * w .usize-of-u16 .result) (omega arith) refl)
+    ∙ tables-alike (b .disc .now) m (b .t .0) (b .other .0) (w .usize-of-u16 .result) (λ i. omega (arith, o .shared-slice-known .given i)) (o .before .pre .0 .0) (o .before .pre .0 .1) n (w .usize-of-u16 .ensures .0 ∙ u .if1 .left ∙ u .before .count-at2 .ensures m) (omega (arith, o .before .pre .1 m))
 
 pub same-table-spec : {M : Type 1} → statement M
 same-table-spec =
@@ -89,7 +89,7 @@ same-table-spec =
     count-at-requires
     count-at-requires-2
     returns
-    wide16-requires
+    usize-of-u16-requires
     mul-bytes
     start-of-requires
     add-a

@@ -36,18 +36,18 @@ named : (c : tie.Else2) → hasRegid (c .before .before .before .before .before 
 unfolding sparingName regid identifier
 named c = sym (regid-told _ 16 sparingName) ∙ sym (c .before .has-regid .ensures) ∙ not-false _ (c .if2 .left)
 
-counted : (c : tie.After-wide16) → c .wide16 .result ≡ countIn (c .before .before .before .before .before .before .before .before .args .b .now)
+counted : (c : tie.After-usize-of-u16) → c .usize-of-u16 .result ≡ countIn (c .before .before .before .before .before .before .before .before .args .b .now)
 unfolding countIn
-counted c = c .wide16 .ensures .0 ∙ c .before .read162 .ensures
+counted c = c .usize-of-u16 .ensures .0 ∙ c .before .read162 .ensures
 
 read16-requires-2 : tie.Need-read16-requires-2
 read16-requires-2 c κs = search needs
 
-wide16-requires : tie.Need-wide16-requires
-wide16-requires c κs = search needs
+usize-of-u16-requires : tie.Need-usize-of-u16-requires
+usize-of-u16-requires c κs = search needs
 
-wide32-requires : tie.Need-wide32-requires
-wide32-requires c κs = search needs
+usize-of-u32-requires : tie.Need-usize-of-u32-requires
+usize-of-u32-requires c κs = search needs
 
 mul-if3 : tie.Need-mul-if3
 mul-if3 c = search needs
@@ -95,8 +95,8 @@ copy-fits-spec =
     has-regid-requires
     returns-2
     read16-requires-2
-    wide16-requires
-    wide32-requires
+    usize-of-u16-requires
+    usize-of-u32-requires
     mul-if3
     add-if3
     returns-3

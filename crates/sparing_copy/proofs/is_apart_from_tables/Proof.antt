@@ -16,8 +16,8 @@ Inv-loop m tables n i₀ i = apartFrom (m .0) (drop i (take n tables)) ≡ apart
 abbrev μ-loop : tie.MeasureT-loop
 μ-loop m tables n i₀ i = n - i
 
-wide8-requires : tie.Need-wide8-requires Inv-loop μ-loop
-wide8-requires c κs = search needs
+usize-of-u8-requires : tie.Need-usize-of-u8-requires Inv-loop μ-loop
+usize-of-u8-requires c κs = search needs
 
 loop-holds : tie.Need-loop-holds Inv-loop μ-loop
 loop-holds c = refl
@@ -35,19 +35,19 @@ is-apart-requires : tie.Need-is-apart-requires Inv-loop μ-loop
 is-apart-requires c κs = search needs
 
 -- at most four tables are used, and as many as the layout says
-few : (c : tie.After-wide8 Inv-loop μ-loop) → c .wide8 .result ≤ length (c .before .before .args .x .volume .tables)
+few : (c : tie.After-usize-of-u8 Inv-loop μ-loop) → c .usize-of-u8 .result ≤ length (c .before .before .args .x .volume .tables)
 few c =
     let e : length (c .before .before .args .x .volume .tables) ≡ 4 = search needs in
     omega arith
 
-counted : (c : tie.After-wide8 Inv-loop μ-loop) → apartFrom (c .before .before .args .m .0) (take (c .wide8 .result) (c .before .before .args .x .volume .tables)) ≡ apartFrom (c .before .before .args .m .0) (take (c .before .before .args .x .count) (c .before .before .args .x .volume .tables))
-counted c = let a = c .before .before .args in ap (λ (n : ℕ). apartFrom (a .m .0) (take n (a .x .volume .tables))) (c .wide8 .ensures .0)
+counted : (c : tie.After-usize-of-u8 Inv-loop μ-loop) → apartFrom (c .before .before .args .m .0) (take (c .usize-of-u8 .result) (c .before .before .args .x .volume .tables)) ≡ apartFrom (c .before .before .args .m .0) (take (c .before .before .args .x .count) (c .before .before .args .x .volume .tables))
+counted c = let a = c .before .before .args in ap (λ (n : ℕ). apartFrom (a .m .0) (take n (a .x .volume .tables))) (c .usize-of-u8 .ensures .0)
 
 returns : tie.Need-returns Inv-loop μ-loop
 returns c =
     let l = c .before .before .before in
     let w = l .before .before in
-    tables-met (w .before .before .args .x .volume .tables) (w .wide8 .result) (l .before .loop .i) (few w) _ (l .loop-test .taken) (sym (c .before .is-apart .ensures ∙ ap (apart _) (c .before .before .media-to-physical .ensures)) ∙ not-true _ (c .if1 .taken))
+    tables-met (w .before .before .args .x .volume .tables) (w .usize-of-u8 .result) (l .before .loop .i) (few w) _ (l .loop-test .taken) (sym (c .before .is-apart .ensures ∙ ap (apart _) (c .before .before .media-to-physical .ensures)) ∙ not-true _ (c .if1 .taken))
     ∙ l .before .loop .inv ∙ counted w
 
 add-i : tie.Need-add-i Inv-loop μ-loop
@@ -59,11 +59,11 @@ loop-less c = search needs
 loop-again : tie.Need-loop-again Inv-loop μ-loop
 loop-again c =
     let l = c .before .before .before in
-    tables-next (l .before .before .before .before .args .x .volume .tables) (l .before .before .wide8 .result) (l .before .loop .i) (few (l .before .before)) _ (l .loop-test .taken) (sym (c .before .is-apart .ensures ∙ ap (apart _) (c .before .before .media-to-physical .ensures)) ∙ not-false _ (c .if1 .left))
+    tables-next (l .before .before .before .before .args .x .volume .tables) (l .before .before .usize-of-u8 .result) (l .before .loop .i) (few (l .before .before)) _ (l .loop-test .taken) (sym (c .before .is-apart .ensures ∙ ap (apart _) (c .before .before .media-to-physical .ensures)) ∙ not-false _ (c .if1 .left))
     ∙ l .before .loop .inv
 
 returns-2 : tie.Need-returns-2 Inv-loop μ-loop
-returns-2 c = tables-end (c .before .before .before .before .args .x .volume .tables) (c .before .before .wide8 .result) (c .before .loop .i) (few (c .before .before)) _ (c .loop-test .left) ∙ c .before .loop .inv ∙ counted (c .before .before)
+returns-2 c = tables-end (c .before .before .before .before .args .x .volume .tables) (c .before .before .usize-of-u8 .result) (c .before .loop .i) (few (c .before .before)) _ (c .loop-test .left) ∙ c .before .loop .inv ∙ counted (c .before .before)
 
 pub is-apart-from-tables-spec : {M : Type 1} → statement M
 is-apart-from-tables-spec =
@@ -71,7 +71,7 @@ is-apart-from-tables-spec =
     (tie.spec
     Inv-loop
     μ-loop
-    wide8-requires
+    usize-of-u8-requires
     loop-holds
     mul-t8
     array-read-t11

@@ -8,8 +8,8 @@ use Rattle.sparing_copy.proofs.spares_fit.Tie as tie
 returns : tie.Need-returns
 returns c = spares-long _ _ (omega arith)
 
-wide32-requires : tie.Need-wide32-requires
-wide32-requires c κs = search needs
+usize-of-u32-requires : tie.Need-usize-of-u32-requires
+usize-of-u32-requires c κs = search needs
 
 mul-if2 : tie.Need-mul-if2
 mul-if2 c = search needs
@@ -29,4 +29,4 @@ returns-3 c = spares-short _ _ _ (omega arith) (c .spares-placed .ensures)
 pub spares-fit-spec : {M : Type 1} → statement M
 spares-fit-spec =
     tie.close
-    (tie.spec returns wide32-requires mul-if2 add-if2 returns-2 spares-placed-requires returns-3)
+    (tie.spec returns usize-of-u32-requires mul-if2 add-if2 returns-2 spares-placed-requires returns-3)

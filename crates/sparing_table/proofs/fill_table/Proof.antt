@@ -22,8 +22,8 @@ abbrev μ-loop : tie.MeasureT-loop
 read16-requires : tie.Need-read16-requires Inv-loop μ-loop
 read16-requires c κs = search needs
 
-wide16-requires : tie.Need-wide16-requires Inv-loop μ-loop
-wide16-requires c κs = search needs
+usize-of-u16-requires : tie.Need-usize-of-u16-requires Inv-loop μ-loop
+usize-of-u16-requires c κs = search needs
 
 mul-n : tie.Need-mul-n Inv-loop μ-loop
 mul-n c = search needs
@@ -32,9 +32,9 @@ loop-holds : tie.Need-loop-holds Inv-loop μ-loop
 loop-holds c = copying-first _ 0 _
 
 -- the number of entries
-counted : (c : tie.After-wide16 Inv-loop μ-loop) → c .wide16 .result ≡ countIn (c .before .before .before .before .args .b .now)
+counted : (c : tie.After-usize-of-u16 Inv-loop μ-loop) → c .usize-of-u16 .result ≡ countIn (c .before .before .before .before .args .b .now)
 unfolding countIn
-counted c = c .wide16 .ensures .0 ∙ c .before .read16 .ensures
+counted c = c .usize-of-u16 .ensures .0 ∙ c .before .read16 .ensures
 
 number-at-requires : tie.Need-number-at-requires Inv-loop μ-loop
 number-at-requires c κs = omega (arith, counted (c .before .before))
@@ -56,7 +56,7 @@ loop-again c =
     let v = c .before .before in
     let w = v .before in
     let a = w .before .before .before .before .args in
-    filling-next (a .table .now) (words (a .b .now) 56 (2 * w .wide16 .result)) _ (v .loop .k) _ (omega (arith, counted w)) (omega (arith, length-words (a .b .now) 56 (2 * w .wide16 .result))) (c .number-at .ensures ∙ sym (getD-words (a .b .now) 56 (2 * w .wide16 .result) (v .loop .k) (omega arith))) (v .loop .inv)
+    filling-next (a .table .now) (words (a .b .now) 56 (2 * w .usize-of-u16 .result)) _ (v .loop .k) _ (omega (arith, counted w)) (omega (arith, length-words (a .b .now) 56 (2 * w .usize-of-u16 .result))) (c .number-at .ensures ∙ sym (getD-words (a .b .now) 56 (2 * w .usize-of-u16 .result) (v .loop .k) (omega arith))) (v .loop .inv)
 
 same-length : tie.Need-same-length Inv-loop μ-loop
 same-length c = c .before .loop .inv .long
@@ -66,7 +66,7 @@ unfolding tableIn
 returns c =
     let w = c .before .before in
     let a = w .before .before .before .before .args in
-    filling-last (a .table .now) (words (a .b .now) 56 (2 * w .wide16 .result)) _ (c .before .loop .k) (omega (arith, length-words (a .b .now) 56 (2 * w .wide16 .result))) (c .before .loop .inv)
+    filling-last (a .table .now) (words (a .b .now) 56 (2 * w .usize-of-u16 .result)) _ (c .before .loop .k) (omega (arith, length-words (a .b .now) 56 (2 * w .usize-of-u16 .result))) (c .before .loop .inv)
     ∙ ap (λ (n : ℕ). filledFrom (words (a .b .now) 56 (2 * n)) (a .table .now)) (counted w)
 
 pub fill-table-spec : {M : Type 1} → statement M
@@ -76,7 +76,7 @@ fill-table-spec =
     Inv-loop
     μ-loop
     read16-requires
-    wide16-requires
+    usize-of-u16-requires
     mul-n
     loop-holds
     number-at-requires

@@ -8,8 +8,8 @@ use Rattle.model.specs.Sparing.{entries}
 use Rattle.sparing_table.proofs.find_packet.Statement.{statement}
 use Rattle.sparing_table.proofs.find_packet.Tie as tie
 
-wide32-requires : tie.Need-wide32-requires
-wide32-requires c κs = search needs
+usize-of-u32-requires : tie.Need-usize-of-u32-requires
+usize-of-u32-requires c κs = search needs
 
 find-entry-requires : tie.Need-find-entry-requires
 find-entry-requires c κs = search needs
@@ -33,7 +33,7 @@ returns : tie.Need-returns
 returns c =
     let s = c .before .before .before .before .before .before in
     let a = s .args in
-    c .mapped-to-physical .ensures ∙ packet-mapped (a .s) (entries (take (2 * a .r) (a .table .now))) (a .p .0) _ _ (s .pre .1 .0) (entry-found (a .table .now) (a .r) _ _ (a .p .0) (s .pre .0) (c .before .before .before .before .wide32 .ensures .0) (c .before .before .before .find-entry .ensures) (c .before .before .if1 .taken))
+    c .mapped-to-physical .ensures ∙ packet-mapped (a .s) (entries (take (2 * a .r) (a .table .now))) (a .p .0) _ _ (s .pre .1 .0) (entry-found (a .table .now) (a .r) _ _ (a .p .0) (s .pre .0) (c .before .before .before .before .usize-of-u32 .ensures .0) (c .before .before .before .find-entry .ensures) (c .before .before .if1 .taken))
 
 sector-of-requires : tie.Need-sector-of-requires
 sector-of-requires c κs = search needs
@@ -42,13 +42,13 @@ returns-2 : tie.Need-returns-2
 returns-2 c =
     let s = c .before .before .before .before .before in
     let a = s .args in
-    c .sector-of .ensures ∙ packet-in-place (a .s) (entries (take (2 * a .r) (a .table .now))) (a .p .0) (s .pre .1 .0) (entry-missing (a .table .now) (a .r) _ _ (a .p .0) (s .pre .0) (c .before .before .before .wide32 .ensures .0) (c .before .before .find-entry .ensures) (c .before .if1 .left))
+    c .sector-of .ensures ∙ packet-in-place (a .s) (entries (take (2 * a .r) (a .table .now))) (a .p .0) (s .pre .1 .0) (entry-missing (a .table .now) (a .r) _ _ (a .p .0) (s .pre .0) (c .before .before .before .usize-of-u32 .ensures .0) (c .before .before .find-entry .ensures) (c .before .if1 .left))
 
 pub find-packet-spec : {M : Type 1} → statement M
 find-packet-spec =
     tie.close
     (tie.spec
-    wide32-requires
+    usize-of-u32-requires
     find-entry-requires
     mul-mapped-to-physical
     add-mapped-to-physical

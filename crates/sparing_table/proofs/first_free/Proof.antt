@@ -8,8 +8,8 @@ use Rattle.model.specs.Vat.{none}
 use Rattle.sparing_table.proofs.first_free.Statement.{statement}
 use Rattle.sparing_table.proofs.first_free.Tie as tie
 
-wide32-requires : tie.Need-wide32-requires
-wide32-requires c κs = search needs
+usize-of-u32-requires : tie.Need-usize-of-u32-requires
+usize-of-u32-requires c κs = search needs
 
 find-entry-requires : tie.Need-find-entry-requires
 find-entry-requires c κs = search needs
@@ -34,20 +34,20 @@ unfolding none
 returns c =
     let s = c .before .before .before .before .before .before in
     let a = s .args in
-    free-found (entries (take (2 * a .r) (a .table .now))) _ _ _ (entry-found (a .table .now) (a .r) _ _ 0xffffffff (s .pre) (c .before .before .before .before .wide32 .ensures .0) (c .before .before .before .find-entry .ensures) (c .before .before .if1 .taken)) (c .mapped-to-physical .ensures)
+    free-found (entries (take (2 * a .r) (a .table .now))) _ _ _ (entry-found (a .table .now) (a .r) _ _ 0xffffffff (s .pre) (c .before .before .before .before .usize-of-u32 .ensures .0) (c .before .before .before .find-entry .ensures) (c .before .before .if1 .taken)) (c .mapped-to-physical .ensures)
 
 returns-2 : tie.Need-returns-2
 unfolding none
 returns-2 c =
     let s = c .before .before .before .before in
     let a = s .args in
-    free-missing (entries (take (2 * a .r) (a .table .now))) (entry-missing (a .table .now) (a .r) _ _ 0xffffffff (s .pre) (c .before .before .wide32 .ensures .0) (c .before .find-entry .ensures) (c .if1 .left))
+    free-missing (entries (take (2 * a .r) (a .table .now))) (entry-missing (a .table .now) (a .r) _ _ 0xffffffff (s .pre) (c .before .before .usize-of-u32 .ensures .0) (c .before .find-entry .ensures) (c .if1 .left))
 
 pub first-free-spec : {M : Type 1} → statement M
 first-free-spec =
     tie.close
     (tie.spec
-    wide32-requires
+    usize-of-u32-requires
     find-entry-requires
     mul-mapped-to-physical
     add-mapped-to-physical

@@ -17,8 +17,8 @@ Inv-loop b table r n i₀ i = (i ≤ n) × (take i (take n table) ≡ take i (wo
 abbrev μ-loop : tie.MeasureT-loop
 μ-loop b table r n i₀ i = n - i
 
-wide32-requires : tie.Need-wide32-requires Inv-loop μ-loop
-wide32-requires c κs = search needs
+usize-of-u32-requires : tie.Need-usize-of-u32-requires Inv-loop μ-loop
+usize-of-u32-requires c κs = search needs
 
 mul-n : tie.Need-mul-n Inv-loop μ-loop
 mul-n c = search needs
@@ -36,17 +36,17 @@ number-at-requires : tie.Need-number-at-requires Inv-loop μ-loop
 number-at-requires c κs = search needs
 
 -- as many numbers as the sector has
-counted : (c : tie.After-wide32 Inv-loop μ-loop) → let a = c .before .before .before .args in same (take (2 * c .wide32 .result) (a .table .now)) (words (a .b .now) 56 (2 * c .wide32 .result)) ≡ same (take (2 * a .r) (a .table .now)) (tableIn (a .b .now))
+counted : (c : tie.After-usize-of-u32 Inv-loop μ-loop) → let a = c .before .before .before .args in same (take (2 * c .usize-of-u32 .result) (a .table .now)) (words (a .b .now) 56 (2 * c .usize-of-u32 .result)) ≡ same (take (2 * a .r) (a .table .now)) (tableIn (a .b .now))
 counted c =
     let s = c .before .before .before in
-    lent-same (s .args .b .now) (s .args .table .now) (s .args .r) (2 * c .wide32 .result) (omega arith) (s .pre .1 .0)
+    lent-same (s .args .b .now) (s .args .table .now) (s .args .r) (2 * c .usize-of-u32 .result) (omega arith) (s .pre .1 .0)
 
 returns : tie.Need-returns Inv-loop μ-loop
 returns c =
     let v = c .before .before .before .before in
     let w = v .before in
     let s = w .before .before .before in
-    numbers-differ (s .args .b .now) (s .args .table .now) (2 * w .wide32 .result) (v .loop .i) (c .before .before .before .loop-test .taken) (λ e. c .if1 .taken (e ∙ sym (c .before .number-at .ensures)))
+    numbers-differ (s .args .b .now) (s .args .table .now) (2 * w .usize-of-u32 .result) (v .loop .i) (c .before .before .before .loop-test .taken) (λ e. c .if1 .taken (e ∙ sym (c .before .number-at .ensures)))
     ∙ counted w
 
 add-i : tie.Need-add-i Inv-loop μ-loop
@@ -61,7 +61,7 @@ loop-again c =
     let w = v .before in
     let s = w .before .before .before in (
       omega arith,
-      numbers-next (s .args .b .now) (s .args .table .now) (2 * w .wide32 .result) (v .loop .i) (omega arith) (c .before .before .before .loop-test .taken) (c .if1 .left ∙ c .before .number-at .ensures) (v .loop .inv .1),
+      numbers-next (s .args .b .now) (s .args .table .now) (2 * w .usize-of-u32 .result) (v .loop .i) (omega arith) (c .before .before .before .loop-test .taken) (c .if1 .left ∙ c .before .number-at .ensures) (v .loop .inv .1),
     )
 
 returns-2 : tie.Need-returns-2 Inv-loop μ-loop
@@ -69,7 +69,7 @@ returns-2 c =
     let v = c .before in
     let w = v .before in
     let s = w .before .before .before in
-    numbers-same (s .args .b .now) (s .args .table .now) (2 * w .wide32 .result) (v .loop .i) (c .loop-test .left) (v .loop .inv .1) ∙ counted w
+    numbers-same (s .args .b .now) (s .args .table .now) (2 * w .usize-of-u32 .result) (v .loop .i) (c .loop-test .left) (v .loop .inv .1) ∙ counted w
 
 pub is-same-spec : {M : Type 1} → statement M
 is-same-spec =
@@ -77,7 +77,7 @@ is-same-spec =
     (tie.spec
     Inv-loop
     μ-loop
-    wide32-requires
+    usize-of-u32-requires
     mul-n
     loop-holds
     mul-if1

@@ -4,8 +4,8 @@ use Rattle.sparing_table.proofs.Table.{spared-told}
 use Rattle.sparing_table.proofs.is_spared.Statement.{statement}
 use Rattle.sparing_table.proofs.is_spared.Tie as tie
 
-wide32-requires : tie.Need-wide32-requires
-wide32-requires c κs = search needs
+usize-of-u32-requires : tie.Need-usize-of-u32-requires
+usize-of-u32-requires c κs = search needs
 
 find-entry-requires : tie.Need-find-entry-requires
 find-entry-requires c κs = search needs
@@ -13,7 +13,7 @@ find-entry-requires c κs = search needs
 returns : tie.Need-returns
 returns c =
     let s = c .before .before .before in
-    spared-told (s .args .table .now) (s .args .r) _ _ (s .args .p .0) (s .pre) (c .before .wide32 .ensures .0) (c .find-entry .ensures)
+    spared-told (s .args .table .now) (s .args .r) _ _ (s .args .p .0) (s .pre) (c .before .usize-of-u32 .ensures .0) (c .find-entry .ensures)
 
 pub is-spared-spec : {M : Type 1} → statement M
-is-spared-spec = tie.close (tie.spec wide32-requires find-entry-requires returns)
+is-spared-spec = tie.close (tie.spec usize-of-u32-requires find-entry-requires returns)

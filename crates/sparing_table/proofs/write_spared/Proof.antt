@@ -16,8 +16,8 @@ use Rattle.fields.specs.Bytes.{splice}
 use Rattle.sparing_table.proofs.write_spared.Statement.{statement}
 use Rattle.sparing_table.proofs.write_spared.Tie as tie
 
-wide32-requires : tie.Need-wide32-requires
-wide32-requires c κs = search needs
+usize-of-u32-requires : tie.Need-usize-of-u32-requires
+usize-of-u32-requires c κs = search needs
 
 find-above-requires : tie.Need-find-above-requires
 find-above-requires c κs = search needs
@@ -35,13 +35,13 @@ begin-table-requires c κs = search needs
 packet-at : (c : tie.After-find-entry) → let a = c .before .before .before .before .before .args in c .before .find-above .result ≡ placeWhere (above (a .p .0)) (entries (take (2 * a .r) (a .table .now)))
 packet-at c =
     let a = c .before .before .before .before .before .args in
-    c .before .find-above .ensures ∙ ap (λ (n : ℕ). placeWhere (above (a .p .0)) (entries (take (2 * n) (a .table .now)))) (c .before .before .wide32 .ensures .0)
+    c .before .find-above .ensures ∙ ap (λ (n : ℕ). placeWhere (above (a .p .0)) (entries (take (2 * n) (a .table .now)))) (c .before .before .usize-of-u32 .ensures .0)
 
 free-at : (c : tie.After-find-entry) → let a = c .before .before .before .before .before .args in c .find-entry .result ≡ placeWhere (has none) (entries (take (2 * a .r) (a .table .now)))
 unfolding none
 free-at c =
     let a = c .before .before .before .before .before .args in
-    c .find-entry .ensures ∙ ap (λ (n : ℕ). placeWhere (has none) (entries (take (2 * n) (a .table .now)))) (c .before .before .wide32 .ensures .0)
+    c .find-entry .ensures ∙ ap (λ (n : ℕ). placeWhere (has none) (entries (take (2 * n) (a .table .now)))) (c .before .before .usize-of-u32 .ensures .0)
 
 spared-first : (c : tie.After-find-entry) → c .before .find-above .result ≤ c .find-entry .result
 unfolding none
@@ -64,7 +64,7 @@ resorted-is c =
 put-spared-requires : tie.Need-put-spared-requires
 put-spared-requires c κs =
     let f = c .before .before .before .before .before in
-    let w = f .before .before .wide32 .ensures .0 in
+    let w = f .before .before .usize-of-u32 .ensures .0 in
     (spared-first f, omega (arith, spared-last f), omega arith, omega (arith, c .before .before .before .begin-table .kept .0))
 
 same-length : tie.Need-same-length
@@ -81,7 +81,7 @@ returns c =
     let u : ℕ = f .find-entry .result in
     let l : length (sparedNumbers t (a .r) (a .p .0) k u) ≡ 2 * a .r = length-spared t (a .r) (a .p .0) k u (spared-first f) (spared-last f) (s .pre .1 .0 .1) in
     c .before .before .put-spared .ensures
-    ∙ ap₂ (λ (x : List ℕ) (n : ℕ). splice x 56 (quads (sparedNumbers t n (a .p .0) k u))) (b .begin-table .ensures) (f .before .before .wide32 .ensures .0)
+    ∙ ap₂ (λ (x : List ℕ) (n : ℕ). splice x 56 (quads (sparedNumbers t n (a .p .0) k u))) (b .begin-table .ensures) (f .before .before .usize-of-u32 .ensures .0)
     ∙ table-written (a .sequence) (a .r) (sparedNumbers t (a .r) (a .p .0) k u) (omega arith) (omega arith)
     ∙ ap (writtenTable (a .sequence)) (sym (resorted-is f))
 
@@ -89,7 +89,7 @@ pub write-spared-spec : {M : Type 1} → statement M
 write-spared-spec =
     tie.close
     (tie.spec
-    wide32-requires
+    usize-of-u32-requires
     find-above-requires
     find-entry-requires
     cast-begin-table

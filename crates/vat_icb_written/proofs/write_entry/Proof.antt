@@ -25,8 +25,8 @@ write16-requires-3 c κs = search needs
 file-bytes-requires : tie.Need-file-bytes-requires
 file-bytes-requires c κs = search needs
 
-wide-requires : tie.Need-wide-requires
-wide-requires c κs = search needs
+u64-of-u32-requires : tie.Need-u64-of-u32-requires
+u64-of-u32-requires c κs = search needs
 
 write64-requires : tie.Need-write64-requires
 write64-requires c κs = search needs
@@ -34,8 +34,8 @@ write64-requires c κs = search needs
 data-sectors-requires : tie.Need-data-sectors-requires
 data-sectors-requires c κs = search needs
 
-wide-requires-2 : tie.Need-wide-requires-2
-wide-requires-2 c κs = search needs
+u64-of-u32-requires-2 : tie.Need-u64-of-u32-requires-2
+u64-of-u32-requires-2 c κs = search needs
 
 write64-requires-2 : tie.Need-write64-requires-2
 write64-requires-2 c κs = search needs
@@ -93,8 +93,8 @@ returns c =
     let s = start w in
     entry-written (s .args .n) _ _ _ _ (s .args .front .now) _ _ _ _ _ _ _ _ (s .pre .0)
     (at₃ w .before .form-of .ensures)
-    (at₄ w .before .wide .ensures ∙ at₄ w .before .before .file-bytes .ensures)
-    (at₅ w .before .wide2 .ensures ∙ at₅ w .before .before .data-sectors .ensures)
+    (at₄ w .before .u64-of-u32 .ensures .0 ∙ at₄ w .before .before .file-bytes .ensures)
+    (at₅ w .before .u64-of-u322 .ensures .0 ∙ at₅ w .before .before .data-sectors .ensures)
     (c .before .before .before .allocation-bytes .ensures)
     (at₀ w .clear .ensures)
     (at₁ w .write16 .ensures)
@@ -115,10 +115,10 @@ write-entry-spec =
     form-of-requires
     write16-requires-3
     file-bytes-requires
-    wide-requires
+    u64-of-u32-requires
     write64-requires
     data-sectors-requires
-    wide-requires-2
+    u64-of-u32-requires-2
     write64-requires-2
     write32-requires
     allocation-bytes-requires
