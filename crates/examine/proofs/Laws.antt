@@ -28,13 +28,13 @@ use Rattle.maps.proofs.Laws.{read-fine}
 use Rattle.model.specs.declared.Record.{Record}
 use Rattle.model.specs.Disc.{Disc, nwa, shapely, inside}
 use Rattle.model.specs.Vat.{none, belowOrNone, allBelow}
-use Rattle.model.specs.Sparing.{Geometry, outside}
+use Rattle.model.specs.Sparing.{Geometry, groundOf, outside}
 use Rattle.model.specs.Examine.{Setting, volume, isOnce, sizeIn, writeOnce, geometry, allOutside, aligned, shapeTests, placeTests, examined}
 use Rattle.model.specs.Once.{nextOn, heldFits, onceVerdict}
 use Rattle.model.proofs.Basics.{by-eq, and-false, and-false-left, or-left}
 use Rattle.model.proofs.Verdicts.{Examined as Told, examined-tells}
 use Rattle.examine.specs.declared.Examined.{Examined}
-use Rattle.examine.specs.Ground.{groundOf, placedOf, spanned, handedOn, examinedOf, JudgedOnce}
+use Rattle.examine.specs.Ground.{placedOf, spanned, handedOn, examinedOf, JudgedOnce}
 
 -- ---- the first n elements of a list, from place i on
 
@@ -52,32 +52,6 @@ module _ (n i : ℕ) (l : List ℕ) where
 -- from place 0 on it is all of them
 left-all : (n : ℕ) (l : List ℕ) → take (n - 0) (drop 0 l) ≡ take n l
 left-all n l = let e : n - 0 ≡ n = omega arith in rw e
-
--- ---- a packet outside the partition
-
-module _ (g : Geometry) (m : ℕ) where
-  -- it begins at no multiple of 32
-  pub outside-off : (m % 32 ≡ 0 → ⊥) → false ≡ outside g m
-  unfolding outside
-  outside-off h = fails _ (ne-eqb (m % 32) 0 h)
-
-  -- it runs past the end of the disc
-  pub outside-past : m % 32 ≡ 0 → g .sectors < m + 32 → false ≡ outside g m
-  unfolding outside
-  outside-past h p = holds (eq-eqb (m % 32) 0 h) (fails _ (lt-leb (m + 32) (g .sectors) p))
-
-  -- it ends where the partition begins, or before
-  pub outside-before : m % 32 ≡ 0 → m + 32 ≤ g .sectors → m + 32 ≤ g .start → true ≡ outside g m
-  unfolding outside
-  outside-before h p q =
-      holds (eq-eqb (m % 32) 0 h) (holds (le-leb (m + 32) (g .sectors) p) (sym (or-left _ (le-leb (m + 32) (g .start) q))))
-
-  -- else it has to begin where the partition ends, or after
-  pub outside-after : m % 32 ≡ 0 → m + 32 ≤ g .sectors → g .start < m + 32 → leb (g .start + g .span) m ≡ outside g m
-  unfolding outside
-  outside-after h p q =
-      let e = lt-leb (m + 32) (g .start) q in
-      holds (eq-eqb (m % 32) 0 h) (holds (le-leb (m + 32) (g .sectors) p) (rw e))
 
 -- ---- the packets of the table sectors, from place i on
 

@@ -10,14 +10,10 @@ use Rattle.maps.specs.declared.Volume.{Volume}
 use Rattle.maps.specs.Kinds.{tablesIn, noVolume}
 use Rattle.model.specs.declared.Record.{Record}
 use Rattle.model.specs.Disc.{Disc}
-use Rattle.model.specs.Sparing.{Geometry}
+use Rattle.model.specs.Sparing.{groundOf}
 use Rattle.model.specs.Examine.{Setting, volume, isOnce, sizeIn, aligned, examined}
 use Rattle.model.specs.Once.{onceVerdict}
 use Rattle.examine.specs.declared.Examined.{Examined}
-
--- what a rewritable volume lies in, from its numbers
-abbrev pub groundOf : ℕ → ℕ → ℕ → List ℕ → ℕ → Geometry
-groundOf s l n tables size = record { start = s; span = l; sectors = n; tables = tables; size = size }
 
 -- line 6 of a volume, from its numbers, its kind and the four places of its tables: a write-once volume may lie anywhere
 abbrev pub placedOf : ℕ → ℕ → ℕ → Kind → List ℕ → Bool

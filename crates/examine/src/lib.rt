@@ -4,7 +4,6 @@
 // All functions here are inside the layers: where one has a `requires`, the callers have tested it.
 use address::LogicalAddress;
 use address::MediaBlockAddress;
-use address::PhysicalAddress;
 use address::Span;
 use maps::Kind;
 use maps::PACKET;
@@ -23,14 +22,11 @@ ghost use Rattle.refusal.specs.declared.Verdict;
 ghost use Rattle.maps.specs.Kinds.{noVolume};
 ghost use Rattle.maps.specs.Written.{kindInRange};
 ghost use Rattle.model.specs.Disc.{disc as discOf};
-ghost use Rattle.model.specs.Sparing.{outside};
+ghost use Rattle.model.specs.Sparing.{groundOf};
 ghost use Rattle.model.specs.Vat.{allBelow};
 ghost use Rattle.model.specs.Examine.{setting, allOutside, aligned, lentTable};
 ghost use Rattle.model.specs.Once.{entriesHeld, nextHeld, lastHeld, heldFits};
-ghost use Rattle.examine.specs.Ground.{groundOf, placedOf, handedOn, examinedOf, JudgedOnce};
-
-// The sectors of a packet, where sums of them are taken.
-const WIDE_PACKET: u64 = PACKET as u64;
+ghost use Rattle.examine.specs.Ground.{placedOf, handedOn, examinedOf, JudgedOnce};
 
 // The entries that a lent table has at least.
 const TABLE: usize = MOST_ENTRIES as usize;
@@ -113,24 +109,7 @@ pub fn last_held(held: Record) -> LogicalAddress
 
 // ---- lines 1 to 6
 
-// Whether the packet at m is a whole packet of the disc, outside the partition.
-fn is_outside(sectors: usize, s: u32, l: u32, m: PhysicalAddress) -> bool
-    ensures { λ r. ⌜ r ≡ outside (groundOf s l sectors [] 0) (m .0) ⌝ }
-{
-    let at = m.0 as u64;
-    if at % WIDE_PACKET != 0 {
-        return false;
-    }
-    if (sectors as u64) < at + WIDE_PACKET {
-        return false;
-    }
-    if at + WIDE_PACKET <= s as u64 {
-        return true;
-    }
-    s as u64 + l as u64 <= at
-}
-
-// Whether each of the first n table sectors begins such a packet.
+// Whether each of the first n table sectors begins a whole packet of the disc, outside the partition.
 fn are_outside(sectors: usize, s: u32, l: u32, tables: [u32; 4], n: u8) -> bool
     requires { ⌜ n ≤ 4 ⌝ }
     ensures { λ r. ⌜ r ≡ allOutside (groundOf s l sectors [] 0) (take n tables) ⌝ }
@@ -138,7 +117,7 @@ fn are_outside(sectors: usize, s: u32, l: u32, tables: [u32; 4], n: u8) -> bool
     let mut i: usize = 0;
     while i < n as usize {
         let table = address::media_to_physical(MediaBlockAddress(tables[i]));
-        if !is_outside(sectors, s, l, table) {
+        if !model::is_outside(sectors, s, l, table) {
             return false;
         }
         i += 1;
@@ -151,10 +130,10 @@ fn is_aligned(sectors: usize, s: u32, l: u32, tables: [u32; 4], n: u8) -> bool
     requires { ⌜ n ≤ 4 ⌝ }
     ensures { λ r. ⌜ r ≡ aligned (groundOf s l sectors (take n tables) 0) ⌝ }
 {
-    if s as u64 % WIDE_PACKET != 0 {
+    if s % PACKET != 0 {
         return false;
     }
-    if l as u64 % WIDE_PACKET != 0 {
+    if l % PACKET != 0 {
         return false;
     }
     are_outside(sectors, s, l, tables, n)

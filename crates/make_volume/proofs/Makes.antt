@@ -16,7 +16,7 @@ use Rattle.maps.specs.declared.Kind.the-variants.{WriteOnce, Rewritable}
 use Rattle.address.specs.declared.PhysicalAddress.{PhysicalAddress}
 use Rattle.model.specs.Disc.{Disc}
 use Rattle.model.specs.Writes.{writes, upward, noCut}
-use Rattle.model.specs.Sparing.{Geometry, flat, entriesFit, writtenTable}
+use Rattle.model.specs.Sparing.{Geometry, groundOf, flat, entriesFit, writtenTable}
 use Rattle.model.specs.Examine.{Setting, writeOnce, geometry, examined}
 use Rattle.model.specs.Rewrite.{copiesTo}
 use Rattle.model.specs.Both.{spareEntries, madeBy}
@@ -29,7 +29,7 @@ use Rattle.model.proofs.Ground.{ground}
 use Rattle.sparing_copy.specs.declared.Layout.{Layout}
 use Rattle.sparing_copy.specs.Layout.{geometryIn}
 use Rattle.examine.specs.declared.Examined.{Examined}
-use Rattle.examine.specs.Ground.{groundOf, examinedOf}
+use Rattle.examine.specs.Ground.{examinedOf}
 use Rattle.examine.proofs.Laws.{seen-verdict, seen-once, seen-rewritable}
 use Rattle.sparing_current.specs.declared.Judged.{Judged}
 use Rattle.sparing_current.proofs.Laws.{most-on}

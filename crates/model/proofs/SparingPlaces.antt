@@ -6,12 +6,13 @@ use mathlib.Core.Path.{_≡_, refl, sym, ap, _∙_}
 use mathlib.Core.List.{List, [], _∷_}
 use native.Mathlib.Omega.{arith}
 use lib.Dec.{leb, eqb}
-use borrow.Author.Tests.{leb-true, eqb-true}
+use borrow.Author.Tests.{leb-true, eqb-true, eq-eqb, ne-eqb, le-leb, lt-leb}
+use Rattle.maps.proofs.Tests.{fails, holds}
 use Rattle.model.specs.Vat.{none}
 use Rattle.model.specs.Sparing.{Geometry, Entry, freeOf, apart, apartFrom, outside, entriesFit, Spot, mappedTo, inPlace, spotOf, packetOf, startAt, locate, firstFree, resorted}
 use Rattle.model.specs.Examine.{allOutside}
 use Rattle.model.specs.Rewrite.{noEntry}
-use Rattle.model.proofs.Basics.{and-true, by-eq, either}
+use Rattle.model.proofs.Basics.{and-true, by-eq, either, or-left}
 use Rattle.model.proofs.SparingLists.{In}
 use Rattle.model.proofs.SparingResorted.{spot-same, spot-other}
 use Rattle.model.proofs.SparingEntries.{fits-mapped, mapped-outside, mapped-apart, spot-in, spots-apart, free-in, spot-not-free}
@@ -79,6 +80,31 @@ outside-means g m h =
           (λ r. inr (leb-true (g .start + g .span) m r))
           (either (leb (m + 32) (g .start)) (leb (g .start + g .span) m) (b .1));
     }
+
+-- and what it is found by, test by test
+module _ (g : Geometry) (m : ℕ) where
+  -- the packet begins at no multiple of 32
+  pub outside-off : (m % 32 ≡ 0 → ⊥) → false ≡ outside g m
+  unfolding outside
+  outside-off h = fails _ (ne-eqb (m % 32) 0 h)
+
+  -- it runs past the end of the disc
+  pub outside-past : m % 32 ≡ 0 → g .sectors < m + 32 → false ≡ outside g m
+  unfolding outside
+  outside-past h p = holds (eq-eqb (m % 32) 0 h) (fails _ (lt-leb (m + 32) (g .sectors) p))
+
+  -- it ends where the partition begins, or before
+  pub outside-before : m % 32 ≡ 0 → m + 32 ≤ g .sectors → m + 32 ≤ g .start → true ≡ outside g m
+  unfolding outside
+  outside-before h p q =
+      holds (eq-eqb (m % 32) 0 h) (holds (le-leb (m + 32) (g .sectors) p) (sym (or-left _ (le-leb (m + 32) (g .start) q))))
+
+  -- else it has to begin where the partition ends, or after
+  pub outside-after : m % 32 ≡ 0 → m + 32 ≤ g .sectors → g .start < m + 32 → leb (g .start + g .span) m ≡ outside g m
+  unfolding outside
+  outside-after h p q =
+      let e = lt-leb (m + 32) (g .start) q in
+      holds (eq-eqb (m % 32) 0 h) (holds (le-leb (m + 32) (g .sectors) p) (rw e))
 
 -- a table sector's packet is outside the partition
 pub table-outside : (g : Geometry) (ts : List ℕ) (t : ℕ) → allOutside g ts ≡ true → In t ts → Outside g t

@@ -26,6 +26,10 @@ pub record Geometry : Type 0 where
   pub tables : List ℕ
   pub size : ℕ
 
+-- it, from its numbers
+abbrev pub groundOf : ℕ → ℕ → ℕ → List ℕ → ℕ → Geometry
+groundOf s l n tables size = record { start = s; span = l; sectors = n; tables = tables; size = size }
+
 -- ---- entries
 
 -- original is the logical address of a packet's first block, or none for a free spare; mapped is physical

@@ -1,12 +1,22 @@
 // Document 01 as definitions, in specs/, and the theorem over them, in proofs/. Here are only what the
-// calls share: numbers of the format, what a cut is, the record that a call hands on, and what a call answers.
+// calls share: numbers of the format, what a cut is, the record that a call hands on, what a call answers, and
+// the test of a packet that tables and spares are both put to.
+use address::PhysicalAddress;
+use maps::PACKET;
 use refusal::Refusal;
+ghost use mathlib.Core.Path.{_≡_};
+ghost use mathlib.Core.List.{List};
+ghost use Prim.Native.Nat.{ℕ};
+ghost use Rattle.model.specs.Sparing.{groundOf, outside};
 
 // The bytes of a sector, and so of a block.
 pub const SECTOR: usize = 2048;
 
 // The bytes of a packet.
 pub const PACKET_BYTES: usize = 65536;
+
+// The sectors of a packet, where sums of them are taken.
+const WIDE_PACKET: u64 = PACKET as u64;
 
 // The marks of a sector.
 pub const BLANK: u8 = 0;
@@ -71,4 +81,21 @@ pub enum Opened {
 pub enum Given {
     Block,
     Refused(Refusal),
+}
+
+// Whether the packet at m is a whole packet of the disc, outside the partition.
+pub fn is_outside(sectors: usize, s: u32, l: u32, m: PhysicalAddress) -> bool
+    ensures { λ r. ⌜ ((tables : List ℕ) (size : ℕ) → r ≡ outside (groundOf s l sectors tables size) (m .0)) ⌝ }
+{
+    let at = m.0 as u64;
+    if at % WIDE_PACKET != 0 {
+        return false;
+    }
+    if (sectors as u64) < at + WIDE_PACKET {
+        return false;
+    }
+    if at + WIDE_PACKET <= s as u64 {
+        return true;
+    }
+    s as u64 + l as u64 <= at
 }

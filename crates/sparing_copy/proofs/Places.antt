@@ -1,11 +1,11 @@
 -- Laws of where a packet may lie: apart from another, outside the partition, and no table's. Assumes nothing.
-use Prim.Native.Nat.{ℕ, suc, _+_, _-_, _≤_, _<_, _%_}
+use Prim.Native.Nat.{ℕ, suc, _+_, _-_, _≤_, _<_}
 use mathlib.Core.Path.{_≡_, sym, ap, _∙_}
 use mathlib.Core.List.{List, [], _∷_}
 use mathlib.Core.Bool.{Bool, true, false, _||_}
 use native.Mathlib.Omega.{arith}
 use native.Mathlib.Numerals.{add-one}
-use borrow.Author.Tests.{le-leb, lt-leb, leb-true, eq-eqb, ne-eqb}
+use borrow.Author.Tests.{le-leb, lt-leb, leb-true}
 use lib.Dec.{leb}
 use lib.ListN.{length, getD, take, drop, length-take, length-drop, drop-of-length-le}
 use lib.Seq.{drop-cons, getD-take, getD-drop}
@@ -41,35 +41,6 @@ pub apart-above : (a b : ℕ) → b ≤ a → leb 32 (a - b) ≡ apart a b
 unfolding apart
 apart-above a b h =
     or-second (leb (b + 32) a) (lt-leb (a + 32) b (omega arith)) (same-order 32 (a - b) (b + 32) a (λ e. omega arith) (λ e. omega arith))
-
--- ---- a packet outside the partition
-
-module _ (g : Geometry) (m : ℕ) where
-  -- its start is no multiple of 32
-  pub outside-odd : (m % 32 ≡ 0 → ⊥) → false ≡ outside g m
-  unfolding outside
-  outside-odd e = fails _ (ne-eqb _ _ e)
-
-  -- it is not on the disc, whole
-  pub outside-off : m % 32 ≡ 0 → g .sectors < m + 32 → false ≡ outside g m
-  unfolding outside
-  outside-off e h = holds (eq-eqb _ _ e) (fails _ (lt-leb _ _ h))
-
-  -- it begins before the partition
-  pub outside-before : m % 32 ≡ 0 → m + 32 ≤ g .sectors → m < g .start → leb 32 (g .start - m) ≡ outside g m
-  unfolding outside
-  outside-before e h l =
-      holds (eq-eqb _ _ e)
-      (holds (le-leb _ _ h)
-      (or-first (leb (m + 32) (g .start)) (lt-leb (g .start + g .span) m (omega arith)) (same-order 32 (g .start - m) (m + 32) (g .start) (λ q. omega arith) (λ q. omega arith))))
-
-  -- it does not
-  pub outside-behind : m % 32 ≡ 0 → m + 32 ≤ g .sectors → g .start ≤ m → leb (g .span) (m - g .start) ≡ outside g m
-  unfolding outside
-  outside-behind e h l =
-      holds (eq-eqb _ _ e)
-      (holds (le-leb _ _ h)
-      (or-second (leb (g .start + g .span) m) (lt-leb (m + 32) (g .start) (omega arith)) (same-order (g .span) (m - g .start) (g .start + g .span) m (λ q. omega arith) (λ q. omega arith))))
 
 -- ---- a packet that may be a spare
 

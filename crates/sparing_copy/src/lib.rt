@@ -12,7 +12,7 @@ ghost use mathlib.Core.Bool.{true};
 ghost use Prim.Native.Nat.{_+_, _*_, _/_, _%_, _≤_, _<_};
 ghost use lib.ListN.{length, drop};
 ghost use Rattle.maps.specs.Kinds.{absent};
-ghost use Rattle.model.specs.Sparing.{apart, apartFrom, outside, originalsFit, ascending, mappedOf, mappedFit, entriesFit, copyFits};
+ghost use Rattle.model.specs.Sparing.{apart, apartFrom, originalsFit, ascending, mappedOf, mappedFit, entriesFit, copyFits};
 ghost use Rattle.model.specs.Both.{spareEntries};
 ghost use Rattle.sparing_copy.specs.Layout.{geometryIn};
 ghost use Rattle.sparing_copy.specs.Entries.{entryIn, entriesIn, originalFits, follows, placed};
@@ -84,33 +84,13 @@ fn is_apart_from_tables(x: Layout, m: PhysicalAddress) -> bool
     true
 }
 
-// Whether a packet is a whole one on the disc, outside the partition.
-fn is_outside(x: Layout, m: PhysicalAddress) -> bool
-    ensures { λ r. ⌜ r ≡ outside (geometryIn x) (m .0) ⌝ }
-{
-    let at = m.0;
-    if at % PACKET != 0 {
-        return false;
-    }
-    if x.sectors < at {
-        return false;
-    }
-    if x.sectors - at < PACKET {
-        return false;
-    }
-    let span = x.volume.span;
-    if at < span.start {
-        return PACKET <= span.start - at;
-    }
-    span.length <= at - span.start
-}
-
 // Whether a packet may be a spare: on the disc, outside the partition and every table's packet.
 fn is_placed(x: Layout, m: PhysicalAddress) -> bool
     requires { ⌜ x .count ≤ 4 ⌝ }
     ensures { λ r. ⌜ r ≡ placed (geometryIn x) (m .0) ⌝ }
 {
-    if !is_outside(x, m) {
+    let span = x.volume.span;
+    if !model::is_outside(x.sectors as usize, span.start, span.length, m) {
         return false;
     }
     is_apart_from_tables(x, m)

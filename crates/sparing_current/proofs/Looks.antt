@@ -16,7 +16,7 @@ use Rattle.maps.specs.declared.Volume.{Volume}
 use Rattle.maps.proofs.Laws.{read-fine}
 use Rattle.model.specs.declared.Record.{Record}
 use Rattle.model.specs.Disc.{Disc, sector}
-use Rattle.model.specs.Sparing.{Geometry, entries, countIn, tableAt}
+use Rattle.model.specs.Sparing.{Geometry, groundOf, entries, countIn, tableAt}
 use Rattle.model.specs.Examine.{Setting, volume, writeOnce, geometry, allOutside}
 use Rattle.model.specs.Rewrite.{tableOn, entriesOn, sequenceOn, countOn, copyTests, heldCurrent, rewritableVerdict}
 use Rattle.model.proofs.Sectors.{shapely-made, shapely-most}
@@ -29,7 +29,7 @@ use Rattle.sparing_copy.specs.Layout.{geometryIn, TablesOn}
 use Rattle.sparing_copies.specs.Copies.{FoundCurrent}
 use Rattle.sparing_copy.proofs.Laws.{tables-on}
 use Rattle.examine.specs.declared.Examined.{Examined}
-use Rattle.examine.specs.Ground.{groundOf, examinedOf}
+use Rattle.examine.specs.Ground.{examinedOf}
 use Rattle.examine.proofs.Laws.{seen-verdict, seen-tells, seen-volume, seen-once, seen-rewritable, seen-few, seen-geometry}
 use Rattle.sparing_current.specs.declared.Looked.{Looked}
 use Rattle.sparing_current.specs.declared.Judged.{Judged}

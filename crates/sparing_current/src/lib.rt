@@ -18,11 +18,10 @@ ghost use Prim.Native.Nat.{ℕ, _+_, _*_, _^_, _≤_, _<_};
 ghost use lib.ListN.{length, take};
 ghost use Rattle.refusal.specs.declared.Verdict;
 ghost use Rattle.model.specs.Disc.{disc as discOf, sector};
-ghost use Rattle.model.specs.Sparing.{countIn, tableAt, packetOf, locate};
+ghost use Rattle.model.specs.Sparing.{groundOf, countIn, tableAt, packetOf, locate};
 ghost use Rattle.model.specs.Examine.{Setting, setting};
 ghost use Rattle.model.specs.Rewrite.{tableOn, sequenceOn, countOn, heldCurrent};
 ghost use Rattle.sparing_copy.specs.Layout.{geometryIn};
-ghost use Rattle.examine.specs.Ground.{groundOf};
 ghost use Rattle.sparing_current.specs.Looked.{Sees, Judges};
 ghost use Rattle.sparing_current.specs.Held.{countHeld, sequenceHeld, entriesLent};
 

@@ -7,8 +7,8 @@ use native.Mathlib.Omega.{arith}
 use borrow.Author.Needs.{needs}
 use borrow.Author.Tests.{not-true, not-false}
 use lib.ListN.{take, drop}
+use Rattle.model.specs.Sparing.{groundOf}
 use Rattle.model.specs.Examine.{allOutside}
-use Rattle.examine.specs.Ground.{groundOf}
 use Rattle.examine.proofs.Laws.{outside-all, outside-stop, outside-next, outside-none}
 use Rattle.examine.proofs.are_outside.Statement.{statement}
 use Rattle.examine.proofs.are_outside.Tie as tie
@@ -38,7 +38,7 @@ is-outside-requires c κs = search needs
 returns : tie.Need-returns Inv-loop μ-loop
 returns c =
     let b = c .before .before .before in
-    outside-stop _ _ _ _ (b .loop-test .taken) (omega arith) (c .before .before .media-to-physical .ensures) (sym (c .before .is-outside .ensures) ∙ not-true _ (c .if1 .taken)) ∙ b .before .loop .inv
+    outside-stop _ _ _ _ (b .loop-test .taken) (omega arith) (c .before .before .media-to-physical .ensures) (sym (c .before .is-outside .ensures [] 0) ∙ not-true _ (c .if1 .taken)) ∙ b .before .loop .inv
 
 add-i : tie.Need-add-i Inv-loop μ-loop
 add-i c = search needs
@@ -49,7 +49,7 @@ loop-less c = search needs
 loop-again : tie.Need-loop-again Inv-loop μ-loop
 loop-again c =
     let b = c .before .before .before in
-    outside-next _ _ _ _ (b .loop-test .taken) (omega arith) (c .before .before .media-to-physical .ensures) (sym (c .before .is-outside .ensures) ∙ not-false _ (c .if1 .left)) ∙ b .before .loop .inv
+    outside-next _ _ _ _ (b .loop-test .taken) (omega arith) (c .before .before .media-to-physical .ensures) (sym (c .before .is-outside .ensures [] 0) ∙ not-false _ (c .if1 .left)) ∙ b .before .loop .inv
 
 returns-2 : tie.Need-returns-2 Inv-loop μ-loop
 returns-2 c = outside-none _ _ _ _ (c .loop-test .left) ∙ c .before .loop .inv
