@@ -11,7 +11,7 @@ ghost use Rattle.fields.specs.Number.{field};
 // Where the flags and the suffix of a regid start.
 const FLAGS_AT: usize = 0;
 
-const SUFFIX_AT: usize = 24;
+pub const SUFFIX_AT: usize = 24;
 
 // A number in a wider type, with the bound of its own.
 pub fn u16_of_u8(x: u8) -> u16

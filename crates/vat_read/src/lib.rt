@@ -5,7 +5,9 @@
 use address::LogicalAddress;
 use address::NONE;
 use address::PhysicalAddress;
+use fields::SUFFIX_AT;
 use model::SECTOR;
+use model::VAT_REGID;
 use vat_icb::ALLOCATION_AT;
 use vat_icb::BLOCK_AT;
 use vat_icb::EMBEDDED;
@@ -30,11 +32,6 @@ const ENTRY: u64 = 4;
 const WORD: usize = ENTRY as usize;
 
 const TAIL: u64 = 36;
-
-// The regid's flags and identifier, which is filled with zeros.
-const NAME_BYTES: usize = 24;
-
-const NAME: [u8; 24] = *b"\0*UDF Virtual Alloc Tbl\0";
 
 // ---- the file, by position
 
@@ -126,10 +123,10 @@ fn has_name(disc: &[u8], s: u32, icb: &[u8], from: u64) -> bool
     requires { ⌜ from + 36 ≡ fileLength (now icb) ⌝ }
     ensures { λ r. ⌜ r ≡ hasRegid (fileIn (now (disc .entry)) s (now (icb .entry))) from vatName ⌝ }
 {
-    let name = NAME;
+    let regid = VAT_REGID;
     let mut i: usize = 0;
-    while i < NAME_BYTES {
-        if file_byte(disc, s, icb, from + i as u64) != name[i] {
+    while i < SUFFIX_AT {
+        if file_byte(disc, s, icb, from + i as u64) != regid[i] {
             return false;
         }
         i += 1;

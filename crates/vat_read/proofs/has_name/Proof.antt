@@ -1,11 +1,11 @@
 -- `vat_read::has_name` meets its contract. The loop's invariant: the first `i` bytes are those of the regid. Assumes nothing.
-use Prim.Native.Nat.{ℕ, _-_, _≤_, _<_}
+use Prim.Native.Nat.{ℕ, _-_, _≤_}
 use mathlib.Core.Path.{_≡_, refl, sym, ap, _∙_}
 use mathlib.Core.List.{List}
 use native.Mathlib.Omega.{arith}
 use borrow.Author.Needs.{needs}
 use lib.ListN.{getD, take, drop, length-drop}
-use lib.Seq.{getD-drop, getD-take}
+use lib.Seq.{getD-drop}
 use Rattle.fields.specs.Bytes.{part}
 use Rattle.fields.specs.Regid.{regid, identifier}
 use Rattle.fields.proofs.Laws.{front-next, regid-differs, regid-agrees, length-regid}
@@ -16,7 +16,7 @@ use Rattle.vat_read.proofs.has_name.Statement.{statement}
 use Rattle.vat_read.proofs.has_name.Tie as tie
 
 abbrev Inv-loop : tie.InvT-loop
-Inv-loop disc s icb from name i₀ i = (i ≤ 24) × (name ≡ take 24 (regid vatName)) × (part (fileIn disc s icb) from i ≡ take i (regid vatName))
+Inv-loop disc s icb from name i₀ i = (i ≤ 24) × (name ≡ regid vatName) × (part (fileIn disc s icb) from i ≡ take i (regid vatName))
 
 abbrev μ-loop : tie.MeasureT-loop
 μ-loop disc s icb from name i₀ i = 24 - i
@@ -38,15 +38,15 @@ file-byte-requires c κs = let s = c .before .before .before .before in (s .pre 
 array-read-if1 : tie.Need-array-read-if1 Inv-loop μ-loop
 array-read-if1 c = search needs
 
--- a byte of the name is that of the regid
-same-name : (name : List ℕ) (i : ℕ) → name ≡ take 24 (regid vatName) → i < 24 → getD name i 0 ≡ getD (regid vatName) i 0
-same-name name i e h = ap (λ (l : List ℕ). getD l i 0) e ∙ getD-take 24 (regid vatName) i 0 h
+-- a byte of the constant is that of the regid
+same-byte : {l : List ℕ} (i : ℕ) → l ≡ regid vatName → getD l i 0 ≡ getD (regid vatName) i 0
+same-byte i e = ap (λ (l : List ℕ). getD l i 0) e
 
 returns : tie.Need-returns Inv-loop μ-loop
 returns c =
     let b = c .before .before in
     let v = b .before .loop in
-    sym (regid-differs _ _ _ (v .i) (b .loop-test .taken) (λ e. c .if1 .taken (c .before .file-byte .ensures ∙ e ∙ sym (same-name _ (v .i) (v .inv .1) (b .loop-test .taken)))))
+    sym (regid-differs _ _ _ (v .i) (b .loop-test .taken) (λ e. c .if1 .taken (c .before .file-byte .ensures ∙ e ∙ sym (same-byte (v .i) (v .inv .1)))))
 
 add-i : tie.Need-add-i Inv-loop μ-loop
 add-i c = search needs
@@ -68,7 +68,7 @@ loop-again c =
       search needs,
       v .inv .1,
       front-next (drop (a .from) f) (regid vatName) (v .i) (omega (arith, s .pre .1)) (omega arith)
-          (getD-drop (a .from) f (v .i) 0 ∙ sym (c .before .file-byte .ensures) ∙ c .if1 .left ∙ same-name _ (v .i) (v .inv .1) (b .loop-test .taken))
+          (getD-drop (a .from) f (v .i) 0 ∙ sym (c .before .file-byte .ensures) ∙ c .if1 .left ∙ same-byte (v .i) (v .inv .1))
           (v .inv .2),
     )
 
