@@ -2,7 +2,7 @@
 use Prim.Native.Nat.{ℕ, _+_, _-_, _*_, _/_, _%_, _≤_, _<_}
 use mathlib.Core.Path.{_≡_, refl, sym, ap, _∙_}
 use mathlib.Core.Bool.{Bool, true, false}
-use mathlib.Core.List.{List, _++_}
+use mathlib.Core.List.{List}
 use native.Mathlib.Omega.{arith}
 use lib.Dec.{eqb}
 use lib.ListN.{length, getD}
@@ -30,7 +30,7 @@ use Rattle.model.proofs.OnceOpen.{length-entries}
 use Rattle.model.proofs.WrittenVatFile.{file-fits, file-count, file-entries}
 use Rattle.vat_look_up.specs.declared.Counted.{Counted}
 use Rattle.vat_look_up.specs.declared.ToPrevious.{ToPrevious}
-use Rattle.vat_look_up.specs.File.{fileTests, lookedUp, unlessCounted, counted, blockOrNone, unlessPrevious, previousIn, countedNumber, previousNumber}
+use Rattle.vat_look_up.specs.File.{fileTests, lookUpVerdict, lookedUp, unlessCounted, counted, blockOrNone, unlessPrevious, previousIn, countedNumber, previousNumber, LooksUp, CountsEntries, ReadsPrevious}
 
 -- ---- the tests of a file
 
@@ -162,36 +162,36 @@ looked-in-found d s k v here few =
     let p = passed-icb d s k (sector d (s + k)) (both (recorded d (s + k)) _ here .1) in
     sym (looked (vatFile d s k) v (passes (vatFile d s k) (both (fileFits (vatFile d s k)) _ (p .table) .0) few))
 
--- ---- what a caller is told: the number of the first line that applies
+-- ---- the promises: of an answer that the definition gives, its number
 
 module _ (f : List ℕ) where
   -- of a look-up
-  pub look-up-number : (v : VirtualAddress) → logicalNumber (lookedUp f v) ≡ verdictNumber (first (fileTests f ++ entryTests (length (entriesOf f)) (entriesOf f) v))
+  pub looked-up-so : (v : VirtualAddress) {r : ToLogical} → r ≡ lookedUp f v → LooksUp f v r
   unfolding lookedUp
-  look-up-number v = by-logical (first (fileTests f ++ entryTests (length (entriesOf f)) (entriesOf f) v))
+  looked-up-so v h = record { answer = h; number = ap logicalNumber h ∙ by-verdict (lookUpVerdict f v) }
     where
-      by-logical : (x : Verdict) → logicalNumber (unlessLogical x (entryOf (entriesOf f) v)) ≡ verdictNumber x
-      by-logical Go = refl
-      by-logical (Stop why) = refl
+      by-verdict : (x : Verdict) → logicalNumber (unlessLogical x (entryOf (entriesOf f) v)) ≡ verdictNumber x
+      by-verdict Go = refl
+      by-verdict (Stop why) = refl
 
   -- of the number of entries
-  pub count-number : countedNumber (counted f) ≡ verdictNumber (first (fileTests f))
+  pub counted-so : {r : Counted} → r ≡ counted f → CountsEntries f r
   unfolding counted
-  count-number = by-count (first (fileTests f))
+  counted-so h = record { answer = h; number = ap countedNumber h ∙ by-verdict (first (fileTests f)) }
     where
-      by-count : (x : Verdict) → countedNumber (unlessCounted x (countOf f)) ≡ verdictNumber x
-      by-count Go = refl
-      by-count (Stop why) = refl
+      by-verdict : (x : Verdict) → countedNumber (unlessCounted x (countOf f)) ≡ verdictNumber x
+      by-verdict Go = refl
+      by-verdict (Stop why) = refl
 
   -- of the previous ICB, none included
-  pub previous-number : previousNumber (previousIn f) ≡ verdictNumber (first (fileTests f))
+  pub previous-so : {r : ToPrevious} → r ≡ previousIn f → ReadsPrevious f r
   unfolding previousIn
-  previous-number = by-previous (first (fileTests f))
+  previous-so h = record { answer = h; number = ap previousNumber h ∙ by-verdict (first (fileTests f)) }
     where
       by-block : (b : Bool) (k : ℕ) → previousNumber (blockOrNone b k) ≡ 0
       by-block true k = refl
       by-block false k = refl
 
-      by-previous : (x : Verdict) → previousNumber (unlessPrevious x (previousOf f)) ≡ verdictNumber x
-      by-previous Go = by-block (eqb (previousOf f) none) (previousOf f)
-      by-previous (Stop why) = refl
+      by-verdict : (x : Verdict) → previousNumber (unlessPrevious x (previousOf f)) ≡ verdictNumber x
+      by-verdict Go = by-block (eqb (previousOf f) none) (previousOf f)
+      by-verdict (Stop why) = refl

@@ -3,7 +3,7 @@
 // that applies. VatFile is a view of such bytes, with the same answers.
 ghost use mathlib.Core.Path.{_≡_};
 ghost use Rattle.refusal.specs.Tests.{first};
-ghost use Rattle.vat_look_up.specs.File.{fileTests, lookedUp, counted, previousIn};
+ghost use Rattle.vat_look_up.specs.File.{fileTests, LooksUp, CountsEntries, ReadsPrevious};
 use address::LogicalAddress;
 use address::NONE;
 use address::ToLogical;
@@ -59,7 +59,7 @@ fn judge_file(file: &[u8]) -> Verdict
 
 // The logical address of a virtual one, by the entries of a VAT file.
 pub fn look_up(file: &[u8], v: VirtualAddress) -> ToLogical
-    ensures { λ r. ⌜ r ≡ lookedUp (now (file .entry)) v ⌝ }
+    ensures { λ r. ⌜ LooksUp (now (file .entry)) v r ⌝ }
 {
     match judge_file(file) {
         Verdict::Stop(why) => ToLogical::Refused(why),
@@ -75,7 +75,7 @@ pub fn look_up(file: &[u8], v: VirtualAddress) -> ToLogical
 
 // The number of entries of a VAT file.
 pub fn count_entries(file: &[u8]) -> Counted
-    ensures { λ r. ⌜ r ≡ counted (now (file .entry)) ⌝ }
+    ensures { λ r. ⌜ CountsEntries (now (file .entry)) r ⌝ }
 {
     match judge_file(file) {
         Verdict::Stop(why) => Counted::Refused(why),
@@ -85,7 +85,7 @@ pub fn count_entries(file: &[u8]) -> Counted
 
 // The previous VAT ICB that a VAT file names.
 pub fn read_previous(file: &[u8]) -> ToPrevious
-    ensures { λ r. ⌜ r ≡ previousIn (now (file .entry)) ⌝ }
+    ensures { λ r. ⌜ ReadsPrevious (now (file .entry)) r ⌝ }
 {
     match judge_file(file) {
         Verdict::Stop(why) => ToPrevious::Refused(why),
@@ -114,21 +114,21 @@ impl<'a> VatFile<'a> {
 
     // The logical address of a virtual one.
     pub fn look_up(self, v: VirtualAddress) -> ToLogical
-        ensures { λ r. ⌜ r ≡ lookedUp (now (self .entry .bytes)) v ⌝ }
+        ensures { λ r. ⌜ LooksUp (now (self .entry .bytes)) v r ⌝ }
     {
         look_up(self.bytes, v)
     }
 
     // The number of entries.
     pub fn entry_count(self) -> Counted
-        ensures { λ r. ⌜ r ≡ counted (now (self .entry .bytes)) ⌝ }
+        ensures { λ r. ⌜ CountsEntries (now (self .entry .bytes)) r ⌝ }
     {
         count_entries(self.bytes)
     }
 
     // The previous VAT ICB.
     pub fn previous(self) -> ToPrevious
-        ensures { λ r. ⌜ r ≡ previousIn (now (self .entry .bytes)) ⌝ }
+        ensures { λ r. ⌜ ReadsPrevious (now (self .entry .bytes)) r ⌝ }
     {
         read_previous(self.bytes)
     }

@@ -29,10 +29,10 @@ same-length : tie.Need-same-length
 same-length c = search needs
 
 returns-2 : tie.Need-returns-2
-returns-2 c = look-at _ _ _ (c .before .before .before .before .if1 .left) (c .before .before .before .look-up .ensures) (c .before .found .given .1)
+returns-2 c = look-at _ _ _ (c .before .before .before .before .if1 .left) (c .before .before .before .look-up .ensures .answer) (c .before .found .given .1)
 
 returns-3 : tie.Need-returns-3
-returns-3 c = look-refused _ _ _ (c .before .before .before .before .before .if1 .left) (c .before .before .before .before .look-up .ensures) (c .before .before .found2 .given .1) (c .number2 .ensures)
+returns-3 c = look-refused _ _ _ (c .before .before .before .before .before .if1 .left) (c .before .before .before .before .look-up .ensures .answer) (c .before .before .found2 .given .1) (c .number2 .ensures)
 
 pub tuormik-look-up-spec : {M : Type 1} → statement M
 tuormik-look-up-spec =

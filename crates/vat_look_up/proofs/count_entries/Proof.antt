@@ -5,7 +5,7 @@ use borrow.Author.Needs.{needs}
 use Rattle.refusal.specs.declared.Verdict.the-variants.{Go}
 use Rattle.refusal.specs.Tests.{first}
 use Rattle.vat_look_up.specs.File.{fileTests}
-use Rattle.vat_look_up.proofs.Laws.{long, not-counted, has-counted}
+use Rattle.vat_look_up.proofs.Laws.{long, not-counted, has-counted, counted-so}
 use Rattle.vat_look_up.proofs.count_entries.Statement.{statement}
 use Rattle.vat_look_up.proofs.count_entries.Tie as tie
 
@@ -29,10 +29,10 @@ cast-t8 : tie.Need-cast-t8
 cast-t8 c = let h = long _ (pass c) in omega (arith, h .1)
 
 returns : tie.Need-returns
-returns c = not-counted _ (sym (c .before .before .before .judge-file .ensures) ∙ c .before .why .given .1)
+returns c = counted-so _ (not-counted _ (sym (c .before .before .before .judge-file .ensures) ∙ c .before .why .given .1))
 
 returns-2 : tie.Need-returns-2
-returns-2 c = has-counted _ (pass c)
+returns-2 c = counted-so _ (has-counted _ (pass c))
 
 pub count-entries-spec : {M : Type 1} → statement M
 count-entries-spec =

@@ -9,7 +9,7 @@ use Rattle.refusal.specs.Tests.{first}
 use Rattle.address.proofs.Laws.{no-entry, entered}
 use Rattle.model.specs.Vat.{entriesOf}
 use Rattle.vat_look_up.specs.File.{fileTests}
-use Rattle.vat_look_up.proofs.Laws.{long, entry-at, entries-long, not-looked, looked}
+use Rattle.vat_look_up.proofs.Laws.{long, entry-at, entries-long, not-looked, looked, looked-up-so}
 use Rattle.vat_look_up.proofs.look_up.Statement.{statement}
 use Rattle.vat_look_up.proofs.look_up.Tie as tie
 
@@ -36,7 +36,7 @@ returns : tie.Need-returns
 returns c =
     let a = c .before .before .before .before .before .before .args in
     let n = entries-long (a .file .now) in
-    no-entry _ (a .v) (omega (arith, n, c .if1 .taken)) ∙ looked _ _ (pass (c .before .before))
+    looked-up-so _ _ (no-entry _ (a .v) (omega (arith, n, c .if1 .taken)) ∙ looked _ _ (pass (c .before .before)))
 
 mul-read32 : tie.Need-mul-read32
 mul-read32 c = search needs
@@ -48,7 +48,7 @@ entry-to-logical-requires : tie.Need-entry-to-logical-requires
 entry-to-logical-requires c κs = search needs
 
 returns-2 : tie.Need-returns-2
-returns-2 c = not-looked _ _ (sym (c .before .before .before .judge-file .ensures) ∙ c .before .why .given .1)
+returns-2 c = looked-up-so _ _ (not-looked _ _ (sym (c .before .before .before .judge-file .ensures) ∙ c .before .why .given .1))
 
 returns-3 : tie.Need-returns-3
 returns-3 c =
@@ -56,8 +56,9 @@ returns-3 c =
     let a = r .before .before .before .before .before .before .before .args in
     let n = entries-long (a .file .now) in
     let h : a .v .0 < length (entriesOf (a .file .now)) = omega (arith, n, r .before .if1 .left) in
-    entered _ _ h (r .read32 .ensures ∙ sym (entry-at (a .file .now) (a .v .0) h)) (c .entry-to-logical .ensures)
-    ∙ looked _ _ (pass (r .before .before .before))
+    looked-up-so _ _
+    (entered _ _ h (r .read32 .ensures ∙ sym (entry-at (a .file .now) (a .v .0) h)) (c .entry-to-logical .ensures)
+    ∙ looked _ _ (pass (r .before .before .before)))
 
 pub look-up-spec : {M : Type 1} → statement M
 look-up-spec =

@@ -5,7 +5,7 @@ use borrow.Author.Needs.{needs}
 use Rattle.refusal.specs.declared.Verdict.the-variants.{Go}
 use Rattle.refusal.specs.Tests.{first}
 use Rattle.vat_look_up.specs.File.{fileTests}
-use Rattle.vat_look_up.proofs.Laws.{long, not-told, told-none, told-block}
+use Rattle.vat_look_up.proofs.Laws.{long, not-told, told-none, told-block, previous-so}
 use Rattle.vat_look_up.proofs.read_previous.Statement.{statement}
 use Rattle.vat_look_up.proofs.read_previous.Tie as tie
 
@@ -29,13 +29,13 @@ read32-requires : tie.Need-read32-requires
 read32-requires c κs = let h = long _ (pass c) .0 in omega arith
 
 returns : tie.Need-returns
-returns c = told-none _ (pass (c .before .before)) _ (c .before .read32 .ensures) (c .if1 .taken)
+returns c = previous-so _ (told-none _ (pass (c .before .before)) _ (c .before .read32 .ensures) (c .if1 .taken))
 
 returns-2 : tie.Need-returns-2
-returns-2 c = not-told _ (sym (c .before .before .before .judge-file .ensures) ∙ c .before .why .given .1)
+returns-2 c = previous-so _ (not-told _ (sym (c .before .before .before .judge-file .ensures) ∙ c .before .why .given .1))
 
 returns-3 : tie.Need-returns-3
-returns-3 c = told-block _ (pass (c .before .before)) _ (c .before .read32 .ensures) (c .if1 .left)
+returns-3 c = previous-so _ (told-block _ (pass (c .before .before)) _ (c .before .read32 .ensures) (c .if1 .left))
 
 pub read-previous-spec : {M : Type 1} → statement M
 read-previous-spec =

@@ -40,7 +40,7 @@ use denote.Triple.Table.{entered, cited}
 use denote.Triple.Walked.{says, Stays, stay-none, walkOf, goes-none, Walks, ends-at, walked, walk-meets}
 use denote.Exit.{yes}
 use denote.Triple.Clauses.{ensured, lasts}
-use Rattle.vat_look_up.specs.File.{counted}
+use Rattle.vat_look_up.specs.File.{CountsEntries}
 use Rattle.vat_look_up.specs.declared.VatFile.{VatFile}
 use Rattle.vat_look_up.specs.declared.Counted.{Counted}
 use Rattle.vat_look_up.proofs.VatFile as T
@@ -72,8 +72,9 @@ module _ {M : Type 1} (𝓤 : URA M) (H : Heap 𝓤) (A : Atoms 𝓤) (W : Given
   abbrev mach : Val
   mach = T′.lowered d
 
-  abbrev found : Counted
-  found = counted (now (d .bytes))
+  -- what is promised of the answer
+  abbrev Promised : Counted → Type 0
+  Promised r = CountsEntries (now (d .bytes)) r
 
   abbrev Post : Val → SProp 𝓤
   Post = walkOf 𝓤 H A entry-count.ended stayed (entry-count.clauses 𝓤 H A mem run) .post (((κ, tt), (q, tt), tt, (d, tt), (mach ∷ [], tt)), tt)
@@ -108,10 +109,10 @@ module _ {M : Type 1} (𝓤 : URA M) (H : Heap 𝓤) (A : Atoms 𝓤) (W : Given
       move ! (2 ∷ 0 ∷ []) $ use2 W (raw (CountEntries 𝓤 H A mem run .pre to)) asked $ frame ! $ done !)
 
   -- of the callee's `ensured`, the clause alone: it has no `&mut`, so what is said of last values is dropped
-  said : (r : Counted) → ent 𝓤 (ensured 𝓤 H A called.ended (called.clauses 𝓤 H A mem run) (κ, tt) (d .bytes, tt) tt r) (fact 𝓤 (r ≡ found))
-  said r = exE 𝓤 _ (λ ws. snd∗ 𝓤 (sem 𝓤 H A (lasts called.ended (κ, tt) (d .bytes, tt) ws)) (fact 𝓤 (r ≡ found)))
+  said : (r : Counted) → ent 𝓤 (ensured 𝓤 H A called.ended (called.clauses 𝓤 H A mem run) (κ, tt) (d .bytes, tt) tt r) (fact 𝓤 (Promised r))
+  said r = exE 𝓤 _ (λ ws. snd∗ 𝓤 (sem 𝓤 H A (lasts called.ended (κ, tt) (d .bytes, tt) ws)) (fact 𝓤 (Promised r)))
 
-  exits : (r : Counted) (u : Val) → r ≡ found → ent 𝓤 (⋆ 𝓤 H A (‵ (S.the-row .own r (u ∷ [])) ∷ (‵ (flft κ q) ⊛ ‵ ftrue) ∷ ‵ Own ∷ [])) (Post u)
+  exits : (r : Counted) (u : Val) → Promised r → ent 𝓤 (⋆ 𝓤 H A (‵ (S.the-row .own r (u ∷ [])) ∷ (‵ (flft κ q) ⊛ ‵ ftrue) ∷ ‵ Own ∷ [])) (Post u)
   exits r u e =
       qed W (‵ (S.the-row .own r (u ∷ [])) ∷ (‵ (flft κ q) ⊛ ‵ ftrue) ∷ ‵ Own ∷ []) ∵
       suffices ! _ (ends-at 𝓤 H A entry-count.ended stayed (entry-count.clauses 𝓤 H A mem run) W (((κ, tt), (q, tt), tt, (d, tt), (mach ∷ [], tt)), tt) u r (tt, tt) (tt, tt)) $ says ! e $
@@ -126,7 +127,7 @@ module _ {M : Type 1} (𝓤 : URA M) (H : Heap 𝓤) (A : Atoms 𝓤) (W : Given
         move ! (6 ∷ []) $ use1 W (raw (CountEntries 𝓤 H A mem run .pre to) ⊛ ‵ Own) apart $ split ! $
         calls-at ! fm (CountEntries 𝓤 H A mem run) known to (and-then ! (load ! (from ! (stop !)) (look ! 2 refl)) (no-more !)) (λ u.
         use1 W (later (some (λ (r : Counted). ((‵ (flft κ q) ⊛ ‵ ftrue) ⊛ ‵ (S.the-row .own r (u ∷ []))) ⊛ raw (ensured 𝓤 H A called.ended (called.clauses 𝓤 H A mem run) (κ, tt) (d .bytes, tt) tt r)))) (id⊢ 𝓤 _) $ await ! tt $ pick ! (λ r.
-        split ! $ move ! (1 ∷ []) $ use1 W (raw (fact 𝓤 (r ≡ found))) (said r) $ heard ! (r ≡ found) (λ e. split ! $ move ! (1 ∷ []) $
+        split ! $ move ! (1 ∷ []) $ use1 W (raw (fact 𝓤 (Promised r))) (said r) $ heard ! (Promised r) (λ e. split ! $ move ! (1 ∷ []) $
         -- [the result; the token; what the struct owns; _2; …; _1; …; room for _0; …]
         peeks ! S.the-row (Is S.the-row) (shows 𝓤 H A S.the-row) r (u ∷ []) (λ is.
         land ! (from ! (stop !)) (init ! 7 refl (EL.lawful S.the-type S′.the-laws 𝓤 H A W tt .typed r _ is .0)) $

@@ -40,7 +40,7 @@ use denote.Triple.Table.{entered, cited}
 use denote.Triple.Walked.{says, Stays, stay-none, walkOf, goes-none, Walks, ends-at, walked, walk-meets}
 use denote.Exit.{yes}
 use denote.Triple.Clauses.{ensured, lasts}
-use Rattle.vat_look_up.specs.File.{lookedUp}
+use Rattle.vat_look_up.specs.File.{LooksUp}
 use Rattle.vat_look_up.specs.declared.VatFile.{VatFile}
 use Rattle.address.specs.declared.VirtualAddress.{VirtualAddress}
 use Rattle.address.specs.declared.ToLogical.{ToLogical}
@@ -78,8 +78,9 @@ module _ {M : Type 1} (𝓤 : URA M) (H : Heap 𝓤) (A : Atoms 𝓤) (W : Given
   abbrev mach-v : Val
   mach-v = VA′.lowered v
 
-  abbrev found : ToLogical
-  found = lookedUp (now (d .bytes)) v
+  -- what is promised of the answer
+  abbrev Promised : ToLogical → Type 0
+  Promised r = LooksUp (now (d .bytes)) v r
 
   abbrev Post : Val → SProp 𝓤
   Post = walkOf 𝓤 H A look-up.ended stayed (look-up.clauses 𝓤 H A mem run) .post (((κ, tt), (q, tt), tt, (d, (v, tt)), (mach ∷ [], (mach-v ∷ [], tt))), tt)
@@ -121,10 +122,10 @@ module _ {M : Type 1} (𝓤 : URA M) (H : Heap 𝓤) (A : Atoms 𝓤) (W : Given
       move ! (3 ∷ 0 ∷ []) $ use2 W (raw (LookUp 𝓤 H A mem run .pre to)) asked $ frame ! $ frame ! $ done !)
 
   -- of the callee's `ensured`, the clause alone: it has no `&mut`, so what is said of last values is dropped
-  said : (r : ToLogical) → ent 𝓤 (ensured 𝓤 H A called.ended (called.clauses 𝓤 H A mem run) (κ, tt) (d .bytes, (v, tt)) tt r) (fact 𝓤 (r ≡ found))
-  said r = exE 𝓤 _ (λ ws. snd∗ 𝓤 (sem 𝓤 H A (lasts called.ended (κ, tt) (d .bytes, (v, tt)) ws)) (fact 𝓤 (r ≡ found)))
+  said : (r : ToLogical) → ent 𝓤 (ensured 𝓤 H A called.ended (called.clauses 𝓤 H A mem run) (κ, tt) (d .bytes, (v, tt)) tt r) (fact 𝓤 (Promised r))
+  said r = exE 𝓤 _ (λ ws. snd∗ 𝓤 (sem 𝓤 H A (lasts called.ended (κ, tt) (d .bytes, (v, tt)) ws)) (fact 𝓤 (Promised r)))
 
-  exits : (r : ToLogical) (u : Val) → r ≡ found → ent 𝓤 (⋆ 𝓤 H A (‵ (S.the-row .own r (u ∷ [])) ∷ (‵ (flft κ q) ⊛ ‵ ftrue) ∷ ‵ Own ∷ ‵ Own-v ∷ [])) (Post u)
+  exits : (r : ToLogical) (u : Val) → Promised r → ent 𝓤 (⋆ 𝓤 H A (‵ (S.the-row .own r (u ∷ [])) ∷ (‵ (flft κ q) ⊛ ‵ ftrue) ∷ ‵ Own ∷ ‵ Own-v ∷ [])) (Post u)
   exits r u e =
       qed W (‵ (S.the-row .own r (u ∷ [])) ∷ (‵ (flft κ q) ⊛ ‵ ftrue) ∷ ‵ Own ∷ ‵ Own-v ∷ []) ∵
       suffices ! _ (ends-at 𝓤 H A look-up.ended stayed (look-up.clauses 𝓤 H A mem run) W (((κ, tt), (q, tt), tt, (d, (v, tt)), (mach ∷ [], (mach-v ∷ [], tt))), tt) u r (tt, (tt, tt)) (tt, (tt, tt))) $ says ! e $
@@ -141,7 +142,7 @@ module _ {M : Type 1} (𝓤 : URA M) (H : Heap 𝓤) (A : Atoms 𝓤) (W : Given
         -- [what the callee asks; what the struct owns; what the address owns; _3; …; _2; …; _1; …; room for _0; …]
         calls-at ! fm (LookUp 𝓤 H A mem run) known to (and-then ! (load ! (from ! (stop !)) (look ! 3 refl)) (and-then ! (load ! (from ! (stop !)) (look ! 5 refl)) (no-more !))) (λ u.
         use1 W (later (some (λ (r : ToLogical). ((‵ (flft κ q) ⊛ ‵ ftrue) ⊛ ‵ (S.the-row .own r (u ∷ []))) ⊛ raw (ensured 𝓤 H A called.ended (called.clauses 𝓤 H A mem run) (κ, tt) (d .bytes, (v, tt)) tt r)))) (id⊢ 𝓤 _) $ await ! tt $ pick ! (λ r.
-        split ! $ move ! (1 ∷ []) $ use1 W (raw (fact 𝓤 (r ≡ found))) (said r) $ heard ! (r ≡ found) (λ e. split ! $ move ! (1 ∷ []) $
+        split ! $ move ! (1 ∷ []) $ use1 W (raw (fact 𝓤 (Promised r))) (said r) $ heard ! (Promised r) (λ e. split ! $ move ! (1 ∷ []) $
         -- [the result; the token; what the struct owns; what the address owns; _3; …; _2; …; _1; …; room for _0; …]
         peeks ! S.the-row (Is S.the-row) (shows 𝓤 H A S.the-row) r (u ∷ []) (λ is.
         land ! (from ! (stop !)) (init ! 10 refl (EL.lawful S.the-type S′.the-laws 𝓤 H A W tt .typed r _ is .0)) $
