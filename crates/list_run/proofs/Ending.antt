@@ -7,6 +7,7 @@ use native.Mathlib.Omega.{arith}
 use Rattle.refusal.specs.declared.Refusal.{Refusal}
 use Rattle.refusal.specs.declared.Verdict.{Verdict}
 use Rattle.refusal.specs.declared.Verdict.the-variants.{Go, Stop}
+use Rattle.refusal.specs.Number.{verdictNumber}
 use Rattle.model.specs.declared.Record.{Record}
 use Rattle.model.specs.declared.Opened.{Opened}
 use Rattle.model.specs.Disc.{Disc}
@@ -19,7 +20,7 @@ use Rattle.list_step.specs.Stepped.{stateOf}
 use Rattle.list_run.specs.declared.Ran.{Ran}
 use Rattle.list_run.specs.Encoded.{decode, encode, poolOf}
 use Rattle.list_run.specs.Listed.{mended}
-use Rattle.list_run.specs.Outcome.{Outcome, outcome, ran, ranBy, carriedOut, listed, answered}
+use Rattle.list_run.specs.Outcome.{Outcome, outcome, ran, ranBy, ranNumber, carriedOut, listed, answered, Runs}
 use Rattle.list_run.specs.Promise.{DemandMet}
 use Rattle.list_run.proofs.Encoding.{decode-encode}
 use Rattle.list_run.proofs.Mending.{mended-proper, proper-mended}
@@ -66,6 +67,25 @@ run-ended e d t t′ ns pool replies held passed q h =
 pub run-refused : (e : Setting) (d : Disc) (t t′ ns pool replies : List ℕ) (why : Refusal) → opening e d t ≡ Opened.Refused why → t′ ≡ openedTable e d t → outcome (Ran.Refused why) d t′ replies ≡ ran e d t ns pool replies
 unfolding ran ranBy
 run-refused e d t t′ ns pool replies why q h = ap (λ (x : List ℕ). outcome (Ran.Refused why) d x replies) (h ∙ left e d t why q) ∙ rw q
+
+-- ---- the promise of a run: of an outcome that the definition gives, its number
+
+-- the number is that of the verdict on its own opening
+ran-number : (v : Verdict) (h : Record) (n : ℕ) (e : Setting) (d : Disc) (t ns pool replies : List ℕ) → ranNumber (ranBy (openedBy v h n) e d t ns pool replies .result) ≡ verdictNumber v
+unfolding openedBy ranBy carriedOut
+ran-number Go h n e d t ns pool replies = refl
+ran-number (Stop why) h n e d t ns pool replies = refl
+
+-- the promise from the equation
+pub ran-so : (e : Setting) (d : Disc) {t ns pool replies : List ℕ} {r : Ran} {d′ : Disc} {t′ replies′ : List ℕ} → outcome r d′ t′ replies′ ≡ ran e d t ns pool replies → Runs (record { setting = e; disc = d }) t ns pool replies r d′ t′ replies′
+unfolding ran opening
+ran-so e d {t} {ns} {pool} {replies} w =
+    record {
+      outcome = w;
+      number =
+          ap (λ (x : Outcome). ranNumber (x .result)) w
+          ∙ ran-number (openVerdict e d t) (recordOn e d) (passedOn e d) e d t ns pool replies;
+    }
 
 -- ---- demand 3
 

@@ -4,11 +4,11 @@ use Prim.Native.Nat.{ℕ}
 use mathlib.Core.Path.{_≡_}
 use mathlib.Core.Bool.{false}
 use mathlib.Core.List.{List, [], _∷_, _++_}
-use Rattle.refusal.specs.Number.{numberOf}
+use Rattle.refusal.specs.Number.{numberOf, verdictNumber}
 use Rattle.model.specs.declared.Opened.{Opened}
 use Rattle.model.specs.Disc.{Disc}
 use Rattle.model.specs.Examine.{Setting}
-use Rattle.model.specs.Both.{opening}
+use Rattle.model.specs.Both.{openVerdict, opening}
 use Rattle.model.specs.Calls.{Call, Answer, State, answers, final}
 use Rattle.model.specs.declared.Record.{Record}
 use Rattle.model.specs.Lent.{Lent}
@@ -57,21 +57,6 @@ ranBy (Opened.Refused why) e d t numbers pool replies = outcome (Ran.Refused why
 unfoldable pub ran : Setting → Disc → List ℕ → List ℕ → List ℕ → List ℕ → Outcome
 ran e d t numbers pool replies = ranBy (opening e d t) e d t numbers pool replies
 
--- ---- the promises over the lent lists: lent the table t, calls as numbers with a pool of bytes, and a place for replies, the call answers r and
--- leaves the disc d, the table t′ and the replies after it
-
--- a list after an opening that handed the record and passed over so many sectors
-abbrev pub CarriesOut : Lent → List ℕ → Record → ℕ → List ℕ → List ℕ → List ℕ → Ran → Disc → List ℕ → List ℕ → Type 0
-CarriesOut x t held passed numbers pool replies r d t′ replies′ =
-    outcome r d t′ replies′
-    ≡ carriedOut (x .setting) (stateOf (x .disc) t held) passed
-    (mended (x .setting) (stateOf (x .disc) t held) false (decode numbers pool))
-    replies
-
--- a list with its own opening
-abbrev pub Runs : Lent → List ℕ → List ℕ → List ℕ → List ℕ → Ran → Disc → List ℕ → List ℕ → Type 0
-Runs x t numbers pool replies r d t′ replies′ = outcome r d t′ replies′ ≡ ran (x .setting) (x .disc) t numbers pool replies
-
 -- ---- what a caller is told of it
 
 -- the number: 0, or the line by which its own opening was turned down
@@ -83,3 +68,19 @@ ranNumber (Ran.Refused why) = numberOf why
 abbrev pub ranValues : Ran → List ℕ
 ranValues (Ran.Ended held passed) = recordValues held ++ (passed ∷ [])
 ranValues (Ran.Refused why) = []
+
+-- ---- the promises over the lent lists: lent the table t, calls as numbers with a pool of bytes, and a place for replies, the call answers r and
+-- leaves the disc d, the table t′ and the replies after it
+
+-- a list after an opening that handed the record and passed over so many sectors
+abbrev pub CarriesOut : Lent → List ℕ → Record → ℕ → List ℕ → List ℕ → List ℕ → Ran → Disc → List ℕ → List ℕ → Type 0
+CarriesOut x t held passed numbers pool replies r d t′ replies′ =
+    outcome r d t′ replies′
+    ≡ carriedOut (x .setting) (stateOf (x .disc) t held) passed
+    (mended (x .setting) (stateOf (x .disc) t held) false (decode numbers pool))
+    replies
+
+-- a list with its own opening; its number is 0 where that was accepted, else the line by which it was turned down
+pub record Runs (x : Lent) (t numbers pool replies : List ℕ) (r : Ran) (d : Disc) (t′ replies′ : List ℕ) : Type 0 where
+  pub outcome : outcome r d t′ replies′ ≡ ran (x .setting) (x .disc) t numbers pool replies
+  pub number : ranNumber r ≡ verdictNumber (openVerdict (x .setting) (x .disc) t)

@@ -51,7 +51,7 @@ returns-2 c =
     let at-ran = c .before .before .before .before .before in
     let at-call = at-ran .before .before .before .before .before .before .before .before .before .before in
     let at-test = at-call .before .before .before .before .before in
-    run-ended _ _ _ _ _ _ _ (at-test .if1 .left) (at-call .run .ensures .0) (at-call .run .ensures .1) (at-ran .ran .given .1) (c .before .before .put-record .ensures)
+    run-ended _ _ _ _ _ _ _ (at-test .if1 .left) (at-call .run .ensures .0 .outcome) (at-call .run .ensures .1) (at-ran .ran .given .1) (c .before .before .put-record .ensures)
 
 same-length-8 : tie.Need-same-length-8
 same-length-8 c = search needs
@@ -70,7 +70,7 @@ returns-3 c =
     let at-ran = c .before .before in
     let at-call = at-ran .before .before .before .before .before .before .before .before .before .before in
     let at-test = at-call .before .before .before .before .before in
-    run-refused _ _ _ _ _ _ _ (at-test .if1 .left) (at-call .run .ensures .0) (at-call .run .ensures .1) (at-ran .ran2 .given .1) (c .number .ensures)
+    run-refused _ _ _ _ _ _ _ (at-test .if1 .left) (at-call .run .ensures .0 .outcome) (at-call .run .ensures .1) (at-ran .ran2 .given .1) (c .number .ensures)
 
 pub tuormik-run-spec : {M : Type 1} → statement M
 tuormik-run-spec =

@@ -9,9 +9,9 @@ use Rattle.model.specs.Disc.{Disc, disc}
 use Rattle.model.specs.Examine.{Setting, setting}
 use Rattle.model.specs.Demand.{Below}
 use Rattle.list_run.specs.declared.Ran.{Ran}
-use Rattle.list_run.specs.Outcome.{outcome, ran}
+use Rattle.list_run.specs.Outcome.{outcome, ran, Runs}
 use Rattle.list_run.specs.Promise.{DemandMet}
-use Rattle.list_run.proofs.Ending.{run-ended, run-refused, demand-met}
+use Rattle.list_run.proofs.Ending.{run-ended, run-refused, ran-so, demand-met}
 use borrow.Author.Needs.{needs}
 use Rattle.list_run.proofs.run.Statement.{statement}
 use Rattle.list_run.proofs.run.Tie as tie
@@ -24,10 +24,10 @@ abbrev discAt : tie.Start → Disc
 discAt z = disc (z .args .disc .now) (z .args .marks .now)
 
 -- both promises, of a run that comes to what the definition says
-promised : (z : tie.Start) (r : Ran) (d : Disc) (t replies : List ℕ) → ((i : ℕ) → getD (z .args .disc .now) i 0 < 256) → outcome r d t replies ≡ ran (settingOf z) (discAt z) (z .args .table .now) (z .args .numbers .now) (z .args .pool .now) (z .args .replies .now) → (outcome r d t replies ≡ ran (settingOf z) (discAt z) (z .args .table .now) (z .args .numbers .now) (z .args .pool .now) (z .args .replies .now)) × DemandMet (settingOf z) (discAt z) (z .args .table .now) (z .args .numbers .now) (z .args .pool .now) r d t
+promised : (z : tie.Start) (r : Ran) (d : Disc) (t replies : List ℕ) → ((i : ℕ) → getD (z .args .disc .now) i 0 < 256) → outcome r d t replies ≡ ran (settingOf z) (discAt z) (z .args .table .now) (z .args .numbers .now) (z .args .pool .now) (z .args .replies .now) → Runs (record { setting = settingOf z; disc = discAt z }) (z .args .table .now) (z .args .numbers .now) (z .args .pool .now) (z .args .replies .now) r d t replies × DemandMet (settingOf z) (discAt z) (z .args .table .now) (z .args .numbers .now) (z .args .pool .now) r d t
 unfolding Below
 promised z r d t replies low w =
-    (w, demand-met (settingOf z) (discAt z) (z .args .table .now) (z .args .numbers .now) (z .args .pool .now) (z .args .replies .now) r d t replies (λ i h. low i) w)
+    (ran-so _ _ w, demand-met (settingOf z) (discAt z) (z .args .table .now) (z .args .numbers .now) (z .args .pool .now) (z .args .replies .now) r d t replies (λ i h. low i) w)
 
 open-requires : tie.Need-open-requires
 open-requires c κs = search needs
