@@ -35,10 +35,12 @@ given (Stop why) q = let z : _≡_ {A = ℕ} 0 1 = cc in absurd (omega arith)
 
 -- ---- what a caller is told: the number of the first line that applies
 
-logical-number : (x : Verdict) (a : LogicalAddress) → logicalNumber (unlessLogical x a) ≡ verdictNumber x
+-- of a translation into the partition
+pub logical-number : (x : Verdict) (a : LogicalAddress) → logicalNumber (unlessLogical x a) ≡ verdictNumber x
 logical-number Go a = refl
 logical-number (Stop why) a = refl
 
+-- of one to the disc
 physical-number : (x : Verdict) (a : PhysicalAddress) → physicalNumber (unlessPhysical x a) ≡ verdictNumber x
 physical-number Go a = refl
 physical-number (Stop why) a = refl

@@ -16,7 +16,7 @@ use Rattle.model.specs.declared.Record.{Record}
 use Rattle.model.specs.declared.Reply.{Reply}
 use Rattle.model.specs.declared.Opened.{Opened}
 use Rattle.model.specs.Disc.{Disc}
-use Rattle.model.specs.Told.{recordValues}
+use Rattle.model.specs.Told.{recordValues, replyValues, openedValues}
 use Rattle.model.specs.Examine.{Setting, shapeTests}
 
 -- ---- cuts
@@ -48,13 +48,13 @@ numbersOf r passed = recordValues r ++ (passed ∷ [])
 
 -- the lent numbers after a writing call's reply: passed over is kept, and a cut or a refusal leaves them as they came
 abbrev pub recordAfter : Reply → List ℕ → List ℕ
-recordAfter (Reply.Done r) k = numbersOf r (getD k 4 0)
+recordAfter (Reply.Done r) k = replyValues (Reply.Done r) ++ (getD k 4 0 ∷ [])
 recordAfter Reply.Cut k = k
 recordAfter (Reply.Refused why) k = k
 
 -- the lent numbers after an opening, which sets passed over
 abbrev pub recordOpened : Opened → List ℕ → List ℕ
-recordOpened (Opened.Open r n) k = numbersOf r n
+recordOpened (Opened.Open r n) k = openedValues (Opened.Open r n)
 recordOpened (Opened.Refused why) k = k
 
 -- ---- lines 1 to 3 of a call on a disc that is lent a record or a result of another length than stated

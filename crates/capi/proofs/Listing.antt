@@ -12,7 +12,7 @@ use Rattle.refusal.specs.declared.Refusal.the-variants.{LentLength, NeitherKind
 use Rattle.refusal.specs.declared.Verdict.{Verdict}
 use Rattle.refusal.specs.declared.Verdict.the-variants.{Go, Stop}
 use Rattle.refusal.specs.Number.{numberOf, verdictNumber}
-use Rattle.refusal.specs.Tests.{need, first}
+use Rattle.refusal.specs.Tests.{need}
 use Rattle.address.specs.declared.LogicalAddress.{LogicalAddress}
 use Rattle.address.specs.declared.ToLogical.{ToLogical}
 use Rattle.maps.specs.declared.Kind.{Kind}

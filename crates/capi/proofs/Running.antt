@@ -18,8 +18,8 @@ use Rattle.capi.specs.Run.{ranRecord, lentRan, SeenRun}
 
 module _ (e : Setting) (d : Disc) (t k calls pool replies : List ℕ) where
   -- what is promised: what C sees, and demand 3
-  abbrev Runs : ℕ → Disc → List ℕ → List ℕ → List ℕ → Type 0
-  Runs n d′ t′ replies′ k′ = SeenRun (lentRan e d t k calls pool replies) k n d′ t′ replies′ k′ × DemandMet e d t calls pool (lentRan e d t k calls pool replies .result) d′ t′
+  abbrev Promised : ℕ → Disc → List ℕ → List ℕ → List ℕ → Type 0
+  Promised n d′ t′ replies′ k′ = SeenRun (lentRan e d t k calls pool replies) k n d′ t′ replies′ k′ × DemandMet e d t calls pool (lentRan e d t k calls pool replies .result) d′ t′
 
   -- demand 3 promises nothing of a run that is refused
   refused-met : {d′ : Disc} {t′ : List ℕ} {why : Refusal} → DemandMet e d t calls pool (Ran.Refused why) d′ t′
@@ -30,7 +30,7 @@ module _ (e : Setting) (d : Disc) (t k calls pool replies : List ℕ) where
       }
 
   -- a record of another length
-  pub run-short : {n : ℕ} → (length k ≡ 5 → ⊥) → n ≡ numberOf (lengthRefusal e d) → Runs n d t replies k
+  pub run-short : {n : ℕ} → (length k ≡ 5 → ⊥) → n ≡ numberOf (lengthRefusal e d) → Promised n d t replies k
   unfolding lentRan
   run-short h q =
       let a = ne-eqb (length k) 5 h in
@@ -38,16 +38,16 @@ module _ (e : Setting) (d : Disc) (t k calls pool replies : List ℕ) where
 
   module _ {r : Ran} {d′ : Disc} {t′ replies′ : List ℕ} (h : length k ≡ 5) (q : outcome r d′ t′ replies′ ≡ ran e d t calls pool replies) (m : DemandMet e d t calls pool r d′ t′) where
     -- one of five numbers: what the run comes to
-    run-five : {n : ℕ} {k′ : List ℕ} → n ≡ ranNumber r → k′ ≡ ranRecord r k → Runs n d′ t′ replies′ k′
+    run-five : {n : ℕ} {k′ : List ℕ} → n ≡ ranNumber r → k′ ≡ ranRecord r k → Promised n d′ t′ replies′ k′
     unfolding lentRan
     run-five hn hk =
         let a = eq-eqb (length k) 5 h in
         rw (a, ← q) (record { number = hn; disc = refl; table = refl; replies = refl; kept = hk }, m)
 
     -- a list that was carried out
-    pub run-ended : {held : Record} {passed : ℕ} {k′ : List ℕ} → r ≡ Ran.Ended held passed → k′ ≡ numbersOf held passed → Runs 0 d′ t′ replies′ k′
+    pub run-ended : {held : Record} {passed : ℕ} {k′ : List ℕ} → r ≡ Ran.Ended held passed → k′ ≡ numbersOf held passed → Promised 0 d′ t′ replies′ k′
     run-ended is hk = run-five (sym (ap ranNumber is)) (hk ∙ sym (ap (λ (x : Ran). ranRecord x k) is))
 
     -- a refusal
-    pub run-refused : {why : Refusal} {n : ℕ} → r ≡ Ran.Refused why → n ≡ numberOf why → Runs n d′ t′ replies′ k
+    pub run-refused : {why : Refusal} {n : ℕ} → r ≡ Ran.Refused why → n ≡ numberOf why → Promised n d′ t′ replies′ k
     run-refused is hn = run-five (hn ∙ sym (ap ranNumber is)) (sym (ap (λ (x : Ran). ranRecord x k) is))

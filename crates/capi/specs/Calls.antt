@@ -4,7 +4,7 @@
 use Prim.Native.Nat.{ℕ}
 use mathlib.Core.Path.{_≡_}
 use mathlib.Core.Bool.{Bool, cond, _&&_}
-use mathlib.Core.List.{List, [], _∷_}
+use mathlib.Core.List.{List}
 use lib.ListN.{length}
 use lib.Dec.{eqb}
 use Rattle.model.specs.declared.Cut.{Cut}
@@ -20,7 +20,7 @@ use Rattle.model.specs.Once.{savePlan, freePlan, commitPlan}
 use Rattle.model.specs.Rewrite.{saveBlockPlan, savePacketPlan, sparePlan}
 use Rattle.model.specs.Both.{opening, openedTable, reading, readBytes}
 use Rattle.once_open.specs.declared.Measured.{Measured}
-use Rattle.once_open.specs.Calls.{fullnessOf}
+use Rattle.once_open.specs.Calls.{fullnessOf, measuredValues}
 use Rattle.call_numbers.specs.Numbers.{recordOf, recordAfter, lengthRefusal}
 
 -- whether a lent record has its length
@@ -96,7 +96,7 @@ lentReadBytes e d t k v out = cond (isRecord k) (readBytes e d t (recordOf k) v 
 
 -- the lent result after it
 abbrev pub measuredAfter : Measured → List ℕ → List ℕ
-measuredAfter (Measured.PerMille n) result = n ∷ []
+measuredAfter (Measured.PerMille n) result = measuredValues (Measured.PerMille n)
 measuredAfter (Measured.Refused why) result = result
 
 -- what fullness answers that is lent the table t, the record k and the result

@@ -2,14 +2,15 @@
 -- in a VAT file ("The plain store", its last paragraph). A result of another length than stated belongs to line 3.
 use Prim.Native.Nat.{ℕ}
 use mathlib.Core.Bool.{cond}
-use mathlib.Core.List.{List, [], _∷_, _++_}
-use lib.ListN.{length, getD, replicate}
+use mathlib.Core.List.{List, [], _∷_}
+use lib.ListN.{length, replicate}
 use lib.Dec.{eqb, leb}
 use Rattle.refusal.specs.declared.Refusal.the-variants.{LentLength, NeitherKind}
 use Rattle.refusal.specs.declared.Verdict.{Verdict}
 use Rattle.refusal.specs.declared.Verdict.the-variants.{Go, Stop}
 use Rattle.refusal.specs.Tests.{test, first, andThen}
 use Rattle.address.specs.declared.ToLogical.{ToLogical}
+use Rattle.address.specs.Told.{logicalValues}
 use Rattle.maps.specs.declared.Kind.the-variants.{WriteOnce, Rewritable}
 use Rattle.maps.specs.declared.Volume.{Volume}
 use Rattle.maps.specs.Kinds.{readMaps, volumeWith}
@@ -47,7 +48,7 @@ lentVerdict kind p size tables out =
 
 -- the lent result after it
 abbrev pub logicalAfter : ToLogical → List ℕ → List ℕ
-logicalAfter (ToLogical.At b) result = b .0 ∷ []
+logicalAfter (ToLogical.At b) result = logicalValues (ToLogical.At b)
 logicalAfter (ToLogical.Refused why) result = result
 
 -- what is answered for virtual v in the file f that is lent the result

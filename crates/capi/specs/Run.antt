@@ -9,13 +9,13 @@ use Rattle.model.specs.Examine.{Setting}
 use Rattle.list_run.specs.declared.Ran.{Ran}
 use Rattle.model.specs.Lent.{Lent}
 use Rattle.list_run.specs.Promise.{DemandMet}
-use Rattle.list_run.specs.Outcome.{Outcome, outcome, ran, ranNumber}
-use Rattle.call_numbers.specs.Numbers.{numbersOf, lengthRefusal}
+use Rattle.list_run.specs.Outcome.{Outcome, outcome, ran, ranNumber, ranValues}
+use Rattle.call_numbers.specs.Numbers.{lengthRefusal}
 use Rattle.capi.specs.Calls.{isRecord}
 
 -- the lent record after it: the record in force, with passed over of the last opening that was accepted
 abbrev pub ranRecord : Ran → List ℕ → List ℕ
-ranRecord (Ran.Ended held passed) k = numbersOf held passed
+ranRecord (Ran.Ended held passed) k = ranValues (Ran.Ended held passed)
 ranRecord (Ran.Refused why) k = k
 
 -- the outcome of a run that is lent the table t, the record k, calls as numbers with a pool of bytes, and a place for replies

@@ -14,7 +14,7 @@ use Rattle.refusal.specs.declared.Refusal.{Refusal}
 use Rattle.refusal.specs.declared.Refusal.the-variants.{DiscShape, SpanOutside, LentLength, Misaligned, OtherKind, StaleRecord}
 use Rattle.refusal.specs.declared.Verdict.{Verdict}
 use Rattle.refusal.specs.declared.Verdict.the-variants.{Go, Stop}
-use Rattle.refusal.proofs.Laws.{stop-go}
+use Rattle.refusal.proofs.Laws.{stop-go, asked-after}
 use Rattle.refusal.specs.Tests.{Test, test, first, need, andThen}
 use Rattle.maps.specs.declared.Kind.{Kind}
 use Rattle.maps.specs.declared.Kind.the-variants.{WriteOnce, Rewritable}
@@ -321,19 +321,11 @@ module _ (e : Setting) (d : Disc) (lent : Bool) {r : Examined} (q : r ≡ examin
 
 -- ---- lines 1 to 7 and 11 of the calls on a write-once disc
 
--- a verdict and two tests, before others
-own-after : (v : Verdict) (a b : Bool) (x y : Refusal) (own : List Test) → andThen v (first (test a x ∷ test b y ∷ own)) ≡ andThen (andThen v (first (test a x ∷ test b y ∷ []))) (first own)
-unfolding need
-own-after (Stop why) a b x y own = refl
-own-after Go false b x y own = refl
-own-after Go true false x y own = refl
-own-after Go true true x y own = refl
-
 module _ (e : Setting) (d : Disc) (t : List ℕ) (lent : Bool) (held : Record) where
   -- a call's own tests are asked after the common ones
   pub once-own : (own : List Test) → onceVerdict e d t lent held own ≡ andThen (onceVerdict e d t lent held []) (first own)
   unfolding onceVerdict
-  once-own own = own-after (examined e d lent) (writeOnce e) (heldFits e d t held) OtherKind StaleRecord own
+  once-own own = asked-after (examined e d lent) (test (writeOnce e) OtherKind ∷ test (heldFits e d t held) StaleRecord ∷ []) own
 
   -- what stops the common tests stops the call
   pub once-stops : (own : List Test) {why : Refusal} → onceVerdict e d t lent held [] ≡ Stop why → onceVerdict e d t lent held own ≡ Stop why

@@ -17,7 +17,7 @@ use Rattle.maps.specs.declared.Volume.{Volume}
 use Rattle.maps.specs.declared.Kind.the-variants.{WriteOnce, Rewritable}
 use Rattle.model.specs.declared.Record.{Record}
 use Rattle.model.specs.declared.Opened.{Opened}
-use Rattle.model.specs.Disc.{Disc, disc, nwa}
+use Rattle.model.specs.Disc.{Disc, nwa}
 use Rattle.model.specs.Vat.{Found, icbAt, vatIcb, scan, vatFile, countOf, entriesOf}
 use Rattle.model.specs.Examine.{Setting, writeOnce, lentTable}
 use Rattle.model.specs.Once.{nextOn, isFound, foundAt, newest, newestFile, openOnceTests, foundRecord, passedOver, filledFrom}

@@ -49,6 +49,11 @@ first-append [] b = refl
 first-append (test true why ∷ a) b = first-append a b
 first-append (test false why ∷ a) b = refl
 
+-- asked after a verdict, the second list is asked after the verdict on the first
+pub asked-after : (v : Verdict) (a b : List Test) → andThen v (first (a ++ b)) ≡ andThen (andThen v (first a)) (first b)
+asked-after Go a b = first-append a b
+asked-after (Stop why) a b = refl
+
 -- what stops the first stops both
 pub stops-all : (a b : List Test) {why : Refusal} → first a ≡ Stop why → Stop why ≡ first (a ++ b)
 stops-all a b e = sym (first-append a b ∙ ap (λ (x : Verdict). andThen x (first b)) e)

@@ -1,5 +1,5 @@
--- Laws of what every call on a rewritable disc examines: how its own tests follow the common ones, what these tell of a call that goes on,
--- and how a call that is judged stands to its plan. Assumes nothing.
+-- Laws of what every call on a rewritable disc examines: how its own tests follow the common ones, and what these tell of a call that goes on.
+-- Assumes nothing.
 use Prim.Native.Nat.{ℕ, _+_, _-_, _*_, _%_, _≤_, _<_}
 use mathlib.Core.Bool.{Bool, true, false, not}
 use mathlib.Core.Path.{_≡_, refl, sym, ap, ap₂, _∙_}
@@ -13,7 +13,7 @@ use Rattle.refusal.specs.declared.Refusal.the-variants.{OtherKind, NoTable, Cop
 use Rattle.refusal.specs.declared.Verdict.{Verdict}
 use Rattle.refusal.specs.declared.Verdict.the-variants.{Go, Stop}
 use Rattle.refusal.specs.Tests.{Test, test, first, need, andThen}
-use Rattle.refusal.proofs.Laws.{passed}
+use Rattle.refusal.proofs.Laws.{passed, asked-after}
 use Rattle.fields.specs.Bytes.{part, same}
 use Rattle.fields.proofs.Laws.{same-true}
 use Rattle.maps.specs.declared.Kind.{Kind}
@@ -28,10 +28,9 @@ use Rattle.model.specs.Disc.{Disc, disc, sector}
 use Rattle.model.specs.Sparing.{entries, entriesFit, counting, current, currentTable, agree}
 use Rattle.model.specs.Examine.{Setting, volume, writeOnce, geometry, examined}
 use Rattle.model.specs.Rewrite.{isNone, tableOn, entriesOn, sequenceOn, countOn, copyTests, heldCurrent, rewritableVerdict}
-use Rattle.model.specs.Plan.{Plan, refuse, unless}
 use Rattle.model.proofs.Basics.{and-true}
 use Rattle.model.proofs.Sectors.{shapely-made, shapely-most, inside-fits}
-use Rattle.model.proofs.Verdicts.{then-go, examined-tells, unless-stop, unless-go}
+use Rattle.model.proofs.Verdicts.{then-go, examined-tells}
 use Rattle.model.proofs.Ground.{Ground, ground}
 use Rattle.model.proofs.SparingLaws.{length-flat, fits-size, current-fits, flat-current}
 use Rattle.sparing_copy.proofs.Laws.{all-on}
@@ -39,22 +38,14 @@ use Rattle.sparing_current.specs.Looked.{lookVerdict}
 
 -- ---- a call's own tests after the common ones
 
--- a verdict and four tests, before others
-own-after : (v : Verdict) (a b c f : Bool) (x y z w : Refusal) (own : List Test) → andThen v (first (test a x ∷ test b y ∷ test c z ∷ test f w ∷ own)) ≡ andThen (andThen v (first (test a x ∷ test b y ∷ test c z ∷ test f w ∷ []))) (first own)
-unfolding need
-own-after (Stop why) a b c f x y z w own = refl
-own-after Go false b c f x y z w own = refl
-own-after Go true false c f x y z w own = refl
-own-after Go true true false f x y z w own = refl
-own-after Go true true true false x y z w own = refl
-own-after Go true true true true x y z w own = refl
-
 module _ (e : Setting) (d : Disc) (t : List ℕ) (lent : Bool) (held : Record) where
   -- a call's own tests are asked after the common ones
   pub rewritable-own : (own : List Test) → rewritableVerdict e d t lent held own ≡ andThen (rewritableVerdict e d t lent held []) (first own)
   unfolding rewritableVerdict copyTests
   rewritable-own own =
-      own-after (examined e d lent) (not (writeOnce e)) (not (isNone (counting d (geometry e d)))) (agree d (tableOn e d) (current d (geometry e d))) (heldCurrent e d t held) OtherKind NoTable CopiesDiffer StaleRecord own
+      asked-after (examined e d lent)
+      (test (not (writeOnce e)) OtherKind ∷ test (not (isNone (counting d (geometry e d)))) NoTable ∷ test (agree d (tableOn e d) (current d (geometry e d))) CopiesDiffer ∷ test (heldCurrent e d t held) StaleRecord ∷ [])
+      own
 
   -- what stops the common tests stops the call
   pub rewritable-stops : (own : List Test) {why : Refusal} → rewritableVerdict e d t lent held [] ≡ Stop why → rewritableVerdict e d t lent held own ≡ Stop why
@@ -195,26 +186,6 @@ common e d t lent held h =
 -- the same from what a call's test of the lent lengths and `judge` answered
 pub going : (e : Setting) (d : Disc) (t : List ℕ) (lent : Bool) (held : Record) {x : Bool} {w : Verdict} → x ≡ lent → w ≡ rewritableVerdict e d t x held [] → w ≡ Go → Common e d t lent held
 going e d t lent held is says h = common e d t lent held (sym (says ∙ ap (λ (b : Bool). rewritableVerdict e d t b held []) is) ∙ h)
-
--- ---- a call with tests of its own; x is what the test of the lent lengths did, w what the common tests said, u what its own said
-
-module _ (e : Setting) (d : Disc) (t : List ℕ) (lent : Bool) (held : Record) (own : List Test) (p : Plan) {x : Bool} {w : Verdict} (is : x ≡ lent) (says : w ≡ rewritableVerdict e d t x held []) where
-  -- the verdict of the common tests
-  common-verdict : rewritableVerdict e d t lent held [] ≡ w
-  common-verdict = sym (says ∙ ap (λ (b : Bool). rewritableVerdict e d t b held []) is)
-
-  -- the common tests stop it
-  pub stopped : {why : Refusal} → w ≡ Stop why → unless (rewritableVerdict e d t lent held own) p ≡ refuse why
-  stopped h = unless-stop p (rewritable-stops e d t lent held own (common-verdict ∙ h))
-
-  module _ (h : w ≡ Go) where
-    -- its own tests stop it
-    pub stopped-own : {u : Verdict} {why : Refusal} → u ≡ first own → u ≡ Stop why → unless (rewritableVerdict e d t lent held own) p ≡ refuse why
-    stopped-own f g = unless-stop p (rewritable-goes e d t lent held own (common-verdict ∙ h) ∙ sym f ∙ g)
-
-    -- nothing stops it
-    pub goes-on : {u : Verdict} → u ≡ first own → u ≡ Go → unless (rewritableVerdict e d t lent held own) p ≡ p
-    goes-on f g = unless-go p (rewritable-goes e d t lent held own (common-verdict ∙ h) ∙ sym f ∙ g)
 
 -- ---- line 11, test by test
 

@@ -21,6 +21,7 @@ use Rattle.address.specs.declared.VirtualAddress.{VirtualAddress}
 use Rattle.address.specs.declared.ToLogical.{ToLogical}
 use Rattle.address.specs.Told.{logicalNumber}
 use Rattle.address.specs.Translation.{unlessLogical, entryTests, entryOf, logicalOf}
+use Rattle.address.proofs.Laws.{logical-number}
 use Rattle.maps.proofs.Tests.{both, fails, holds}
 use Rattle.model.specs.Disc.{Disc, sector, recorded}
 use Rattle.model.specs.Vat.{vatName, none, fileFits, countOf, entriesOf, previousOf, allBelow, tableFits, vatIcb, vatFile}
@@ -168,11 +169,7 @@ module _ (f : List ℕ) where
   -- of a look-up
   pub looked-up-so : (v : VirtualAddress) {r : ToLogical} → r ≡ lookedUp f v → LooksUp f v r
   unfolding lookedUp
-  looked-up-so v h = record { answer = h; number = ap logicalNumber h ∙ by-verdict (lookUpVerdict f v) }
-    where
-      by-verdict : (x : Verdict) → logicalNumber (unlessLogical x (entryOf (entriesOf f) v)) ≡ verdictNumber x
-      by-verdict Go = refl
-      by-verdict (Stop why) = refl
+  looked-up-so v h = record { answer = h; number = ap logicalNumber h ∙ logical-number (lookUpVerdict f v) (entryOf (entriesOf f) v) }
 
   -- of the number of entries
   pub counted-so : {r : Counted} → r ≡ counted f → CountsEntries f r

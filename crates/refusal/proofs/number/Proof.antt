@@ -1,5 +1,5 @@
 -- `refusal::number` meets its contract: each arm is the definition's own case.
-use mathlib.Core.Path.{_≡_, ap, sym}
+use mathlib.Core.Path.{ap, sym}
 use Rattle.refusal.specs.Number.{numberOf}
 use borrow.Author.Needs.{needs}
 use Rattle.refusal.proofs.number.Statement.{statement}
