@@ -2,7 +2,7 @@
 // A slice is a pointer and a length. The record is five numbers: kind (0 write-once, 1 rewritable), N or R,
 // NWA or the sequence, the last ICB (0 on a rewritable disc), and how many sectors the opening passed over.
 // Every function returns a number: 0 done, the line of a refusal (document 01, "Why a call is turned down"),
-// 255 for a call that was cut. No function has a requires.
+// 255 for a call that was cut; those of the CRC return its value, and refuse nothing. No function has a requires.
 use address::Span;
 use address::ToLogical;
 use address::VirtualAddress;
@@ -27,6 +27,7 @@ ghost use Rattle.model.specs.Both.{makeVerdict, made};
 ghost use Rattle.model.specs.Lent.{lent};
 ghost use Rattle.model.specs.Told.{openedNumber, givenNumber};
 ghost use Rattle.refusal.specs.Number.{verdictNumber};
+ghost use Rattle.tag.specs.Crc.{byteStep, crcFrom};
 ghost use Rattle.maps.specs.Numbers.{volumeNumbers};
 ghost use Rattle.address.specs.Told.{logicalNumber};
 ghost use Rattle.once_open.specs.Calls.{measuredNumber};
@@ -478,6 +479,40 @@ pub extern "C" fn tuormik_look_up(file: &[u8], v: u32, result: &mut [u32]) -> u3
         }
         ToLogical::Refused(why) => refusal::number(why),
     }
+}
+
+// ---- the CRC of a tag
+
+// The CRC of some bytes, as the tags of a disc have it. It starts at 0, or at the CRC of the bytes before them.
+#[no_mangle]
+pub extern "C" fn tuormik_crc(bytes: &[u8], start: u16) -> u16
+    ensures { λ r. ⌜ r ≡ crcFrom start (now (bytes .entry)) ⌝ }
+{
+    tag::crc(bytes, start)
+}
+
+// The same, byte by byte.
+#[no_mangle]
+pub extern "C" fn tuormik_crc_by_bytes(bytes: &[u8], start: u16) -> u16
+    ensures { λ r. ⌜ r ≡ crcFrom start (now (bytes .entry)) ⌝ }
+{
+    tag::crc_by_bytes(bytes, start)
+}
+
+// The same, each word of four bytes by the word's step.
+#[no_mangle]
+pub extern "C" fn tuormik_crc_by_words(bytes: &[u8], start: u16) -> u16
+    ensures { λ r. ⌜ r ≡ crcFrom start (now (bytes .entry)) ⌝ }
+{
+    tag::crc_by_words(bytes, start)
+}
+
+// The word's step: a CRC with four bytes more.
+#[no_mangle]
+pub extern "C" fn tuormik_crc_word(crc: u16, a: u8, b: u8, c: u8, d: u8) -> u16
+    ensures { λ r. ⌜ r ≡ byteStep (byteStep (byteStep (byteStep crc a) b) c) d ⌝ }
+{
+    tag::crc_word(crc, a, b, c, d)
 }
 
 // ---- lists of calls

@@ -51,7 +51,7 @@ xor-assoc = bin-ind (λ (n : ℕ). (b c : ℕ) → bitXor (bitXor n b) c ≡ bit
         ∙ sym (xor-halves n (bitXor b c))
 
 -- two pairs may be taken crosswise
-xor-pairs : (a b c d : ℕ) → bitXor (bitXor a b) (bitXor c d) ≡ bitXor (bitXor a c) (bitXor b d)
+pub xor-pairs : (a b c d : ℕ) → bitXor (bitXor a b) (bitXor c d) ≡ bitXor (bitXor a c) (bitXor b d)
 xor-pairs a b c d =
     xor-assoc a b (bitXor c d)
     ∙ ap (bitXor a) (sym (xor-assoc b c d) ∙ ap (λ (x : ℕ). bitXor x d) (xor-comm b c) ∙ xor-assoc c b d)
@@ -126,7 +126,7 @@ unfolding bitsOf
 bitsOf-xor a b = rw (bit-xor a b 7, bit-xor a b 6, bit-xor a b 5, bit-xor a b 4, bit-xor a b 3, bit-xor a b 2, bit-xor a b 1, xor-mod a b 1)
 
 -- the step by one byte
-byteStep-xor : (c d a b : ℕ) → byteStep (bitXor c d) (bitXor a b) ≡ bitXor (byteStep c a) (byteStep d b)
+pub byteStep-xor : (c d a b : ℕ) → byteStep (bitXor c d) (bitXor a b) ≡ bitXor (byteStep c a) (byteStep d b)
 unfolding byteStep bitsOf
 byteStep-xor c d a b = ap (bitsFrom (bitXor c d)) (bitsOf-xor a b) ∙ bitsFrom-xor c d (bitsOf a) (bitsOf b) refl
 

@@ -1,10 +1,13 @@
 // The descriptor tag of ECMA-167: its checksum and its CRC, as 01, "The VAT and its ICB", gives them.
 // The layers above may count on both as specs/ defines them: the checksum of any tag, the CRC of any bytes from any start.
+// The CRC takes a word of four bytes at a time, and a tail of up to three by the byte (02, slip 3).
 ghost use mathlib.Core.Path.{_≡_};
-ghost use Prim.Native.Nat.{_%_, _≤_, _<_};
+ghost use Prim.Native.Nat.{_+_, _*_, _%_, _≤_, _<_};
+ghost use lib.Bits.{bitXor};
 ghost use lib.ListN.{length};
 ghost use Rattle.tag.specs.Checksum.{total, checksumOf};
 ghost use Rattle.tag.specs.Crc.{byteStep, crcFrom};
+ghost use Rattle.tag.specs.Word.{wordOf, wordAt, wordStep, carried};
 
 // The bytes of a tag, and where among them its fields stand.
 pub const TAG_BYTES: usize = 16;
@@ -48,18 +51,11 @@ pub fn checksum(tag: &[u8]) -> u8
     )
 }
 
-// A byte, at 16 bits.
-fn wide(x: u8) -> u16
-    ensures { λ r. ⌜ (r ≡ x) × (r < 256) ⌝ }
-{
-    x as u16
-}
-
 // The CRC of one byte alone, from 0: the byte against its own high half, once for each term of the polynomial.
 fn spread(x: u8) -> u16
     ensures { λ r. ⌜ r ≡ byteStep 0 x ⌝ }
 {
-    let y = wide(x ^ (x / 16));
+    let y = fields::u16_of_u8(x ^ (x / 16));
     ((y % 16) * 4096) ^ (y * 32) ^ y
 }
 
@@ -71,8 +67,8 @@ fn crc_byte(crc: u16, byte: u8) -> u16
     ((crc % 256) * 256) ^ spread(high ^ byte)
 }
 
-// The CRC of some bytes. It starts at 0, or at the CRC of the bytes before them.
-pub fn crc(bytes: &[u8], start: u16) -> u16
+// The CRC of some bytes, byte by byte. It starts at 0, or at the CRC of the bytes before them.
+pub fn crc_by_bytes(bytes: &[u8], start: u16) -> u16
     ensures { λ r. ⌜ r ≡ crcFrom start (now (bytes .entry)) ⌝ }
 {
     let mut so_far = start;
@@ -82,4 +78,119 @@ pub fn crc(bytes: &[u8], start: u16) -> u16
         i += 1;
     }
     so_far
+}
+
+// Four bytes as a word, the first the highest.
+fn word(a: u8, b: u8, c: u8, d: u8) -> u32
+    ensures { λ r. ⌜ r ≡ wordOf a b c d ⌝ }
+{
+    fields::u32_of_u8(a) * 16777216
+        + fields::u32_of_u8(b) * 65536
+        + fields::u32_of_u8(c) * 256
+        + fields::u32_of_u8(d)
+}
+
+// The CRC of one word alone, from 0: its quotient by the polynomial, then the quotient's product with it.
+fn fold(t: u32) -> u16
+    ensures { λ r. ⌜ r ≡ wordStep 0 t ⌝ }
+{
+    let u = t ^ (t / 16) ^ (t / 2048) ^ (t / 65536);
+    let v = u ^ (u / 256) ^ (u / 4194304);
+    let q = (v ^ (v / 65536)) % 65536;
+    ((q ^ (q * 32) ^ (q * 4096)) % 65536) as u16
+}
+
+// A CRC at 32 bits, above 16 bits more.
+fn raised(crc: u16) -> u32
+    ensures { λ r. ⌜ (r ≡ crc * 65536) × (r < 4294967296) ⌝ }
+{
+    (crc as u32) * 65536
+}
+
+// The word's step: from any CRC and four bytes, what four byte steps give.
+pub fn crc_word(crc: u16, a: u8, b: u8, c: u8, d: u8) -> u16
+    ensures { λ r. ⌜ r ≡ byteStep (byteStep (byteStep (byteStep crc a) b) c) d ⌝ }
+{
+    fold(raised(crc) ^ word(a, b, c, d))
+}
+
+// The CRC of some bytes, each word of four by the word's step, and a tail of up to three by the byte.
+pub fn crc_by_words(bytes: &[u8], start: u16) -> u16
+    ensures { λ r. ⌜ r ≡ crcFrom start (now (bytes .entry)) ⌝ }
+{
+    let mut so_far = start;
+    let mut i: usize = 0;
+    while 4 <= bytes.len() - i {
+        so_far = crc_word(so_far, bytes[i], bytes[i + 1], bytes[i + 2], bytes[i + 3]);
+        i += 4;
+    }
+    crc_by_bytes(&bytes[i..], so_far)
+}
+
+// The word at a place of the bytes, against a word to be put against it.
+fn against(bytes: &[u8], at: usize, mask: u32) -> u32
+    requires { ⌜ at + 4 ≤ length (now bytes) ⌝ }
+    ensures { λ r. ⌜ (r ≡ bitXor mask (wordAt (now (bytes .entry)) at)) × (r < 4294967296) ⌝ }
+{
+    mask ^ word(bytes[at], bytes[at + 1], bytes[at + 2], bytes[at + 3])
+}
+
+// The lowest byte of a word.
+fn low(w: u32) -> u8
+    ensures { λ r. ⌜ r ≡ w % 256 ⌝ }
+{
+    (w % 256) as u8
+}
+
+// The word's step, of four bytes held as a word.
+fn step(crc: u16, w: u32) -> u16
+    ensures { λ r. ⌜ r ≡ wordStep crc w ⌝ }
+{
+    crc_word(crc, low(w / 16777216), low(w / 65536), low(w / 256), low(w))
+}
+
+// The CRC of the bytes from a place on, with four words to be put against the four there: these, then the bytes left.
+fn crc_against(bytes: &[u8], at: usize, a: u32, b: u32, c: u32, d: u32) -> u16
+    requires { ⌜ at + 16 ≤ length (now bytes) ⌝ }
+    ensures { λ r. ⌜ r ≡ carried (now (bytes .entry)) at a b c d ⌝ }
+{
+    let first = step(0, against(bytes, at, a));
+    let second = step(first, against(bytes, at + 4, b));
+    let third = step(second, against(bytes, at + 8, c));
+    let fourth = step(third, against(bytes, at + 12, d));
+    crc_by_bytes(&bytes[at + 16..], fourth)
+}
+
+// The CRC of 16 bytes and more.
+// x^128 + x^96 + x^40 + 1 is a multiple of the polynomial (its eighth power), so a word may be taken off the bytes
+// and put against those 4, 11 and 16 bytes further on: a, b, c and d are what is to be put against the next four words.
+fn crc_long(bytes: &[u8], start: u16) -> u16
+    requires { ⌜ 16 ≤ length (now bytes) ⌝ }
+    ensures { λ r. ⌜ r ≡ crcFrom start (now (bytes .entry)) ⌝ }
+{
+    let mut a = raised(start);
+    let mut b: u32 = 0;
+    let mut c: u32 = 0;
+    let mut d: u32 = 0;
+    let mut i: usize = 0;
+    while 20 <= bytes.len() - i {
+        let t = against(bytes, i, a);
+        a = b ^ t;
+        b = c ^ (t / 16777216);
+        c = d ^ ((t % 16777216) * 256);
+        d = t;
+        i += 4;
+    }
+    crc_against(bytes, i, a, b, c, d)
+}
+
+// The CRC of some bytes, by words, and a tail of up to three by the byte. It starts at 0, or at the CRC of the bytes before them.
+pub fn crc(bytes: &[u8], start: u16) -> u16
+    ensures { λ r. ⌜ r ≡ crcFrom start (now (bytes .entry)) ⌝ }
+{
+    if bytes.len() < 16 {
+        crc_by_words(bytes, start)
+    } else {
+        crc_long(bytes, start)
+    }
 }

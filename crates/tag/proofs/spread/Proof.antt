@@ -18,8 +18,8 @@ rule : (x : ℕ) → x < 256 → spreadOf (bitXor x (x / 16)) ≡ byteStep 0 x
 unfolding bitStep bitsOf bitsFrom byteStep
 rule x h = listed-agree (λ (n : ℕ). spreadOf (bitXor n (n / 16))) (byteStep 0) 256 x refl h
 
-wide-requires : tie.Need-wide-requires
-wide-requires c κs = search needs
+u16-of-u8-requires : tie.Need-u16-of-u8-requires
+u16-of-u8-requires c κs = search needs
 
 mul-result : tie.Need-mul-result
 mul-result c = search needs
@@ -28,7 +28,7 @@ mul-result-2 : tie.Need-mul-result-2
 mul-result-2 c = search needs
 
 returns : tie.Need-returns
-returns c = ap spreadOf (c .wide .ensures .0) ∙ rule (c .before .args .x) (c .before .fits .x .fits)
+returns c = ap spreadOf (c .u16-of-u8 .ensures .0) ∙ rule (c .before .args .x) (c .before .fits .x .fits)
 
 pub spread-spec : {M : Type 1} → statement M
-spread-spec = tie.close (tie.spec wide-requires mul-result mul-result-2 returns)
+spread-spec = tie.close (tie.spec u16-of-u8-requires mul-result mul-result-2 returns)

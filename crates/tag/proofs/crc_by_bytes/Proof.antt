@@ -1,4 +1,4 @@
--- `tag::crc` meets its contract. The invariant: what is left of the bytes leads from the CRC so far to the CRC of the whole.
+-- `tag::crc_by_bytes` meets its contract. The invariant: what is left of the bytes leads from the CRC so far to the CRC of the whole.
 -- Assumes nothing.
 use Prim.Native.Nat.{_-_, _≤_}
 use mathlib.Core.Path.{_≡_, refl, sym, _∙_}
@@ -7,8 +7,8 @@ use lib.ListN.{length, drop}
 use borrow.Author.Needs.{needs}
 use Rattle.tag.specs.Crc.{crcFrom}
 use Rattle.tag.proofs.Laws.{crc-next, crc-end}
-use Rattle.tag.proofs.crc.Statement.{statement}
-use Rattle.tag.proofs.crc.Tie as tie
+use Rattle.tag.proofs.crc_by_bytes.Statement.{statement}
+use Rattle.tag.proofs.crc_by_bytes.Tie as tie
 
 abbrev Inv-loop : tie.InvT-loop
 Inv-loop bytes start so-far₀ i₀ so-far i = (i ≤ length bytes) × (crcFrom so-far (drop i bytes) ≡ crcFrom start bytes)
@@ -41,8 +41,8 @@ returns c =
     let at = c .before .loop in
     sym (crc-end (at .so-far) _ (at .i) (omega arith)) ∙ at .inv .1
 
-pub crc-spec : {M : Type 1} → statement M
-crc-spec =
+pub crc-by-bytes-spec : {M : Type 1} → statement M
+crc-by-bytes-spec =
     tie.close
     (tie.spec
     Inv-loop
