@@ -1,5 +1,5 @@
 #!/usr/bin/env bash
-# The C side: the header by itself, the examples, and both again through what install.sh installs.
+# The C side: the header by itself, the functions of the CRC, the examples, and header and examples again as install.sh installs them.
 #
 #     bash checks/c.sh
 #
@@ -17,6 +17,12 @@ cc -std=c99 $warnings -Iinclude checks/header.c -o "$room/header"
 c++ $warnings -Iinclude -x c++ checks/header.c -o "$room/header"
 "$room/header"
 c++ $warnings -Iinclude -x c++ -fsyntax-only examples/c/disc.c examples/c/rewritable.c
+
+# the functions of the CRC, in both languages
+cc -std=c99 $warnings -Iinclude checks/crc.c "$library" -o "$room/crc"
+"$room/crc"
+c++ $warnings -Iinclude -x c++ checks/crc.c -x none "$library" -o "$room/crc"
+"$room/crc"
 
 # the examples: each ends with status 0 if every answer was the expected one
 for example in disc rewritable; do
@@ -53,4 +59,4 @@ DESTDIR="$room/stage" PREFIX=/usr LIBDIR=/usr/lib64 sh install.sh
 cmp "$room/stage/usr/include/tuormik.h" include/tuormik.h
 cmp "$room/stage/usr/lib64/libtuormik.a" "$library"
 grep -qx 'libdir=/usr/lib64' "$room/stage/usr/lib64/pkgconfig/tuormik.pc"
-echo "The header, the examples and the installed library are as they should be."
+echo "The header, the CRC, the examples and the installed library are as they should be."

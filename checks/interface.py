@@ -66,8 +66,9 @@ SLICES = {
     "&[u32]": ("const u32*", "usize"),
     "&mut [u32]": ("u32*", "usize"),
 }
-NUMBERS = {"u16", "u32"}
+NUMBERS = {"u8", "u16", "u32"}
 C_TYPES = {
+    "uint8_t": "u8",
     "uint16_t": "u16",
     "uint32_t": "u32",
     "size_t": "usize",
@@ -77,6 +78,7 @@ C_TYPES = {
     "uint32_t *": "u32*",
 }
 RUST_TYPES = {
+    "u8": "u8",
     "u16": "u16",
     "u32": "u32",
     "usize": "usize",
@@ -284,6 +286,13 @@ SLIPS = [
     (HEADER, "uint32_t cut_at, uint32_t cut_effect);", "uint32_t cut_at);"),
     (HEADER, "uint32_t tuormik_look_up(", "uint32_t tuormik_more(uint32_t v);\nuint32_t tuormik_look_up("),
     (HEADER, "uint32_t tuormik_look_up(", "int tuormik_more(int (*f)(int));\nuint32_t tuormik_look_up("),
+    (HEADER, "uint16_t tuormik_crc(", "uint32_t tuormik_crc("),
+    (HEADER, "uint16_t tuormik_crc_word(", "int16_t tuormik_crc_word("),
+    (HEADER, "size_t bytes_length, uint16_t start", "size_t bytes_length, uint32_t start"),
+    (HEADER, "size_t bytes_length, uint16_t start", "uint16_t start, size_t bytes_length"),
+    (HEADER, "uint8_t c, uint8_t d", "uint8_t d, uint8_t c"),
+    (HEADER, "uint8_t c, uint8_t d", "uint8_t c, uint16_t d"),
+    (HEADER, "uint8_t c, uint8_t d", "uint8_t c"),
     (HEADER, "#define TUORMIK_NO_SPARE 19u", "#define TUORMIK_NO_SPARE 18u"),
     (HEADER, "#define TUORMIK_NO_SPARE 19u\n", ""),
     (HEADER, "    case TUORMIK_NO_SPARE:\n", ""),
@@ -299,9 +308,17 @@ SLIPS = [
     (DECLARED, "partition: u16", "partition: u32"),
     (DECLARED, "pub fn tuormik_make(", "pub fn tuormik_made("),
     (DECLARED, ") -> u32;", ") -> u64;"),
+    (DECLARED, ") -> u16;", ") -> u32;"),
+    (DECLARED, "start: u16", "start: u32"),
+    (DECLARED, "c: u8, d: u8", "d: u8, c: u8"),
+    (DECLARED, "c: u8, d: u8", "c: u8, d: i8"),
     (SOURCE, "disc: &[u8],\n    marks: &[u8],", "marks: &[u8],\n    disc: &[u8],"),
     (SOURCE, "table: &mut [u32]", "table: &[u32]"),
     (SOURCE, "partition: u16,\n    size: u32,\n    tables", "partition: u32,\n    size: u32,\n    tables"),
+    (SOURCE, "bytes: &[u8], start: u16) -> u16", "bytes: &[u8], start: u16) -> u32"),
+    (SOURCE, "bytes: &[u8], start: u16", "start: u16, bytes: &[u8]"),
+    (SOURCE, "crc: u16, a: u8, b: u8", "a: u8, crc: u16, b: u8"),
+    (SOURCE, "c: u8, d: u8", "d: u8, c: u8"),
     (SOURCE, 'pub extern "C" fn tuormik_run(', 'pub extern "C" fn tuormik_run_on('),
     (SOURCE, '#[no_mangle]\npub extern "C" fn tuormik_run(', "pub fn tuormik_run("),
     (SOURCE, '#[no_mangle]\npub extern "C" fn tuormik_run(', 'pub extern "C" fn tuormik_run('),

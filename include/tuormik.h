@@ -19,7 +19,8 @@
  * written.
  *
  * Every call returns a number: 0 (TUORMIK_DONE), a refusal (the line of 01, 1 to 21), or 255 (TUORMIK_CUT) where the power failed in it.
- * Refusals are tested in the order of their numbers. On a refusal nothing lent has changed. Every call returns, whatever it is lent.
+ * Refusals are tested in the order of their numbers. On a refusal nothing lent has changed. The functions of the CRC return its value and
+ * refuse nothing. Every call returns, whatever it is lent.
  *
  * The layer has no variables of its own and allocates nothing: all that a call reads or writes is lent to it, but for at most
  * TUORMIK_STACK bytes of stack. It calls nothing but the C library's functions on memory (memcpy and its like). Nothing has to be begun
@@ -358,6 +359,34 @@ uint32_t tuormik_write_maps(uint32_t kind, uint16_t partition, uint32_t table_by
 uint32_t tuormik_look_up(const uint8_t *file, size_t file_length,
                          uint32_t v,
                          uint32_t *result, size_t result_length);
+
+/* ---- the CRC of descriptor tags
+ *
+ * ECMA-167, 7.2.6: polynomial 0x1021 (x^16 + x^12 + x^5 + 1), high bit first, from any start. In a tag it starts at 0. The CRC of a whole
+ * is that of its second part, started at that of its first; the CRC of no bytes is its start.
+ * These functions return their value, refuse nothing and write nothing.
+ */
+
+/*
+ * The CRC of the bytes, from `start`, as the calls compute it: a word of four bytes at a time and, at the end, a tail of up to three by
+ * the byte.
+ */
+uint16_t tuormik_crc(const uint8_t *bytes, size_t bytes_length, uint16_t start);
+
+/*
+ * The same value, for any bytes and any start: a byte at a time.
+ */
+uint16_t tuormik_crc_by_bytes(const uint8_t *bytes, size_t bytes_length, uint16_t start);
+
+/*
+ * The same value, for any bytes and any start: each word of four bytes by tuormik_crc_word, and a tail of up to three by the byte.
+ */
+uint16_t tuormik_crc_by_words(const uint8_t *bytes, size_t bytes_length, uint16_t start);
+
+/*
+ * The word's step: from any CRC, what the steps of the bytes a, b, c and d, in this order, give.
+ */
+uint16_t tuormik_crc_word(uint16_t crc, uint8_t a, uint8_t b, uint8_t c, uint8_t d);
 
 /* ---- lists of calls */
 

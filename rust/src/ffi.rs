@@ -178,6 +178,10 @@ extern "C" {
         out_length: usize,
     ) -> u32;
     pub fn tuormik_look_up(file: *const u8, file_length: usize, v: u32, result: *mut u32, result_length: usize) -> u32;
+    pub fn tuormik_crc(bytes: *const u8, bytes_length: usize, start: u16) -> u16;
+    pub fn tuormik_crc_by_bytes(bytes: *const u8, bytes_length: usize, start: u16) -> u16;
+    pub fn tuormik_crc_by_words(bytes: *const u8, bytes_length: usize, start: u16) -> u16;
+    pub fn tuormik_crc_word(crc: u16, a: u8, b: u8, c: u8, d: u8) -> u16;
     pub fn tuormik_run(
         disc: *mut u8,
         disc_length: usize,
