@@ -329,6 +329,26 @@ pub unsafe extern "C" fn tuormik_look_up(file: *const u8, file_length: usize, v:
 }
 
 #[no_mangle]
+pub unsafe extern "C" fn tuormik_crc(bytes: *const u8, bytes_length: usize, start: u16) -> u16 {
+    plain::crc_from(lent(bytes, bytes_length), start)
+}
+
+#[no_mangle]
+pub unsafe extern "C" fn tuormik_crc_by_bytes(bytes: *const u8, bytes_length: usize, start: u16) -> u16 {
+    plain::crc_from(lent(bytes, bytes_length), start)
+}
+
+#[no_mangle]
+pub unsafe extern "C" fn tuormik_crc_by_words(bytes: *const u8, bytes_length: usize, start: u16) -> u16 {
+    plain::crc_by_four_tables(lent(bytes, bytes_length), start)
+}
+
+#[no_mangle]
+pub extern "C" fn tuormik_crc_word(crc: u16, a: u8, b: u8, c: u8, d: u8) -> u16 {
+    plain::crc_from(&[a, b, c, d], crc)
+}
+
+#[no_mangle]
 pub unsafe extern "C" fn tuormik_run(
     disc: *mut u8,
     disc_length: usize,

@@ -2,8 +2,8 @@
 //!
 //! It was written from document 01, with the readings of open points in `docs/DECISIONS.md`, and shares no code with the proved layer.
 //! The tests hold the two against each other, and the benchmarks take it as their baseline. Each function is the one of the same name in
-//! `include/tuormik.h`, with slices for pointers and lengths. "Line n" is line n of 01, "Why a call is turned down"; a call is turned
-//! down by `Err(n)`.
+//! `include/tuormik.h`, with slices for pointers and lengths; the CRC goes by tables and has names of its own. "Line n" is line n of 01,
+//! "Why a call is turned down"; a call is turned down by `Err(n)`.
 #![deny(missing_docs)]
 #![allow(clippy::too_many_arguments)]
 
@@ -108,9 +108,48 @@ const fn crc_table() -> [u16; 256] {
 
 static CRC_TABLE: [u16; 256] = crc_table();
 
-/// The CRC of polynomial 0x1021, start 0, high bit first.
+/// The CRC of polynomial 0x1021, high bit first, from a start.
+pub fn crc_from(bytes: &[u8], start: u16) -> u16 {
+    bytes.iter().fold(start, |crc, &b| crc << 8 ^ CRC_TABLE[usize::from((crc >> 8) as u8 ^ b)])
+}
+
+/// The CRC of a tag: from 0.
 pub fn crc(bytes: &[u8]) -> u16 {
-    bytes.iter().fold(0, |crc, &b| crc << 8 ^ CRC_TABLE[usize::from((crc >> 8) as u8 ^ b)])
+    crc_from(bytes, 0)
+}
+
+/// In table n: what a byte gives with n bytes of 0 after it.
+const fn crc_tables() -> [[u16; 256]; 4] {
+    let first = crc_table();
+    let mut tables = [first; 4];
+    let mut n = 1;
+    while n < 4 {
+        let mut i = 0;
+        while i < 256 {
+            let crc = tables[n - 1][i];
+            tables[n][i] = crc << 8 ^ first[(crc >> 8) as usize];
+            i += 1;
+        }
+        n += 1;
+    }
+    tables
+}
+
+static CRC_TABLES: [[u16; 256]; 4] = crc_tables();
+
+/// The same as [`crc_from`] by four tables held ready: a word of four bytes at a time, and a tail of up to three by the byte. No call
+/// uses it: the benchmarks do.
+pub fn crc_by_four_tables(bytes: &[u8], start: u16) -> u16 {
+    let words = bytes.chunks_exact(4);
+    let tail = words.remainder();
+    let crc = words.fold(start, |crc, w| {
+        let [high, low] = crc.to_be_bytes();
+        CRC_TABLES[3][usize::from(high ^ w[0])]
+            ^ CRC_TABLES[2][usize::from(low ^ w[1])]
+            ^ CRC_TABLES[1][usize::from(w[2])]
+            ^ CRC_TABLES[0][usize::from(w[3])]
+    });
+    crc_from(tail, crc)
 }
 
 /// The sum of a tag's bytes but its own, modulo 256.
