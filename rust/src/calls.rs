@@ -1,4 +1,5 @@
-//! The functions of `include/tuormik.h` over slices: each returns 0, a refusal's number or 255, as it does for C.
+//! The functions of `include/tuormik.h` over slices: each returns 0, a refusal's number or 255, as it does for C; those of the CRC return
+//! its value.
 //!
 //! Slices give what no callee can examine: pointers that are not null and aligned, and lent memory that does not overlap.
 #![allow(clippy::too_many_arguments)]
@@ -315,6 +316,42 @@ pub fn write_maps(kind: u32, partition: u16, table_bytes: u32, tables: &[u32], o
 pub fn look_up(file: &[u8], v: u32, result: &mut [u32]) -> u32 {
     // SAFETY: each pointer and length are those of a slice, and a slice lent to be written is lent to nobody else.
     unsafe { ffi::tuormik_look_up(file.as_ptr(), file.len(), v, result.as_mut_ptr(), result.len()) }
+}
+
+/// The CRC of descriptor tags (ECMA-167, 7.2.6): polynomial 0x1021, high bit first; of these bytes, from any start.
+///
+/// In a tag it starts at 0. The CRC of a whole is that of its second part, started at that of its first.
+///
+/// ```
+/// assert_eq!(tuormik::crc(b"123456789", 0), 0x31c3);
+/// assert_eq!(tuormik::crc(b"6789", tuormik::crc(b"12345", 0)), 0x31c3);
+/// ```
+pub fn crc(bytes: &[u8], start: u16) -> u16 {
+    // SAFETY: the pointer and the length are those of a slice.
+    unsafe { ffi::tuormik_crc(bytes.as_ptr(), bytes.len(), start) }
+}
+
+/// The value of [`crc`], a byte at a time.
+pub fn crc_by_bytes(bytes: &[u8], start: u16) -> u16 {
+    // SAFETY: the pointer and the length are those of a slice.
+    unsafe { ffi::tuormik_crc_by_bytes(bytes.as_ptr(), bytes.len(), start) }
+}
+
+/// The value of [`crc`], each word of four bytes by [`crc_word`], and a tail of up to three by the byte.
+pub fn crc_by_words(bytes: &[u8], start: u16) -> u16 {
+    // SAFETY: the pointer and the length are those of a slice.
+    unsafe { ffi::tuormik_crc_by_words(bytes.as_ptr(), bytes.len(), start) }
+}
+
+/// The word's step: from any CRC, what the steps of the four bytes give, one after the other.
+///
+/// ```
+/// assert_eq!(tuormik::crc_word(0x1d0f, *b"1234"), tuormik::crc_by_bytes(b"1234", 0x1d0f));
+/// ```
+pub fn crc_word(crc: u16, word: [u8; 4]) -> u16 {
+    let [a, b, c, d] = word;
+    // SAFETY: numbers alone are handed over.
+    unsafe { ffi::tuormik_crc_word(crc, a, b, c, d) }
 }
 
 /// Opens the disc and carries out a list of calls.

@@ -1,8 +1,8 @@
 //! The volume descriptors of an image (ECMA-167, part 3), as far as they tell a volume's map list, S and L. They are no part of document
-//! 01: what they say is handed to its calls, which examine it.
+//! 01: what they say is handed to its calls, which examine it. The CRC of their tags is the proved one.
 
 use crate::numbers::grouped;
-use crate::{read_maps, Maps, SECTOR};
+use crate::{crc, read_maps, Maps, SECTOR};
 
 /// The map list, S and L of a volume.
 #[derive(Clone, Debug, PartialEq, Eq)]
@@ -47,17 +47,11 @@ fn sector(image: &[u8], at: usize) -> Option<&[u8]> {
     image.get(SECTOR.checked_mul(at)?..)?.get(..SECTOR)
 }
 
-/// The CRC of polynomial 0x1021, start 0, high bit first.
-fn crc(bytes: &[u8]) -> u16 {
-    let shift = |crc: u16, _| if crc & 0x8000 != 0 { crc << 1 ^ 0x1021 } else { crc << 1 };
-    bytes.iter().fold(0, |crc, &b| (0..8).fold(crc ^ u16::from(b) << 8, shift))
-}
-
 /// The identifier of a descriptor's tag, if checksum, CRC and location are right.
 fn identifier(descriptor: &[u8], at: usize) -> Option<u16> {
     let sum = descriptor[..16].iter().fold(0u8, |sum, &b| sum.wrapping_add(b)).wrapping_sub(descriptor[4]);
     let covered = descriptor.get(16..16 + usize::from(u16_at(descriptor, 10)))?;
-    let fits = sum == descriptor[4] && u32_at(descriptor, 12) as usize == at && crc(covered) == u16_at(descriptor, 8);
+    let fits = sum == descriptor[4] && u32_at(descriptor, 12) as usize == at && crc(covered, 0) == u16_at(descriptor, 8);
     fits.then(|| u16_at(descriptor, 0))
 }
 
@@ -167,7 +161,7 @@ fn put_tag(sector: &mut [u8; SECTOR], identifier: u16, at: usize) {
     const COVERED: usize = 496;
     put(sector, 0, &identifier.to_le_bytes());
     sector[2] = 2;
-    let crc = crc(&sector[16..16 + COVERED]);
+    let crc = crc(&sector[16..16 + COVERED], 0);
     put(sector, 8, &crc.to_le_bytes());
     put(sector, 10, &(COVERED as u16).to_le_bytes());
     put(sector, 12, &(at as u32).to_le_bytes());

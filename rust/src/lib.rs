@@ -2,7 +2,7 @@
 //!
 //! [`Disc`] is a lent disc, [`Open`] an open one ([`DiscRef`] and [`OpenRef`] where it is only read): its calls are those of document 01, "The CD UDF block layer", with types for record,
 //! cut and refusal. [`calls`] has the same calls over plain slices and numbers, as they stand in `include/tuormik.h`. [`image`] has discs
-//! in image files, with their marks.
+//! in image files, with their marks. [`crc`] is the CRC of descriptor tags.
 //!
 //! ```
 //! use tuormik::{write_maps, Disc, DiscRef, Maps};
@@ -37,6 +37,7 @@ mod refusal;
 #[cfg(feature = "stand-in")]
 extern crate tuormik_plain as _;
 
+pub use calls::{crc, crc_by_bytes, crc_by_words, crc_word};
 pub use marks::marks_by_rule;
 pub use open::{look_up, read_maps, write_maps, Call, Disc, DiscRef, Maps, Open, OpenRef, Ran};
 pub use passed::possible_icbs;

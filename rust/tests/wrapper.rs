@@ -1,8 +1,8 @@
-//! The safe wrapper: records, cuts, refusals, lists of calls.
+//! The safe wrapper: records, cuts, refusals, lists of calls, the CRC.
 
 use tuormik::{
-    look_up, read_maps, write_maps, Call, Cut, Disc, DiscRef, Effect, Error, Held, Maps, Open, Record, Refusal, BLANK, NONE, PACKET_BYTES,
-    SECTOR,
+    crc, crc_by_bytes, crc_by_words, crc_word, look_up, read_maps, write_maps, Call, Cut, Disc, DiscRef, Effect, Error, Held, Maps, Open,
+    Record, Refusal, BLANK, NONE, PACKET_BYTES, SECTOR,
 };
 
 struct Memory {
@@ -167,6 +167,31 @@ fn map_lists_and_vat_files() {
     let none = Maps::Rewritable { partition: 0, table_bytes: 56, tables: vec![] };
     assert_eq!(write_maps(&none), Err(refused(Refusal::NeitherKind)));
     assert_eq!(look_up(&[], 0), Err(refused(Refusal::NoTable)));
+}
+
+/// The published values: of the check string from 0, 0xffff and 0x1d0f, and of the example of ECMA-167, 7.2.6.
+#[test]
+fn published_crcs() {
+    for by in [crc, crc_by_bytes, crc_by_words] {
+        assert_eq!(by(b"123456789", 0), 0x31c3);
+        assert_eq!(by(b"123456789", 0xffff), 0x29b1);
+        assert_eq!(by(b"123456789", 0x1d0f), 0xe5cc);
+        assert_eq!(by(b"\x70\x6a\x77", 0), 0x3299);
+    }
+}
+
+#[test]
+fn crcs_of_parts() {
+    let whole: Vec<u8> = (0..=255).cycle().take(700).collect();
+    for by in [crc, crc_by_bytes, crc_by_words] {
+        for start in [0, 1, 0x1d0f, 0xffff] {
+            assert_eq!(by(&[], start), start);
+            for at in 0..=whole.len() {
+                assert_eq!(by(&whole[at..], by(&whole[..at], start)), crc_by_bytes(&whole, start), "{at} bytes, then the others");
+            }
+        }
+    }
+    assert_eq!(crc_by_bytes(b"9", crc_word(crc_word(0, *b"1234"), *b"5678")), 0x31c3);
 }
 
 #[test]
