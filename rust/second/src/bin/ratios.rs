@@ -1,9 +1,11 @@
 //! How long the calls of the proved library take, as ratios to the plain implementation, both measured by turns in one run.
 //!
-//!     cargo run --release -p tuormik-second --bin ratios -- [SECTORS ..]
+//!     cargo run --release -p tuormik-second --bin ratios -- [SECTORS .. | crc]
 //!
-//! Prints the tables of docs/BENCHMARKS.md. Each time is the least of many; a disc is put back as it was after every call.
+//! Prints the tables of docs/BENCHMARKS.md, with `crc` that of the CRC alone. Each time is the least of many; a disc is put back as it was
+//! after every call.
 
+use std::hint::black_box;
 use std::process::ExitCode;
 use std::time::{Duration, Instant};
 use tuormik::numbers::grouped;
@@ -320,6 +322,87 @@ fn measure_crc() -> Result<Times, String> {
     measure(&mut world, |y, w| save_virtual(y, w, 1, &block), |w| put_back(w, 8, 1))
 }
 
+type Crc = fn(&[u8], u16) -> u16;
+
+/// The ways to a CRC: those of the proved library, the third of which its calls use, and those of the plain implementation, the first of
+/// which its calls use.
+const CRCS: [(&str, Crc); 5] = [
+    ("byte by byte", tuormik::crc_by_bytes),
+    ("word by word", tuormik::crc_by_words),
+    ("in use", tuormik::crc),
+    ("plain, one table", plain::crc_from),
+    ("plain, four tables", plain::crc_by_four_tables),
+];
+
+const BY_BYTES: usize = 0;
+const BY_WORDS: usize = 1;
+const IN_USE: usize = 2;
+
+/// The fewest and the most bytes that the CRC of an ICB covers, and the most that a tag can name.
+const CRC_LENGTHS: [usize; 3] = [160, 2_032, 65_535];
+
+/// The least time of each way, for some CRCs in a row.
+struct CrcTimes {
+    length: usize,
+    in_a_row: u32,
+    least: [Duration; CRCS.len()],
+}
+
+impl CrcTimes {
+    fn ratio(&self, a: usize, b: usize) -> f64 {
+        self.least[a].as_secs_f64() / self.least[b].as_secs_f64().max(1e-12)
+    }
+}
+
+/// Measures the ways by turns for about a second, on the same bytes. Few bytes are taken many times in a row, from the CRC of the time
+/// before, so that reading the clock does not count.
+fn measure_crcs(length: usize) -> Result<CrcTimes, String> {
+    let mut bytes = vec![0; length];
+    fill(&mut bytes);
+    let in_a_row = (PACKET_BYTES / length) as u32;
+    let mut least = [Duration::MAX; CRCS.len()];
+    let begun = Instant::now();
+    for round in 0usize.. {
+        let mut values = [0; CRCS.len()];
+        for turn in 0..CRCS.len() {
+            let which = (round + turn) % CRCS.len();
+            let crc = black_box(CRCS[which].1);
+            let from = Instant::now();
+            values[which] = (0..in_a_row).fold(round as u16, |start, _| crc(&bytes, start));
+            least[which] = least[which].min(from.elapsed());
+        }
+        if let Some(which) = values.iter().position(|value| *value != values[IN_USE]) {
+            return Err(format!("the CRCs of {length} bytes differ: in use and {}", CRCS[which].0));
+        }
+        if round >= 3 && begun.elapsed() > Duration::from_secs(1) {
+            break;
+        }
+    }
+    Ok(CrcTimes { length, in_a_row, least })
+}
+
+fn measure_all_crcs() -> Result<Vec<CrcTimes>, String> {
+    eprintln!("CRCs");
+    CRC_LENGTHS.into_iter().map(measure_crcs).collect()
+}
+
+fn print_crcs(rows: &[CrcTimes]) {
+    let heads: Vec<&str> = CRCS.iter().map(|crc| crc.0).collect();
+    println!("| CRC of, and the ratio of that in use | {} | words to bytes |", heads.join(" | "));
+    println!("|---|{}", "---:|".repeat(CRCS.len() + 1));
+    for row in rows {
+        let cells = (0..CRCS.len()).map(|which| {
+            let time = duration(row.least[which] / row.in_a_row);
+            match which {
+                IN_USE => time,
+                _ => format!("{time} ({:.2})", row.ratio(IN_USE, which)),
+            }
+        });
+        let cells = cells.collect::<Vec<_>>().join(" | ");
+        println!("| {} bytes | {cells} | {:.2} |", grouped(row.length), row.ratio(BY_WORDS, BY_BYTES));
+    }
+}
+
 fn print_tables(sizes: &[usize], rows: &Rows, crc: Times) {
     let shown = sizes.iter().position(|&n| n == 333_000).unwrap_or(sizes.len() - 1);
     println!("| call, on a disc of {} sectors | plain | proved | ratio |", grouped(sizes[shown]));
@@ -348,32 +431,36 @@ fn print_tables(sizes: &[usize], rows: &Rows, crc: Times) {
     }
 }
 
-fn main() -> ExitCode {
-    let mut sizes = Vec::new();
-    for word in std::env::args().skip(1) {
-        match word.replace(',', "").parse() {
-            Ok(n) if (3_330..=1 << 20).contains(&n) => sizes.push(n),
-            _ => {
-                eprintln!("usage: ratios [SECTORS ..]\nA disc has 3,330 to 1,048,576 sectors here.");
-                return ExitCode::from(2);
-            }
-        }
-    }
-    if sizes.is_empty() {
-        sizes.extend(SIZES);
-    }
+fn run(sizes: &[usize]) -> Result<(), String> {
     let mut rows = Rows { rows: Vec::new(), column: 0 };
-    let measured = sizes.iter().enumerate().try_for_each(|(i, &sectors)| {
+    for (i, &sectors) in sizes.iter().enumerate() {
         eprintln!("{} sectors", grouped(sectors));
         rows.column = i;
         measure_once(sectors, &mut rows)?;
-        measure_rewritable(sectors, &mut rows)
-    });
-    match measured.and_then(|()| measure_crc()) {
-        Ok(crc) => {
-            print_tables(&sizes, &rows, crc);
-            ExitCode::SUCCESS
+        measure_rewritable(sectors, &mut rows)?;
+    }
+    let (crc, crcs) = (measure_crc()?, measure_all_crcs()?);
+    print_tables(sizes, &rows, crc);
+    println!();
+    print_crcs(&crcs);
+    Ok(())
+}
+
+fn main() -> ExitCode {
+    let words: Vec<String> = std::env::args().skip(1).collect();
+    let sizes: Option<Vec<usize>> =
+        words.iter().map(|word| word.replace(',', "").parse().ok().filter(|sectors| (3_330..=1 << 20).contains(sectors))).collect();
+    let done = match sizes {
+        _ if words == ["crc"] => measure_all_crcs().map(|crcs| print_crcs(&crcs)),
+        Some(sizes) if sizes.is_empty() => run(&SIZES),
+        Some(sizes) => run(&sizes),
+        None => {
+            eprintln!("usage: ratios [SECTORS .. | crc]\nA disc has 3,330 to 1,048,576 sectors here.");
+            return ExitCode::from(2);
         }
+    };
+    match done {
+        Ok(()) => ExitCode::SUCCESS,
         Err(why) => {
             eprintln!("{why}");
             ExitCode::from(1)
