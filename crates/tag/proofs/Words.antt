@@ -246,5 +246,10 @@ by-words r (a ∷ b ∷ []) = refl
 by-words r (a ∷ b ∷ c ∷ []) = refl
 by-words r (a ∷ b ∷ c ∷ d ∷ s) = by-words (wordStep r (wordOf a b c d)) s ∙ ap (λ (x : ℕ). crcFrom x s) (word-bytes r a b c d)
 
+-- the digits 1 to 9
+digits : byWords 0 (49 ∷ 50 ∷ 51 ∷ 52 ∷ 53 ∷ 54 ∷ 55 ∷ 56 ∷ 57 ∷ []) ≡ 0x31c3
+unfolding byWords wordStep crcFrom byteStep bitsFrom bitsOf bitStep
+digits = refl
+
 pub by-the-word : ByTheWord
-by-the-word = record { step = word-bytes; whole = by-words; turn = λ t p q r s h. sym (taken-off t p q r s h) }
+by-the-word = record { step = word-bytes; whole = by-words; published = digits; turn = λ t p q r s h. sym (taken-off t p q r s h) }
