@@ -1,15 +1,17 @@
-// Fields of a structure on disc, written into lent bytes: little-endian numbers of 2, 4 and 8 bytes, regids and
-// zeros (document 01, first paragraph and "The disc and its addresses").
+// Fields of a structure on disc, written into lent bytes: little-endian numbers of 2, 4 and 8 bytes, rows of them,
+// regids and zeros (document 01, first paragraph and "The disc and its addresses").
 // The layers above count on what was written reading back, and on bytes elsewhere being kept.
 // All functions here are inside the layers: each requires that its field lies in the lent bytes.
 ghost use mathlib.Core.Path.{_≡_};
-ghost use Prim.Native.Nat.{_+_, _≤_};
+ghost use Prim.Native.Nat.{_+_, _*_, _≤_};
 ghost use lib.ListN.{length, replicate};
 ghost use Rattle.fields.specs.Bytes.{splice};
-ghost use Rattle.fields.specs.Number.{digits};
+ghost use Rattle.fields.specs.Number.{digits, quads};
 
-// The length of a regid.
+// The length of a regid, and of a number in a row.
 const REGID_LENGTH: usize = 32;
+
+const NUMBER: usize = 4;
 
 // Writes the number of 2 bytes at `at`.
 pub fn write16(s: &mut [u8], at: usize, n: u16)
@@ -56,6 +58,18 @@ pub fn write64(s: &mut [u8], at: usize, n: u64)
     s[at + 6] = (m6 % 256) as u8;
     let m7 = m6 / 256;
     s[at + 7] = (m7 % 256) as u8;
+}
+
+// Writes numbers of 4 bytes in a row, from `at` on.
+pub fn write_numbers(s: &mut [u8], at: usize, numbers: &[u32])
+    requires { ⌜ at + 4 * length (now numbers) ≤ length (now s) ⌝ }
+    ensures { λ _. ⌜ now (s .exit) ≡ splice (now (s .entry)) at (quads (now (numbers .entry))) ⌝ }
+{
+    let mut i: usize = 0;
+    while i < numbers.len() {
+        write32(s, at + NUMBER * i, numbers[i]);
+        i += 1;
+    }
 }
 
 // Writes a regid at `at`.

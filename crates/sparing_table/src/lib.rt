@@ -163,12 +163,7 @@ fn put_numbers(sector: &mut [u8], i: usize, numbers: &[u32])
     requires { ⌜ 56 + 8 * i + 4 * length (now numbers) ≤ length (now sector) ⌝ }
     ensures { λ _. ⌜ now (sector .exit) ≡ splice (now (sector .entry)) (56 + 8 * i) (quads (now (numbers .entry))) ⌝ }
 {
-    let at = ENTRIES_AT + ENTRY * i;
-    let mut j: usize = 0;
-    while j < numbers.len() {
-        fields_written::write32(sector, at + NUMBER * j, numbers[j]);
-        j += 1;
-    }
+    fields_written::write_numbers(sector, ENTRIES_AT + ENTRY * i, numbers);
 }
 
 // Writes the entries once packet `p` took the free entry at place `free`: those before `place` stay, then

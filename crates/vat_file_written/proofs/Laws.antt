@@ -3,14 +3,13 @@ use Prim.Native.Nat.{ℕ, zero, suc, _+_, _-_, _*_, _/_, _%_, _≤_, _<_, min}
 use mathlib.Core.Path.{_≡_, refl, sym, ap, _∙_}
 use mathlib.Core.List.{List, [], _∷_, _++_, append-nil}
 use native.Mathlib.Omega.{arith}
-use native.Mathlib.Numerals.{add-one}
 use lib.ListN.{length, take, drop, getD, replicate, length-append, length-take, length-drop, length-replicate, drop-of-length-le, List·getD-append, List·getD-eq-default}
-use lib.Seq.{ext-getD, getD-append-add, getD-take, getD-drop, take-suc, take-at, length-take-le, drop-nil, take-nil}
+use lib.Seq.{ext-getD, getD-append-add, getD-take, getD-drop, take-at, length-take-le, drop-nil, take-nil}
 use Rattle.fields.specs.Bytes.{part, splice}
 use Rattle.fields.specs.Number.{digits, quads}
 use Rattle.fields.specs.Regid.{identifier, regid}
-use Rattle.fields.proofs.Laws.{length-part, getD-part, length-digits, length-splice, splice-append}
-use Rattle.fields.proofs.Words.{length-quads, quads-append, quads-one}
+use Rattle.fields.proofs.Laws.{length-part, getD-part, length-splice}
+use Rattle.fields.proofs.Words.{length-quads}
 use Rattle.model.specs.Vat.{vatName}
 use Rattle.model.specs.VatWritten.{dataSectors, writtenFile, filled, writtenData}
 use Rattle.model.proofs.Basics.{by-lt}
@@ -153,31 +152,10 @@ quads-part : (t : List ℕ) (first count : ℕ) → quads (part t first count) �
 unfolding part
 quads-part t first count = quads-take count (drop first t) ∙ ap (take (4 * count)) (quads-drop first t)
 
--- a run of numbers with one more
-part-more : (t : List ℕ) (first i : ℕ) → first + i < length t → part t first (i + 1) ≡ part t first i ++ (getD t (first + i) 0 ∷ [])
+-- the entries from one place to another
+pub entries-part : (t : List ℕ) (first count : ℕ) → take (first + count - first) (drop first t) ≡ part t first count
 unfolding part
-part-more t first i h =
-    let l : i < length (drop first t) = simp length-drop (omega arith) in
-    rw (add-one i, take-suc (drop first t) i 0 l, getD-drop first t i 0)
-
--- no entry is written yet
-pub entries-none : (s t : List ℕ) (first : ℕ) → s ≡ splice s 0 (quads (part t first 0))
-unfolding splice quads part
-entries-none s t first = refl
-
--- one entry more
-pub entries-next : (s t : List ℕ) (first i : ℕ) → first + i < length t → 4 * i + 4 ≤ length s
-    → splice (splice s 0 (quads (part t first i))) (4 * i) (digits 4 (getD t (first + i) 0)) ≡ splice s 0 (quads (part t first (i + 1)))
-entries-next s t first i h l =
-    let x : ℕ = getD t (first + i) 0 in
-    let a : List ℕ = quads (part t first i) in
-    let ea : length a ≡ 4 * i = length-quads (part t first i) ∙ ap (λ (n : ℕ). 4 * n) (length-part t first i (omega arith)) in
-    let e : 4 * i ≡ 0 + length a = omega arith in
-    let more : quads (part t first (i + 1)) ≡ a ++ digits 4 x =
-    ap quads (part-more t first i h) ∙ quads-append (part t first i) (x ∷ []) ∙ ap (λ (b : List ℕ). a ++ b) (quads-one x) in
-    ap (λ (at : ℕ). splice (splice s 0 a) at (digits 4 x)) e
-    ∙ sym (splice-append s 0 a (digits 4 x) (omega (arith, length-digits 4 x)))
-    ∙ ap (splice s 0) (sym more)
+entries-part t first count = let e : first + count - first ≡ count = omega arith in ap (λ (k : ℕ). take k (drop first t)) e
 
 -- ---- the file: entries, and the tail straight after the last one
 

@@ -9,8 +9,7 @@ ghost use mathlib.Core.Path.{_≡_};
 ghost use Prim.Native.Nat.{_+_, _*_, _%_, _≤_, _<_, min};
 ghost use lib.Dec.{ltb};
 ghost use lib.ListN.{length, take};
-ghost use Rattle.fields.specs.Bytes.{part, splice};
-ghost use Rattle.fields.specs.Number.{quads};
+ghost use Rattle.fields.specs.Bytes.{part};
 ghost use Rattle.model.specs.VatWritten.{fileBytes, dataSectors, writtenData};
 ghost use Rattle.vat_file_written.specs.Parts.{tail, onward, fileFrom};
 
@@ -98,19 +97,6 @@ fn write_tail(rest: &mut [u8], from: usize, previous: LogicalAddress)
     }
 }
 
-// Writes `count` entries of the table, from number `first` on, into the first bytes lent.
-fn write_entries(s: &mut [u8], t: &[u32], first: usize, count: usize)
-    requires { ⌜ first + count ≤ length (now t) ⌝ }
-    requires { ⌜ 4 * count ≤ length (now s) ⌝ }
-    ensures { λ _. ⌜ now (s .exit) ≡ splice (now (s .entry)) 0 (quads (part (now (t .entry)) first count)) ⌝ }
-{
-    let mut i: usize = 0;
-    while i < count {
-        fields_written::write32(s, ENTRY_BYTES * i, t[first + i]);
-        i += 1;
-    }
-}
-
 // Writes the file of the first n entries from where entry number `first` stands, or would stand, on: the
 // entries that fall into the lent bytes, and the tail straight after the last one.
 pub fn write_file(s: &mut [u8], t: &[u32], n: u32, previous: LogicalAddress, first: usize)
@@ -122,7 +108,8 @@ pub fn write_file(s: &mut [u8], t: &[u32], n: u32, previous: LogicalAddress, fir
     let all = n as usize;
     let begun = smaller(first, all);
     let count = smaller(all - begun, s.len() / ENTRY_BYTES);
-    write_entries(s, t, begun, count);
+    let end = begun + count;
+    fields_written::write_numbers(s, 0, &t[begun..end]);
     let at = ENTRY_BYTES * count;
     let from = ENTRY_BYTES * (first - begun);
     write_tail(&mut s[at..], from, previous);

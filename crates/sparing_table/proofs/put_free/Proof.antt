@@ -6,7 +6,8 @@ use native.Mathlib.Omega.{arith}
 use lib.ListN.{length, take}
 use mathlib.Core.List.{List}
 use lib.Seq.{take-all}
-use Rattle.sparing_table.proofs.Written.{writing-none, spares-next}
+use Rattle.fields_written.proofs.Laws.{writing-none}
+use Rattle.sparing_table.proofs.Written.{spares-next}
 use Rattle.model.specs.Both.{spareEntries}
 use Rattle.model.specs.Sparing.{flat}
 use Rattle.fields.specs.Number.{quads}
