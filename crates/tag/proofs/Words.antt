@@ -174,7 +174,7 @@ crc-next-word c s i h = crc-next-four c s i h (word-bytes c (getD s i 0) (getD s
 pub part-left : (s : List ℕ) (i : ℕ) → take (length s - i) (drop i s) ≡ drop i s
 part-left s i = let h : length (drop i s) ≤ length s - i = simp length-drop (le-refl _) in take-all (length s - i) (drop i s) h
 
--- ---- a word taken off, and put against words further on
+-- ---- a word taken off, and xored into words further on
 
 -- x^128 + x^96 + x^40 + 1 is a multiple of the polynomial: a word with its copies 4, 11 and 16 bytes further on has CRC 0
 copies-none : (t : ℕ) → t < 4294967296 → wordStep (four t t (t / 16777216) (t % 16777216 * 256)) t ≡ 0
@@ -186,7 +186,7 @@ copies-none =
     32
     refl
 
--- so a word may be taken off where its copies are put against the words there
+-- so a word may be taken off where its copies are xored into the words there
 taken-off : (t p q r s : ℕ) → t < 4294967296 → four (bitXor p t) (bitXor q (t / 16777216)) (bitXor r (t % 16777216 * 256)) (bitXor s t) ≡ wordStep (four t p q r) s
 taken-off t p q r s h =
     let u : ℕ = t / 16777216 in
@@ -199,7 +199,7 @@ taken-off t p q r s h =
     let e₄ = ap (λ (x : ℕ). wordStep x (bitXor s t)) e₃ ∙ wordStep-xor _ _ s t in
     e₄ ∙ ap (bitXor (wordStep (four t p q r) s)) (copies-none t h) ∙ xor-zero-r _
 
--- at first only the start is to be put against the bytes
+-- at first only the start is a mask
 pub carry-starts : (s : List ℕ) (c : ℕ) → 16 ≤ length s → c < 65536 → carried s 0 (c * 65536) 0 0 0 ≡ crcFrom c s
 carry-starts s c h hc =
     ap (λ (x : ℕ). crcFrom (wordStep (wordStep (wordStep x (wordAt s 4)) (wordAt s 8)) (wordAt s 12)) (drop 16 s)) (step-raised c (wordAt s 0) hc)
@@ -208,7 +208,7 @@ carry-starts s c h hc =
     ∙ crc-next-word _ s 4 (omega arith)
     ∙ crc-next-word c s 0 (omega arith)
 
--- the order of two words to be put against one
+-- the order of two masks of one word
 xor-swap : (a b c : ℕ) → bitXor (bitXor a b) c ≡ bitXor (bitXor a c) b
 xor-swap a b c = xor-assoc a b c ∙ ap (bitXor a) (xor-comm b c) ∙ sym (xor-assoc a c b)
 

@@ -39,11 +39,11 @@ pub record ByTheWord : Type 0 where
   pub whole : (r : ℕ) (s : List ℕ) → byWords r s ≡ crcFrom r s
   -- that of the digits 1 to 9, from 0, is the published one
   pub published : byWords 0 (49 ∷ 50 ∷ 51 ∷ 52 ∷ 53 ∷ 54 ∷ 55 ∷ 56 ∷ 57 ∷ []) ≡ 0x31c3
-  -- a word taken off by the step, before four words more, is as good as those four alone with the word put against the first and
-  -- the fourth of them, its highest byte against the end of the second, and its other bytes against the start of the third
+  -- a word taken off by the step, before four words more, is as good as those four alone with the word xored into the first and
+  -- the fourth of them, its highest byte into the end of the second, and its other bytes into the start of the third
   pub turn : (t p q r s : ℕ) → t < 4294967296 → wordStep (four t p q r) s ≡ four (bitXor p t) (bitXor q (t / 16777216)) (bitXor r (t % 16777216 * 256)) (bitXor s t)
 
--- the CRC of what is left, with four words to be put against the next four
+-- the CRC of what is left of s from place i on, with the masks a, b, c and d xored into the next four words
 abbrev pub carried : List ℕ → ℕ → ℕ → ℕ → ℕ → ℕ → ℕ
 carried s i a b c d =
     crcFrom (four (bitXor a (wordAt s i)) (bitXor b (wordAt s (i + 4))) (bitXor c (wordAt s (i + 8))) (bitXor d (wordAt s (i + 12)))) (drop (i + 16) s)

@@ -51,7 +51,7 @@ pub fn checksum(tag: &[u8]) -> u8
     )
 }
 
-// The CRC of one byte alone, from 0: the byte against its own high half, once for each term of the polynomial.
+// The CRC of one byte alone, from 0: the byte xored with its own high half, once for each term of the polynomial.
 fn spread(x: u8) -> u16
     ensures { λ r. ⌜ r ≡ byteStep 0 x ⌝ }
 {
@@ -127,8 +127,8 @@ pub fn crc_by_words(bytes: &[u8], start: u16) -> u16
     crc_by_bytes(&bytes[i..], so_far)
 }
 
-// The word at a place of the bytes, against a word to be put against it.
-fn against(bytes: &[u8], at: usize, mask: u32) -> u32
+// The word at a place of the bytes, xored with a mask.
+fn masked(bytes: &[u8], at: usize, mask: u32) -> u32
     requires { ⌜ at + 4 ≤ length (now bytes) ⌝ }
     ensures { λ r. ⌜ (r ≡ bitXor mask (wordAt (now (bytes .entry)) at)) × (r < 4294967296) ⌝ }
 {
@@ -149,21 +149,21 @@ fn step(crc: u16, w: u32) -> u16
     crc_word(crc, low(w / 16777216), low(w / 65536), low(w / 256), low(w))
 }
 
-// The CRC of the bytes from a place on, with four words to be put against the four there: these, then the bytes left.
-fn crc_against(bytes: &[u8], at: usize, a: u32, b: u32, c: u32, d: u32) -> u16
+// The CRC of the bytes from a place on, with the masks a, b, c and d of the four words there: these, then the bytes left.
+fn crc_masked(bytes: &[u8], at: usize, a: u32, b: u32, c: u32, d: u32) -> u16
     requires { ⌜ at + 16 ≤ length (now bytes) ⌝ }
     ensures { λ r. ⌜ r ≡ carried (now (bytes .entry)) at a b c d ⌝ }
 {
-    let first = step(0, against(bytes, at, a));
-    let second = step(first, against(bytes, at + 4, b));
-    let third = step(second, against(bytes, at + 8, c));
-    let fourth = step(third, against(bytes, at + 12, d));
+    let first = step(0, masked(bytes, at, a));
+    let second = step(first, masked(bytes, at + 4, b));
+    let third = step(second, masked(bytes, at + 8, c));
+    let fourth = step(third, masked(bytes, at + 12, d));
     crc_by_bytes(&bytes[at + 16..], fourth)
 }
 
 // The CRC of 16 bytes and more.
 // x^128 + x^96 + x^40 + 1 is a multiple of the polynomial (its eighth power), so a word may be taken off the bytes
-// and put against those 4, 11 and 16 bytes further on: a, b, c and d are what is to be put against the next four words.
+// and xored into those 4, 11 and 16 bytes further on: a, b, c and d are the masks of the next four words.
 fn crc_long(bytes: &[u8], start: u16) -> u16
     requires { ⌜ 16 ≤ length (now bytes) ⌝ }
     ensures { λ r. ⌜ r ≡ crcFrom start (now (bytes .entry)) ⌝ }
@@ -174,14 +174,14 @@ fn crc_long(bytes: &[u8], start: u16) -> u16
     let mut d: u32 = 0;
     let mut i: usize = 0;
     while 20 <= bytes.len() - i {
-        let t = against(bytes, i, a);
+        let t = masked(bytes, i, a);
         a = b ^ t;
         b = c ^ (t / 16777216);
         c = d ^ ((t % 16777216) * 256);
         d = t;
         i += 4;
     }
-    crc_against(bytes, i, a, b, c, d)
+    crc_masked(bytes, i, a, b, c, d)
 }
 
 // The CRC of some bytes, by words, and a tail of up to three by the byte. It starts at 0, or at the CRC of the bytes before them.

@@ -1,4 +1,4 @@
--- `tag::crc_byte` meets its contract: the low byte moves up, and the step from 0 brings in the high byte against the new one.
+-- `tag::crc_byte` meets its contract: the low byte moves up, and the step from 0 brings in the high byte xored with the new one.
 -- Assumes nothing.
 use Prim.Native.Nat.{_*_, _%_}
 use mathlib.Core.Path.{sym, ap, _∙_}

@@ -1,4 +1,4 @@
--- `tag::crc_long` meets its contract. The invariant: what is left of the bytes, with the four words to be put against them, leads to the CRC of the whole.
+-- `tag::crc_long` meets its contract. The invariant: what is left of the bytes, with the masks of the next four words, leads to the CRC of the whole.
 -- Assumes nothing.
 use Prim.Native.Nat.{ℕ, _+_, _-_, _≤_}
 use mathlib.Core.Path.{_≡_, ap, _∙_}
@@ -31,8 +31,8 @@ loop-holds c =
 sub-loop : tie.Need-sub-loop Inv-loop μ-loop
 sub-loop c = omega arith
 
-against-requires : tie.Need-against-requires Inv-loop μ-loop
-against-requires c κs = omega arith
+masked-requires : tie.Need-masked-requires Inv-loop μ-loop
+masked-requires c κs = omega arith
 
 mul-c : tie.Need-mul-c Inv-loop μ-loop
 mul-c c = omega arith
@@ -47,14 +47,14 @@ loop-again : tie.Need-loop-again Inv-loop μ-loop
 loop-again c =
     let at = c .before .before .loop in (
       omega arith,
-      carry-next (c .before .before .before .before .before .args .bytes .now) (at .i) (at .a) (at .b) (at .c) (at .d) (omega arith) (c .against .ensures .0) (c .against .ensures .1) ∙ at .inv .1,
+      carry-next (c .before .before .before .before .before .args .bytes .now) (at .i) (at .a) (at .b) (at .c) (at .d) (omega arith) (c .masked .ensures .0) (c .masked .ensures .1) ∙ at .inv .1,
     )
 
-crc-against-requires : tie.Need-crc-against-requires Inv-loop μ-loop
-crc-against-requires c κs = omega arith
+crc-masked-requires : tie.Need-crc-masked-requires Inv-loop μ-loop
+crc-masked-requires c κs = omega arith
 
 returns : tie.Need-returns Inv-loop μ-loop
-returns c = c .crc-against .ensures ∙ c .before .before .loop .inv .1
+returns c = c .crc-masked .ensures ∙ c .before .before .loop .inv .1
 
 pub crc-long-spec : {M : Type 1} → statement M
 crc-long-spec =
@@ -65,10 +65,10 @@ crc-long-spec =
     raised-requires
     loop-holds
     sub-loop
-    against-requires
+    masked-requires
     mul-c
     add-i
     loop-less
     loop-again
-    crc-against-requires
+    crc-masked-requires
     returns)

@@ -1,4 +1,4 @@
--- `tag::crc_word` meets its contract: the CRC so far, raised, is put against the word of the four bytes.
+-- `tag::crc_word` meets its contract: the CRC so far, raised, is xored into the word of the four bytes.
 -- Assumes nothing.
 use Prim.Native.Nat.{ℕ}
 use mathlib.Core.Path.{ap₂, _∙_}

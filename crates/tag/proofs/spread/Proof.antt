@@ -9,7 +9,7 @@ use Rattle.tag.proofs.Laws.{listed-agree}
 use Rattle.tag.proofs.spread.Statement.{statement}
 use Rattle.tag.proofs.spread.Tie as tie
 
--- what the code makes of `y`, a byte against its own high half
+-- what the code makes of `y`, a byte xored with its own high half
 abbrev spreadOf : ℕ → ℕ
 spreadOf y = bitXor (bitXor (y % 16 * 4096) (y * 32)) y
 

@@ -1,11 +1,11 @@
--- `tag::against` meets its contract: an exclusive or of two words is a word.
+-- `tag::masked` meets its contract: an exclusive or of two words is a word.
 -- Assumes nothing.
 use mathlib.Core.Path.{ap}
 use native.Mathlib.Omega.{arith}
 use lib.Bits.{bitXor, xor-lt}
 use borrow.Author.Needs.{needs}
-use Rattle.tag.proofs.against.Statement.{statement}
-use Rattle.tag.proofs.against.Tie as tie
+use Rattle.tag.proofs.masked.Statement.{statement}
+use Rattle.tag.proofs.masked.Tie as tie
 
 shared-slice-read-word : tie.Need-shared-slice-read-word
 shared-slice-read-word c = omega arith
@@ -37,8 +37,8 @@ returns c =
     let e = c .word .ensures in
     (ap (bitXor (start .args .mask)) e, xor-lt 32 _ _ (start .fits .mask .fits) (omega (arith, e)))
 
-pub against-spec : {M : Type 1} → statement M
-against-spec =
+pub masked-spec : {M : Type 1} → statement M
+masked-spec =
     tie.close
     (tie.spec
     shared-slice-read-word
