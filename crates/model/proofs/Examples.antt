@@ -5,6 +5,7 @@ use mathlib.Core.Path.{_≡_, refl, _∙_}
 use mathlib.Core.List.{List, [], _∷_}
 use native.Mathlib.Omega.{arith}
 use lib.ListN.{set}
+use Rattle.label.specs.PerMille.{perMille}
 use Rattle.refusal.specs.declared.Refusal.the-variants.{OtherKind, StaleRecord}
 use Rattle.refusal.specs.declared.Verdict.the-variants.{Go}
 use Rattle.refusal.specs.Tests.{Test, test, first, need}
@@ -18,7 +19,7 @@ use Rattle.model.specs.VatWritten.{fileBytes, dataSectors}
 use Rattle.model.specs.Sparing.{isFree, usedOf, freeOf, spotOf, packetOf, startAt, locate, inserted, firstFree, rest, resorted}
 use Rattle.model.specs.Plan.{carry}
 use Rattle.model.specs.Examine.{Setting, setting, writeOnce, examined}
-use Rattle.model.specs.Once.{heldFits, onceVerdict, entriesHeld, nextHeld, lastHeld, countAfter, roomToSave, saveTests, saveLent, savePlan, entryTests, perMille}
+use Rattle.model.specs.Once.{heldFits, onceVerdict, entriesHeld, nextHeld, lastHeld, countAfter, roomToSave, saveTests, saveLent, savePlan, entryTests}
 use Rattle.model.specs.Rewrite.{blockTest}
 use Rattle.model.specs.Both.{entrySector}
 use Rattle.model.specs.Examples.{gives, zeros, Examples}

@@ -4,6 +4,7 @@ use Prim.Native.Nat.{ℕ, _+_, _<_}
 use mathlib.Core.Path.{_≡_}
 use mathlib.Core.List.{List, [], _∷_}
 use lib.ListN.{replicate, set}
+use Rattle.label.specs.PerMille.{perMille}
 use Rattle.refusal.specs.declared.Verdict.the-variants.{Go}
 use Rattle.refusal.specs.Number.{verdictNumber}
 use Rattle.refusal.specs.Tests.{Test, first}
@@ -12,7 +13,7 @@ use Rattle.model.specs.Disc.{Disc}
 use Rattle.model.specs.VatWritten.{fileBytes, dataSectors}
 use Rattle.model.specs.Sparing.{Entry, locate, resorted}
 use Rattle.model.specs.Examine.{setting}
-use Rattle.model.specs.Once.{onceVerdict, entryTests, saveTests, saveLent, savePlan, perMille}
+use Rattle.model.specs.Once.{onceVerdict, entryTests, saveTests, saveLent, savePlan}
 use Rattle.model.specs.Plan.{carry}
 use Rattle.model.specs.Rewrite.{blockTest}
 use Rattle.model.specs.Both.{entrySector}

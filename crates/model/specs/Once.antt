@@ -1,5 +1,5 @@
 -- The calls on a write-once disc (document 01, "Calls and their sector writes"), each as its tests in checking order and its plan.
-use Prim.Native.Nat.{ℕ, _+_, _-_, _*_, _/_}
+use Prim.Native.Nat.{ℕ, _+_, _-_}
 use mathlib.Core.Bool.{Bool, true, false, cond, not, _&&_}
 use mathlib.Core.List.{List, [], _∷_, _++_}
 use lib.ListN.{length, set, take, drop}
@@ -160,11 +160,7 @@ commitPlan e d t held =
     t
     (Record.WriteOnce (entriesHeld held) (icbBlock held + 1) (icbBlock held)))
 
--- ---- fullness: 1,000 times NWA / L rounded down
-
--- per mille
-unfoldable pub perMille : ℕ → ℕ → ℕ
-perMille n l = (1000 * n) / l
+-- ---- fullness
 
 -- line 11 is the last that fullness tests
 unfoldable pub fullnessVerdict : Setting → Disc → List ℕ → Record → Verdict

@@ -1,12 +1,12 @@
 -- Laws of the calls on a write-once disc: the lines of an entry, and fullness. Assumes nothing.
-use Prim.Native.Nat.{ℕ, _*_, _/_, _≤_, _<_}
+use Prim.Native.Nat.{ℕ, _≤_, _<_}
 use mathlib.Core.Bool.{Bool, false}
 use mathlib.Core.Path.{_≡_, refl, sym, ap, ap₂, _∙_}
 use mathlib.Core.List.{List, []}
 use native.Mathlib.Omega.{arith}
-use native.Mathlib.Nat.{div-le-of-le-mul}
 use borrow.Author.Tests.{ltb-true, lt-ltb, le-ltb}
 use lib.ListN.{getD}
+use Rattle.label.specs.PerMille.{perMille}
 use Rattle.refusal.specs.declared.Refusal.{Refusal}
 use Rattle.refusal.specs.declared.Refusal.the-variants.{NumberOutside}
 use Rattle.refusal.specs.declared.Verdict.{Verdict}
@@ -21,7 +21,7 @@ use Rattle.model.specs.declared.Record.{Record}
 use Rattle.model.specs.Disc.{Disc}
 use Rattle.model.specs.Writes.{struck, noCut}
 use Rattle.model.specs.Examine.{Setting, lentTable}
-use Rattle.model.specs.Once.{entriesHeld, nextHeld, onceVerdict, entryTests, perMille, fullnessVerdict}
+use Rattle.model.specs.Once.{entriesHeld, nextHeld, onceVerdict, entryTests, fullnessVerdict}
 use Rattle.once_open.specs.declared.Measured.{Measured}
 use Rattle.once_open.specs.Calls.{blockOf, measuredBy, fullnessOf}
 
@@ -69,10 +69,6 @@ unfolding struck noCut
 uncut = refl
 
 -- ---- fullness
-
--- per mille of no more than the whole is at most 1,000
-pub mille-most : (n l : ℕ) → n ≤ l → (1000 * n) / l ≤ 1000
-mille-most n l h = div-le-of-le-mul l (omega arith)
 
 module _ (e : Setting) (d : Disc) (t : List ℕ) (held : Record) {x : Bool} {w : Verdict} (is : x ≡ lentTable t) (says : w ≡ onceVerdict e d t x held []) where
   -- its verdict is that of the common tests

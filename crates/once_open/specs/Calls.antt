@@ -16,7 +16,8 @@ use Rattle.model.specs.declared.Given.{Given}
 use Rattle.model.specs.Disc.{Disc, sector}
 use Rattle.model.specs.Vat.{entriesOf}
 use Rattle.model.specs.Examine.{Setting, writeOnce, examined, lentTable}
-use Rattle.model.specs.Once.{nextOn, nextHeld, newestFile, openOnceTests, foundRecord, passedOver, entryTests, perMille, fullnessVerdict}
+use Rattle.label.specs.PerMille.{perMille}
+use Rattle.model.specs.Once.{nextOn, nextHeld, newestFile, openOnceTests, foundRecord, passedOver, entryTests, fullnessVerdict}
 use Rattle.vat_scan.specs.Scan.{looked}
 use Rattle.once_open.specs.declared.Measured.{Measured}
 use Rattle.model.specs.Lent.{Lent}

@@ -1,7 +1,6 @@
 // The calls on a write-once disc that write no sector: opening, reading, freeing and fullness (document 01,
 // "Calls and their sector writes"). Each examines what it gets and refuses with the first
 // line of document 01 that applies; a refusal leaves every lent byte as it came. No call has a requires.
-use address::LogicalAddress;
 use address::NONE;
 use address::ToLogical;
 use address::VirtualAddress;
@@ -20,15 +19,12 @@ ghost use Prim.Native.Nat.{_+_, _*_, _≤_, _<_};
 ghost use lib.ListN.{length};
 ghost use Rattle.model.specs.Disc.{disc as discOf};
 ghost use Rattle.model.specs.Examine.{setting};
-ghost use Rattle.model.specs.Once.{entriesHeld, perMille};
+ghost use Rattle.model.specs.Once.{entriesHeld};
 ghost use Rattle.once_open.specs.Calls.{openingOnce, openedOnce, PassedOver, blockOf, readingOnce, readOnceBytes, fullnessOf};
 ghost use Rattle.model.specs.Lent.{lent, Frees};
 
 // The entries that a VAT has at most, beside those of one that can exceed any table.
 const MOST_COUNT: u64 = MOST_ENTRIES as u64;
-
-// A full partition in per mille.
-const FULL: u64 = 1000;
 
 // What fullness answers: 1,000 times NWA / L rounded down, or why not.
 pub enum Measured {
@@ -171,14 +167,6 @@ pub fn free_virtual(
 
 // ---- fullness
 
-// Of NWA and L. Inside the layers: lines 2 and 11 have been tested.
-fn per_mille(next: LogicalAddress, l: u32) -> u32
-    requires { ⌜ (next .0 ≤ l) × (1 ≤ l) ⌝ }
-    ensures { λ r. ⌜ r ≡ perMille (next .0) l ⌝ }
-{
-    (FULL * next.0 as u64 / l as u64) as u32
-}
-
 // How full the partition is.
 pub fn fullness(
     disc: &[u8],
@@ -199,5 +187,5 @@ pub fn fullness(
     }
     let span = seen.volume.span;
     let next = examine::next_held(held);
-    Measured::PerMille(per_mille(next, span.length))
+    Measured::PerMille(label::per_mille(next.0, span.length))
 }
