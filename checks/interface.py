@@ -18,16 +18,16 @@ SOURCE = "crates/capi/src/lib.rt"
 REFUSALS = "crates/refusal/src/lib.rt"
 SHARED = "crates/model/src/lib.rt"
 ANSWERS = "crates/call_numbers/src/lib.rt"
+LISTS = "crates/call_lists/src/lib.rt"
 CALLS = "crates/list_step/src/lib.rt"
 HEADER = "include/tuormik.h"
 DECLARED = "rust/src/ffi.rs"
 RUST_REFUSALS = "rust/src/refusal.rs"
 PACKAGE = "rust/Cargo.toml"
-FILES = (SOURCE, REFUSALS, SHARED, ANSWERS, CALLS, HEADER, DECLARED, RUST_REFUSALS, PACKAGE)
+FILES = (SOURCE, REFUSALS, SHARED, ANSWERS, LISTS, CALLS, HEADER, DECLARED, RUST_REFUSALS, PACKAGE)
 
 # constants of a source, and what they are called in the header
 CONSTANTS = {
-    SOURCE: {"VOLUME": "MAPS_RESULT_LENGTH"},
     SHARED: {
         "DONE": "DONE",
         "CUT": "CUT",
@@ -45,6 +45,7 @@ CONSTANTS = {
         "LAST_AT": "RECORD_LAST",
         "PASSED_AT": "RECORD_PASSED",
     },
+    LISTS: {"VOLUME": "MAPS_RESULT_LENGTH"},
     CALLS: {
         "SAVE_VIRTUAL": "CALL_SAVE_VIRTUAL",
         "FREE_VIRTUAL": "CALL_FREE_VIRTUAL",

@@ -1,8 +1,7 @@
 -- Laws of what C sees of the calls on a disc. Assumes nothing.
 use Prim.Native.Nat.{ℕ}
 use mathlib.Core.Path.{_≡_, refl, ap, sym, _∙_}
-use mathlib.Core.List.{List, [], _∷_}
-use native.Mathlib.Omega.{arith}
+use mathlib.Core.List.{List}
 use borrow.Author.Tests.{eq-eqb, ne-eqb}
 use lib.ListN.{length, set}
 use Rattle.refusal.specs.declared.Refusal.{Refusal}
@@ -20,13 +19,8 @@ use Rattle.once_open.specs.declared.Measured.{Measured}
 use Rattle.once_open.specs.Calls.{fullnessOf, measuredNumber}
 use Rattle.model.specs.Told.{replyNumber, openedNumber, givenNumber}
 use Rattle.call_numbers.specs.Numbers.{recordOf, recordAfter, recordOpened, lengthRefusal}
+use Rattle.call_lists.proofs.Listing.{one-set}
 use Rattle.capi.specs.Calls.{lentPlan, SeenWrite, lentOpening, lentOpenedTable, lentReading, lentReadBytes, lentFullness, measuredAfter}
-
--- one number, set
-pub one-set : (l : List ℕ) (x : ℕ) → length l ≡ 1 → set l 0 x ≡ x ∷ []
-one-set [] x h = absurd (omega arith)
-one-set (y ∷ []) x h = refl
-one-set (y ∷ z ∷ l) x h = absurd (omega arith)
 
 -- ---- the writing calls
 

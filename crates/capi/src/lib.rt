@@ -3,22 +3,10 @@
 // NWA or the sequence, the last ICB (0 on a rewritable disc), and how many sectors the opening passed over.
 // Every function returns a number: 0 done, the line of a refusal (document 01, "Why a call is turned down"),
 // 255 for a call that was cut; those of the CRC return its value, and refuse nothing. No function has a requires.
-use address::Span;
-use address::ToLogical;
-use address::VirtualAddress;
 use list_run::Ran;
-use maps::Kind;
-use maps::Volume;
 use model::DONE;
 use once_open::Measured;
-use refusal::Refusal;
-use refusal::Verdict;
 ghost use mathlib.Core.Path.{_≡_};
-ghost use mathlib.Core.Bool.{cond};
-ghost use mathlib.Core.List.{List};
-ghost use Prim.Native.Nat.{ℕ};
-ghost use lib.ListN.{length, getD};
-ghost use lib.Dec.{ltb};
 ghost use Rattle.maps.specs.Kinds.{readMaps};
 ghost use Rattle.maps_written.specs.Writing.{writtenOr};
 ghost use Rattle.model.specs.Disc.{disc as discOf};
@@ -28,21 +16,12 @@ ghost use Rattle.model.specs.Lent.{lent};
 ghost use Rattle.model.specs.Told.{openedNumber, givenNumber};
 ghost use Rattle.refusal.specs.Number.{verdictNumber};
 ghost use Rattle.tag.specs.Crc.{byteStep, crcFrom};
-ghost use Rattle.maps.specs.Numbers.{volumeNumbers};
 ghost use Rattle.address.specs.Told.{logicalNumber};
 ghost use Rattle.once_open.specs.Calls.{measuredNumber};
 ghost use Rattle.call_numbers.specs.Numbers.{cutOf, recordOpened};
+ghost use Rattle.call_lists.specs.Lists.{mapsVerdict, volumeAfter, volumeFor, lentVerdict, lentLookUp, logicalAfter};
 ghost use Rattle.capi.specs.Calls.{SeenSave, SeenFree, SeenCommit, SeenSaveBlock, SeenSavePacket, SeenSpare, lentOpening, lentOpenedTable, lentReading, lentReadBytes, lentFullness, measuredAfter};
-ghost use Rattle.capi.specs.Lists.{mapsVerdict, volumeAfter, volumeFor, lentVerdict, lentLookUp, logicalAfter};
 ghost use Rattle.capi.specs.Run.{SeenRuns, SeenDemand};
-
-// The lengths of the lent results: of fullness and look-up, and of a map list.
-const ONE: usize = 1;
-
-const VOLUME: usize = 8;
-
-// More tables than a map list can have.
-const TOO_MANY: usize = 5;
 
 // ---- both kinds
 
@@ -217,7 +196,7 @@ pub extern "C" fn tuormik_fullness(
     if kept.len() != call_numbers::RECORD {
         return call_numbers::number_of_lengths(disc, marks, maps, s, l);
     }
-    if result.len() != ONE {
+    if result.len() != call_lists::ONE {
         return call_numbers::number_of_lengths(disc, marks, maps, s, l);
     }
     let held = call_numbers::read_record(kept);
@@ -322,38 +301,6 @@ pub extern "C" fn tuormik_spare_packet(
 
 // ---- map lists and VAT files
 
-// Puts the numbers of a volume into a lent result: kind, partition number, number of tables, bytes of each, and
-// the four table sectors. Inside the layers: the length has been tested.
-fn put_volume(result: &mut [u32], volume: Volume)
-    requires { ⌜ length (now result) ≡ 8 ⌝ }
-    ensures { λ _. ⌜ now (result .exit) ≡ volumeNumbers volume ⌝ }
-{
-    let tables = volume.tables;
-    result[4] = tables[0];
-    result[5] = tables[1];
-    result[6] = tables[2];
-    result[7] = tables[3];
-    let kind = volume.kind;
-    match kind {
-        Kind::WriteOnce { partition } => {
-            result[0] = call_numbers::WRITE_ONCE;
-            result[1] = partition as u32;
-            result[2] = 0;
-            result[3] = 0;
-        }
-        Kind::Rewritable {
-            partition,
-            tables: count,
-            size,
-        } => {
-            result[0] = call_numbers::REWRITABLE;
-            result[1] = partition as u32;
-            result[2] = count as u32;
-            result[3] = size;
-        }
-    }
-}
-
 // Reads a map list.
 #[no_mangle]
 pub extern "C" fn tuormik_read_maps(maps: &[u8], result: &mut [u32]) -> u32
@@ -361,83 +308,7 @@ pub extern "C" fn tuormik_read_maps(maps: &[u8], result: &mut [u32]) -> u32
     ensures { λ _. ⌜ now (result .exit) ≡ volumeAfter (mapsVerdict (now (maps .entry)) (now (result .entry)))
         (readMaps (now (maps .entry)) .volume) (now (result .entry)) ⌝ }
 {
-    if result.len() != VOLUME {
-        return refusal::number(Refusal::LentLength);
-    }
-    let read = maps::read_maps(maps);
-    let verdict = read.verdict;
-    match verdict {
-        Verdict::Go => {
-            let volume = read.volume;
-            put_volume(result, volume);
-            DONE
-        }
-        Verdict::Stop(why) => refusal::number(why),
-    }
-}
-
-// The number at a place, 0 past the end.
-fn number_at(tables: &[u32], i: usize) -> u32
-    ensures { λ r. ⌜ r ≡ getD (now (tables .entry)) i 0 ⌝ }
-{
-    if i < tables.len() {
-        return tables[i];
-    }
-    0
-}
-
-// The number of tables, all those that are too many being alike.
-fn table_count(tables: &[u32]) -> u8
-    ensures { λ r. ⌜ r ≡ cond (ltb (length (now (tables .entry))) 5) (length (now (tables .entry))) 5 ⌝ }
-{
-    let n = tables.len();
-    if n < TOO_MANY {
-        return n as u8;
-    }
-    TOO_MANY as u8
-}
-
-// Writes the map list of a rewritable volume.
-fn write_rewritable(partition: u16, size: u32, tables: &[u32], out: &mut [u8]) -> u32
-    ensures { λ r. ⌜ r ≡ verdictNumber (lentVerdict 1 partition size (now (tables .entry)) (now (out .entry))) ⌝ }
-    ensures { λ _. ⌜ now (out .exit) ≡ writtenOr (lentVerdict 1 partition size (now (tables .entry)) (now (out .entry)))
-        (volumeFor 1 partition size (now (tables .entry))) (now (out .entry)) ⌝ }
-{
-    let count = table_count(tables);
-    let a = number_at(tables, 0);
-    let b = number_at(tables, 1);
-    let c = number_at(tables, 2);
-    let d = number_at(tables, 3);
-    let volume = Volume {
-        span: Span {
-            start: 0,
-            length: 0,
-        },
-        kind: Kind::Rewritable {
-            partition,
-            tables: count,
-            size,
-        },
-        tables: [a, b, c, d],
-    };
-    call_numbers::number_of_verdict(maps_written::write_maps(volume, out))
-}
-
-// Writes the map list of a write-once volume.
-fn write_once_maps(partition: u16, out: &mut [u8]) -> u32
-    ensures { λ r. ⌜ ((size : ℕ) (tables : List ℕ) → r ≡ verdictNumber (lentVerdict 0 partition size tables (now (out .entry)))) ⌝ }
-    ensures { λ _. ⌜ ((size : ℕ) (tables : List ℕ) → now (out .exit)
-        ≡ writtenOr (lentVerdict 0 partition size tables (now (out .entry))) (volumeFor 0 partition size tables) (now (out .entry))) ⌝ }
-{
-    let volume = Volume {
-        span: Span {
-            start: 0,
-            length: 0,
-        },
-        kind: Kind::WriteOnce { partition },
-        tables: [0; 4],
-    };
-    call_numbers::number_of_verdict(maps_written::write_maps(volume, out))
+    call_lists::read_maps(maps, result)
 }
 
 // Writes a map list.
@@ -453,13 +324,7 @@ pub extern "C" fn tuormik_write_maps(
     ensures { λ _. ⌜ now (out .exit) ≡ writtenOr (lentVerdict kind partition size (now (tables .entry)) (now (out .entry)))
         (volumeFor kind partition size (now (tables .entry))) (now (out .entry)) ⌝ }
 {
-    if kind == call_numbers::WRITE_ONCE {
-        return write_once_maps(partition, out);
-    }
-    if kind == call_numbers::REWRITABLE {
-        return write_rewritable(partition, size, tables, out);
-    }
-    refusal::number(Refusal::NeitherKind)
+    call_lists::write_maps(kind, partition, size, tables, out)
 }
 
 // Looks up virtual block v in the bytes of a VAT file.
@@ -468,17 +333,7 @@ pub extern "C" fn tuormik_look_up(file: &[u8], v: u32, result: &mut [u32]) -> u3
     ensures { λ r. ⌜ r ≡ logicalNumber (lentLookUp (now (file .entry)) v (now (result .entry))) ⌝ }
     ensures { λ _. ⌜ now (result .exit) ≡ logicalAfter (lentLookUp (now (file .entry)) v (now (result .entry))) (now (result .entry)) ⌝ }
 {
-    if result.len() != ONE {
-        return refusal::number(Refusal::LentLength);
-    }
-    let found = vat_look_up::look_up(file, VirtualAddress(v));
-    match found {
-        ToLogical::At(b) => {
-            result[0] = b.0;
-            DONE
-        }
-        ToLogical::Refused(why) => refusal::number(why),
-    }
+    call_lists::look_up(file, v, result)
 }
 
 // ---- the CRC of a tag

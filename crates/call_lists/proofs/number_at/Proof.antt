@@ -1,9 +1,9 @@
--- `capi::number_at` meets its contract: past the end stands nothing. Assumes nothing.
+-- `call_lists::number_at` meets its contract: past the end stands nothing. Assumes nothing.
 use mathlib.Core.Path.{sym}
 use borrow.Author.Needs.{needs}
 use lib.ListN.{List·getD-eq-default}
-use Rattle.capi.proofs.number_at.Statement.{statement}
-use Rattle.capi.proofs.number_at.Tie as tie
+use Rattle.call_lists.proofs.number_at.Statement.{statement}
+use Rattle.call_lists.proofs.number_at.Tie as tie
 
 mul-result : tie.Need-mul-result
 mul-result c = search needs

@@ -1,10 +1,10 @@
--- `capi::put_volume` meets its contract: each of the eight places is set. Assumes nothing.
+-- `call_lists::put_volume` meets its contract: each of the eight places is set. Assumes nothing.
 use native.Mathlib.Omega.{arith}
 use borrow.Author.Needs.{needs}
 use lib.ListN.{length-set}
-use Rattle.capi.proofs.Listing.{eight-once, eight-rewritable}
-use Rattle.capi.proofs.put_volume.Statement.{statement}
-use Rattle.capi.proofs.put_volume.Tie as tie
+use Rattle.call_lists.proofs.Listing.{eight-once, eight-rewritable}
+use Rattle.call_lists.proofs.put_volume.Statement.{statement}
+use Rattle.call_lists.proofs.put_volume.Tie as tie
 
 array-read-result : tie.Need-array-read-result
 array-read-result c = search needs

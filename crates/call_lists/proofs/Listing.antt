@@ -26,8 +26,7 @@ use Rattle.model.proofs.Basics.{cond-elim}
 use Rattle.vat_look_up.specs.File.{lookedUp}
 use Rattle.maps.specs.Numbers.{fourOf, kindNumbers, volumeNumbers}
 use Rattle.address.specs.Told.{logicalNumber}
-use Rattle.capi.proofs.Laws.{one-set}
-use Rattle.capi.specs.Lists.{mapsVerdict, volumeAfter, volumeFor, lentVerdict, logicalAfter, lentLookUp}
+use Rattle.call_lists.specs.Lists.{mapsVerdict, volumeAfter, volumeFor, lentVerdict, logicalAfter, lentLookUp}
 
 -- ---- a map list read
 
@@ -136,6 +135,12 @@ module _ (p size : ℕ) (tables out : List ℕ) {kind r : ℕ} where
   written-neither f g h = let a = lt-leb kind 1 (above kind f g) in rw a (h, refl)
 
 -- ---- a VAT file
+
+-- one number, set
+pub one-set : (l : List ℕ) (x : ℕ) → length l ≡ 1 → set l 0 x ≡ x ∷ []
+one-set [] x h = absurd (omega arith)
+one-set (y ∷ []) x h = refl
+one-set (y ∷ z ∷ l) x h = absurd (omega arith)
 
 module _ (f : List ℕ) (v : ℕ) (result : List ℕ) where
   -- what is seen of an answer: the number that is returned and the lent result

@@ -1,8 +1,8 @@
--- `capi::table_count` meets its contract: the test is the definition's. Assumes nothing.
+-- `call_lists::table_count` meets its contract: the test is the definition's. Assumes nothing.
 use borrow.Author.Tests.{lt-ltb, le-ltb}
 use borrow.Author.Needs.{needs}
-use Rattle.capi.proofs.table_count.Statement.{statement}
-use Rattle.capi.proofs.table_count.Tie as tie
+use Rattle.call_lists.proofs.table_count.Statement.{statement}
+use Rattle.call_lists.proofs.table_count.Tie as tie
 
 cast-result : tie.Need-cast-result
 cast-result c = search needs

@@ -1,8 +1,8 @@
--- `capi::tuormik_read_maps` meets its contract: each return by the law of its case. Assumes nothing.
+-- `call_lists::read_maps` meets its contract: each return by the law of its case. Assumes nothing.
 use borrow.Author.Needs.{needs}
-use Rattle.capi.proofs.Listing.{maps-short, maps-read, maps-refused}
-use Rattle.capi.proofs.tuormik_read_maps.Statement.{statement}
-use Rattle.capi.proofs.tuormik_read_maps.Tie as tie
+use Rattle.call_lists.proofs.Listing.{maps-short, maps-read, maps-refused}
+use Rattle.call_lists.proofs.read_maps.Statement.{statement}
+use Rattle.call_lists.proofs.read_maps.Tie as tie
 
 number-requires : tie.Need-number-requires
 number-requires c κs = search needs
@@ -34,8 +34,8 @@ returns-2 c = maps-read _ _ (c .before .before .before .before .before .before .
 returns-3 : tie.Need-returns-3
 returns-3 c = maps-refused _ _ (c .before .before .before .before .before .if1 .left) (c .before .before .before .before .read-maps .ensures) (c .before .before .verdict .given .1) (c .number2 .ensures)
 
-pub tuormik-read-maps-spec : {M : Type 1} → statement M
-tuormik-read-maps-spec =
+pub read-maps-spec : {M : Type 1} → statement M
+read-maps-spec =
     tie.close
     (tie.spec
     number-requires

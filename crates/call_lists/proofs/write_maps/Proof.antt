@@ -1,8 +1,8 @@
--- `capi::tuormik_write_maps` meets its contract: each return by the law of its kind. Assumes nothing.
+-- `call_lists::write_maps` meets its contract: each return by the law of its kind. Assumes nothing.
 use borrow.Author.Needs.{needs}
-use Rattle.capi.proofs.Listing.{written-as, written-neither}
-use Rattle.capi.proofs.tuormik_write_maps.Statement.{statement}
-use Rattle.capi.proofs.tuormik_write_maps.Tie as tie
+use Rattle.call_lists.proofs.Listing.{written-as, written-neither}
+use Rattle.call_lists.proofs.write_maps.Statement.{statement}
+use Rattle.call_lists.proofs.write_maps.Tie as tie
 
 write-once-maps-requires : tie.Need-write-once-maps-requires
 write-once-maps-requires c κs = search needs
@@ -28,8 +28,8 @@ number-requires c κs = search needs
 returns-3 : tie.Need-returns-3
 returns-3 c = let a = c .before .before .before .before .before .args in written-neither (a .partition) (a .size) (a .tables .now) (a .out .now) (c .before .before .if1 .left) (c .before .if2 .left) (c .number .ensures)
 
-pub tuormik-write-maps-spec : {M : Type 1} → statement M
-tuormik-write-maps-spec =
+pub write-maps-spec : {M : Type 1} → statement M
+write-maps-spec =
     tie.close
     (tie.spec
     write-once-maps-requires

@@ -1,11 +1,11 @@
--- `capi::write_once_maps` meets its contract: the volume is the definition's. Assumes nothing.
+-- `call_lists::write_once_maps` meets its contract: the volume is the definition's. Assumes nothing.
 use mathlib.Core.Path.{ap, _∙_}
 use borrow.Author.Needs.{needs}
 use Rattle.maps.specs.Kinds.{volumeWith}
 use Rattle.refusal.specs.Number.{verdictNumber}
-use Rattle.capi.specs.Lists.{volumeFor, lentVerdict}
-use Rattle.capi.proofs.write_once_maps.Statement.{statement}
-use Rattle.capi.proofs.write_once_maps.Tie as tie
+use Rattle.call_lists.specs.Lists.{volumeFor, lentVerdict}
+use Rattle.call_lists.proofs.write_once_maps.Statement.{statement}
+use Rattle.call_lists.proofs.write_once_maps.Tie as tie
 
 write-maps-requires : tie.Need-write-maps-requires
 write-maps-requires c κs = search needs

@@ -1,8 +1,8 @@
--- `capi::tuormik_look_up` meets its contract: each return by the law of its case. Assumes nothing.
+-- `call_lists::look_up` meets its contract: each return by the law of its case. Assumes nothing.
 use borrow.Author.Needs.{needs}
-use Rattle.capi.proofs.Listing.{look-short, look-at, look-refused}
-use Rattle.capi.proofs.tuormik_look_up.Statement.{statement}
-use Rattle.capi.proofs.tuormik_look_up.Tie as tie
+use Rattle.call_lists.proofs.Listing.{look-short, look-at, look-refused}
+use Rattle.call_lists.proofs.look_up.Statement.{statement}
+use Rattle.call_lists.proofs.look_up.Tie as tie
 
 number-requires : tie.Need-number-requires
 number-requires c κs = search needs
@@ -34,8 +34,8 @@ returns-2 c = look-at _ _ _ (c .before .before .before .before .if1 .left) (c .b
 returns-3 : tie.Need-returns-3
 returns-3 c = look-refused _ _ _ (c .before .before .before .before .before .if1 .left) (c .before .before .before .before .look-up .ensures .answer) (c .before .before .found2 .given .1) (c .number2 .ensures)
 
-pub tuormik-look-up-spec : {M : Type 1} → statement M
-tuormik-look-up-spec =
+pub look-up-spec : {M : Type 1} → statement M
+look-up-spec =
     tie.close
     (tie.spec
     number-requires

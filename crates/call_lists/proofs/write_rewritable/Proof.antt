@@ -1,9 +1,9 @@
--- `capi::write_rewritable` meets its contract: the volume is the definition's, but for a number of tables that is out of range in both. Assumes nothing.
+-- `call_lists::write_rewritable` meets its contract: the volume is the definition's, but for a number of tables that is out of range in both. Assumes nothing.
 use borrow.Author.Needs.{needs}
 use Rattle.maps.specs.Kinds.{volumeWith}
-use Rattle.capi.proofs.Listing.{rewritable-written}
-use Rattle.capi.proofs.write_rewritable.Statement.{statement}
-use Rattle.capi.proofs.write_rewritable.Tie as tie
+use Rattle.call_lists.proofs.Listing.{rewritable-written}
+use Rattle.call_lists.proofs.write_rewritable.Statement.{statement}
+use Rattle.call_lists.proofs.write_rewritable.Tie as tie
 
 table-count-requires : tie.Need-table-count-requires
 table-count-requires c κs = search needs
