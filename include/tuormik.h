@@ -263,7 +263,8 @@ uint32_t tuormik_commit(uint8_t *disc, size_t disc_length,
                         uint32_t cut_at, uint32_t cut_effect);
 
 /*
- * Tells how full a write-once disc is: 1,000 times NWA / L, rounded down.
+ * Tells how full a write-once disc is, in per mille: 1,000 times NWA / L to the nearest whole number, an exact half
+ * going to the even one. So 1,000 may be told of a disc that has a block left, and 0 of one that is not unused.
  * Leaves: that number in result, whose length is 1.
  * Refuses: 1 to 7, 11.
  */

@@ -304,11 +304,24 @@ def rooms():
         p("free %d" % v)
     p("read 2")
     p("table")
-    p("# 01, example l: NWA 3, L 64")
+    p("# 01, example l: NWA 3, L 64; 02, slip 4, has it 47")
     start(64, 0)
     p("mark 4 2")
     p("held 0 3 0")
     p("fullness")
+    p("# 02, slip 4: of L 80, NWA 1 and 3 are exact halves; then NWA 1 to 15 of L 16, where every odd one is")
+    for l, saves in ((80, 2), (16, 14)):
+        p("clear")
+        p("span 2 %d" % l)
+        p("make")
+        p("open")
+        p("fullness")
+        for i in range(saves):
+            p("bytes %d" % (17 + i))
+            p("save 0")
+            p("fullness")
+        p("commit")
+        p("fullness")
 
 
 def refused():

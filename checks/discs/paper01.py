@@ -1,4 +1,6 @@
-"""Document 01 in Python, written from its text alone: what each call answers and leaves."""
+"""Document 01 in Python, with slip 4 of document 02, written from their text alone: what each call answers and leaves."""
+from fractions import Fraction
+
 NONE = 0xffffffff
 
 
@@ -290,7 +292,8 @@ class Once:
     @staticmethod
     def fullness(d, maps, s, l, table, rec):
         _, next, _ = Once.judge(d, maps, s, l, table, rec)
-        return 1000 * next // l
+        # to the nearest, and of two to the even one, as Python rounds an exact fraction (02, slip 4)
+        return round(Fraction(1000 * next, l))
 
     @staticmethod
     def make(d, maps, s, l):

@@ -240,7 +240,7 @@ impl<'a> OpenRef<'a> {
         self.found.read(self.disc, number)
     }
 
-    /// How full a write-once disc is, per mille.
+    /// How full a write-once disc is, in per mille to the nearest, an exact half going to the even number.
     pub fn fullness(&self) -> Result<u32, Error> {
         self.found.fullness(self.disc)
     }
@@ -319,7 +319,7 @@ impl<'a> Open<'a> {
         self.found.read(self.disc.to_read(), number)
     }
 
-    /// How full a write-once disc is, per mille.
+    /// How full a write-once disc is, in per mille to the nearest, an exact half going to the even number.
     pub fn fullness(&self) -> Result<u32, Error> {
         self.need_power()?;
         self.found.fullness(self.disc.to_read())

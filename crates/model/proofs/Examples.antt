@@ -5,7 +5,7 @@ use mathlib.Core.Path.{_≡_, refl, _∙_}
 use mathlib.Core.List.{List, [], _∷_}
 use native.Mathlib.Omega.{arith}
 use lib.ListN.{set}
-use Rattle.label.specs.PerMille.{perMille}
+use Rattle.label.specs.PerMille.{nearest, perMille}
 use Rattle.refusal.specs.declared.Refusal.the-variants.{OtherKind, StaleRecord}
 use Rattle.refusal.specs.declared.Verdict.the-variants.{Go}
 use Rattle.refusal.specs.Tests.{Test, test, first, need}
@@ -46,7 +46,7 @@ one-write maps d s last t (suc (suc v)) h g = absurd (omega arith)
 
 -- every example of 01
 pub examples : Examples
-unfolding need part value field none blocksIn tagFits passes fileBytes dataSectors isFree usedOf freeOf spotOf packetOf startAt locate inserted firstFree rest resorted entriesHeld nextHeld countAfter roomToSave saveTests entryTests perMille blockTest entrySector gives zeros
+unfolding need part value field none blocksIn tagFits passes fileBytes dataSectors isFree usedOf freeOf spotOf packetOf startAt locate inserted firstFree rest resorted entriesHeld nextHeld countAfter roomToSave saveTests entryTests nearest perMille blockTest entrySector gives zeros
 examples =
     record {
       a = λ maps l. refl;
@@ -60,5 +60,5 @@ examples =
       i = (refl, refl, λ maps. refl);
       j = λ maps disc s last. (refl, refl, refl, refl, one-write maps disc s last);
       k = refl;
-      l = refl;
+      l = (refl, refl, refl);
     }

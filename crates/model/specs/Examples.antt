@@ -65,5 +65,5 @@ pub record Examples : Type 0 where
   -- "k. Entries (64, 2,048), two free at 2,080 and 2,112; sparing 32 gives (32, 2,080), (64, 2,048), (free, 2,112)."
   pub k : resorted (entry 64 2048 ∷ entry 0xffffffff 2080 ∷ entry 0xffffffff 2112 ∷ []) 32
       ≡ entry 32 2080 ∷ entry 64 2048 ∷ entry 0xffffffff 2112 ∷ []
-  -- "l. NWA 3, L 64: 46."
-  pub l : perMille 3 64 ≡ 46
+  -- "l. NWA 3, L 64": 47, as 02, slip 4, has it; and of L 80, NWA 1 gives 12 and NWA 3 gives 38
+  pub l : (perMille 3 64 ≡ 47) × (perMille 1 80 ≡ 12) × (perMille 3 80 ≡ 38)

@@ -70,7 +70,7 @@ unfoldable pub measuredBy : Verdict → ℕ → Measured
 measuredBy Go n = Measured.PerMille n
 measuredBy (Stop why) n = Measured.Refused why
 
--- 1,000 times NWA / L rounded down
+-- 1,000 times NWA / L to the nearest, an exact half going to the even one (02, slip 4)
 unfoldable pub fullnessOf : Setting → Disc → List ℕ → Record → Measured
 fullnessOf e d t held = measuredBy (fullnessVerdict e d t held) (perMille (nextHeld held) (e .span))
 

@@ -26,7 +26,7 @@ ghost use Rattle.model.specs.Lent.{lent, Frees};
 // The entries that a VAT has at most, beside those of one that can exceed any table.
 const MOST_COUNT: u64 = MOST_ENTRIES as u64;
 
-// What fullness answers: 1,000 times NWA / L rounded down, or why not.
+// What fullness answers: 1,000 times NWA / L to the nearest, or why not.
 pub enum Measured {
     PerMille(u32),
     Refused(Refusal),

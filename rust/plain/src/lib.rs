@@ -1,11 +1,13 @@
-//! Document 01 a second time, in plain Rust over lent slices.
+//! Document 01, with the change requests of document 02 that have landed, a second time, in plain Rust over lent slices.
 //!
-//! It was written from document 01, with the readings of open points in `docs/DECISIONS.md`, and shares no code with the proved layer.
+//! It was written from these documents, with the readings of open points in `docs/DECISIONS.md`, and shares no code with the proved layer.
 //! The tests hold the two against each other, and the benchmarks take it as their baseline. Each function is the one of the same name in
 //! `include/tuormik.h`, with slices for pointers and lengths; the CRC goes by tables and has names of its own. "Line n" is line n of 01,
 //! "Why a call is turned down"; a call is turned down by `Err(n)`.
 #![deny(missing_docs)]
 #![allow(clippy::too_many_arguments)]
+
+use std::cmp::Ordering;
 
 #[cfg(feature = "c-names")]
 mod c_names;
@@ -1050,11 +1052,24 @@ pub fn make(disc: &mut [u8], marks: &mut [u8], maps: &[u8], s: u32, l: u32, spar
     number(call())
 }
 
-/// 1,000 times NWA / L rounded down.
+/// 1,000 times NWA / L to the nearest whole number (02, slip 4): of the number below and the next, the one that is less far off, and the
+/// even one where both are as far.
+fn per_mille(next: u64, l: u64) -> u64 {
+    let below = 1000 * next / l;
+    let above = below + 1;
+    match (1000 * next - below * l).cmp(&(above * l - 1000 * next)) {
+        Ordering::Less => below,
+        Ordering::Greater => above,
+        Ordering::Equal if below.is_multiple_of(2) => below,
+        Ordering::Equal => above,
+    }
+}
+
+/// How full the partition is.
 pub fn fullness(disc: &[u8], marks: &[u8], maps: &[u8], s: u32, l: u32, table: &[u32], record: &[u32], result: &mut [u32]) -> u32 {
     let lent = result.len() == 1;
     let answer = examine_once(disc, marks, maps, s, l, table, record, lent).map(|(span, held)| {
-        result[0] = (1000 * u64::from(held.next) / span.l as u64) as u32;
+        result[0] = per_mille(u64::from(held.next), span.l as u64) as u32;
     });
     number(answer)
 }

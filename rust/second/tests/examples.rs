@@ -1,4 +1,5 @@
-//! Document 01's worked examples, a to l, through both implementations.
+//! Document 01's worked examples, a to l, through both implementations; l, and every fullness of small partitions, as document 02, slip 4,
+//! has them.
 
 use tuormik::{BLANK, MOST_ENTRIES, NONE, PACKET_BYTES, RECORDED, SECTOR};
 use tuormik_second::layer::{Layer, PLAIN, PROVED};
@@ -36,6 +37,16 @@ impl World {
         self.marks[from..from + next as usize].fill(RECORDED);
         self.table[..entries.len()].copy_from_slice(entries);
         self.record = [0, entries.len() as u32, next, 0, 0];
+    }
+
+    /// How full the partition is with no entry and a next block.
+    fn fullness(&mut self, layer: &Layer, next: u32) -> Result<u32, u32> {
+        self.hold(&[], next);
+        let mut result = [0];
+        match (layer.fullness)(&self.disc, &self.marks, &self.maps, self.s, self.l, &self.table, &self.record, &mut result) {
+            0 => Ok(result[0]),
+            line => Err(line),
+        }
     }
 
     /// The sector that a block is read from.
@@ -162,11 +173,30 @@ fn k_sparing() {
 #[test]
 fn l_fullness() {
     both(|layer| {
-        let mut world = World::new(layer, 64, 0, 64, &[]);
-        world.hold(&[], 3);
-        let mut result = [0];
-        let World { disc, marks, maps, s, l, table, record } = &world;
-        assert_eq!((layer.fullness)(disc, marks, maps, *s, *l, table, record, &mut result), 0);
-        assert_eq!(result, [46]);
+        let mut world = World::new(layer, 80, 0, 64, &[]);
+        assert_eq!(world.fullness(layer, 3), Ok(47));
+        world.l = 80;
+        assert_eq!(world.fullness(layer, 1), Ok(12));
+        assert_eq!(world.fullness(layer, 3), Ok(38));
+    });
+}
+
+/// Of all numbers of per mille the one that is nearest to 1,000 n / l, by exact fractions: two of them have the distances x / l and y / l.
+/// Of two at the same distance it is the even one.
+fn nearest(n: u32, l: u32) -> u32 {
+    (0..=1000).min_by_key(|f| ((1000 * n).abs_diff(f * l), f % 2)).expect("there are some")
+}
+
+#[test]
+fn fullness_is_the_nearest() {
+    both(|layer| {
+        let mut world = World::new(layer, 200, 0, 1, &[]);
+        for l in 1..=200 {
+            world.l = l;
+            assert_eq!(world.fullness(layer, 0), Err(11), "{}: L {l}, NWA 0", layer.name);
+            for n in 1..=l {
+                assert_eq!(world.fullness(layer, n), Ok(nearest(n, l)), "{}: L {l}, NWA {n}", layer.name);
+            }
+        }
     });
 }
