@@ -16,9 +16,9 @@ use Rattle.model.proofs.Basics.{by-lt, by-eq, both, and-false, and-false-left}
 use Rattle.model.proofs.Sectors.{nwa-most, nwa-blank, nwa-last, nwa-is}
 use Rattle.disc_marks.specs.Marks.{highestOf}
 
--- ---- the highestOf mark
+-- ---- the highest mark
 
--- the highestOf of the marks from i on is mark i or the highestOf of those after it
+-- the highest of the marks from i on is mark i or the highest of those after it
 pub highest-next : (m : List ℕ) (i : ℕ) → i < length m → highestOf (drop i m) ≡ max (getD m i 0) (highestOf (drop (i + 1) m))
 unfolding highestOf
 highest-next m i h = rw (add-one, drop-cons m i 0)
@@ -28,7 +28,7 @@ pub highest-end : (m : List ℕ) (i : ℕ) → length m ≤ i → highestOf (dro
 unfolding highestOf
 highest-end m i h = ap highestOf (drop-of-length-le m {i = i} h)
 
--- no mark is above the highestOf,
+-- no mark is above the highest,
 pub highest-above : (m : List ℕ) (i : ℕ) → getD m i 0 ≤ highestOf m
 unfolding highestOf
 highest-above [] i = omega arith
@@ -50,7 +50,7 @@ highest-raised [] i v h l = absurd (omega arith)
 highest-raised (x ∷ m) zero v h l = let q : x ≤ v = l in omega arith
 highest-raised (x ∷ m) (suc i) v h l = omega (arith, highest-raised m i v (omega arith) l)
 
--- the highestOf of all is that of the first k or that of the rest
+-- the highest of all is that of the first k or that of the rest
 pub highest-split : (m : List ℕ) (k : ℕ) → highestOf m ≡ max (highestOf (take k m)) (highestOf (drop k m))
 unfolding highestOf
 highest-split m zero = omega arith
@@ -70,7 +70,7 @@ larger-test x y = by-lt 2 x first λ h. by-lt 2 y second (neither h)
     neither : x ≤ 2 → y ≤ 2 → leb (max x y) 2 ≡ leb x 2 && leb y 2
     neither h g = le-leb (max x y) 2 (omega arith) ∙ sym (both (le-leb x 2 h) (le-leb y 2 g))
 
--- no mark exceeds 2 exactly if the highestOf does not
+-- no mark exceeds 2 exactly if the highest does not
 pub highest-known : (m : List ℕ) → leb (highestOf m) 2 ≡ known m
 unfolding highestOf known
 highest-known [] = refl
@@ -102,7 +102,7 @@ none-below d s k h = let q : k ≡ 0 = omega arith in rw q
 abbrev pub between : List ℕ → ℕ → ℕ → List ℕ
 between m a b = take (b - a) (drop a m)
 
--- the highestOf of those between the sectors that a translation gave
+-- the highest of those between the sectors that a translation gave
 pub between-there : (m : List ℕ) {top low high a b : ℕ} → low ≡ a → high ≡ b → top ≡ highestOf (between m low high) → top ≡ highestOf (between m a b)
 between-there m p q e = e ∙ ap₂ (λ (x y : ℕ). highestOf (between m x y)) p q
 
@@ -112,7 +112,7 @@ between-at m s n l i h =
     let e : s + n + i ≡ s + (n + i) = omega arith in
     getD-take (s + l - (s + n)) (drop (s + n) m) i 0 (omega arith) ∙ getD-drop (s + n) m i 0 ∙ ap (λ (x : ℕ). getD m x 0) e
 
--- if the highestOf is 0 all are,
+-- if the highest is 0 all are,
 all-blank : (m : List ℕ) (s n l : ℕ) → highestOf (between m (s + n) (s + l)) ≡ 0 → (k : ℕ) → n ≤ k → k < l → getD m (s + k) 0 ≡ 0
 all-blank m s n l z k hn hl =
     let e : n + (k - n) ≡ k = omega arith in
@@ -137,7 +137,7 @@ none-higher m s n l blank = omega (arith, highest-most (between m (s + n) (s + l
         let f : i < l - n = omega (arith, length-take (s + l - (s + n)) (drop (s + n) m)) in
         omega (arith, between-at m s n l i f, blank (n + i) (omega arith) (omega arith))
 
--- a block past the partition is not NWA (below, `top` is the highestOf mark from block n on),
+-- a block past the partition is not NWA (below, `top` is the highest mark from block n on),
 pub not-past : (d : Disc) (s l n : ℕ) → l < n → false ≡ eqb n (nwa d s l)
 not-past d s l n h =
     let ne : n ≢ nwa d s l = λ e. omega (arith, nwa-most d s l) in

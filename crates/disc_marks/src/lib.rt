@@ -33,7 +33,7 @@ const LONG_STEP: u32 = 4096;
 
 const SHORT_STEP: u32 = 128;
 
-// The highestOf of few marks, `least` if none is above it. It looks at each, with no early way out.
+// The highest of few marks, `least` if none is above it. It looks at each, with no early way out.
 fn highest_few(marks: &[u8], least: u8) -> u8
     ensures { λ r. ⌜ r ≡ max least (highestOf (now (marks .entry))) ⌝ }
 {
@@ -64,8 +64,8 @@ fn raise(tops: &mut [u8], marks: &[u8])
     }
 }
 
-// The highestOf of many marks, 0 of none. A turn looks at as many as a line of the processor's cache has bytes, each
-// beside the highestOf that were in its place.
+// The highest of many marks, 0 of none. A turn looks at as many as a line of the processor's cache has bytes, each
+// beside the highest that were in its place.
 fn highest_many(marks: &[u8]) -> u8
     ensures { λ r. ⌜ r ≡ highestOf (now (marks .entry)) ⌝ }
 {
@@ -81,7 +81,7 @@ fn highest_many(marks: &[u8]) -> u8
     highest_few(&tops, rest)
 }
 
-// The highestOf mark, 0 of none. The marks are lent on as a part of themselves, all of it: so compiled, the highestOf of
+// The highest mark, 0 of none. The marks are lent on as a part of themselves, all of it: so compiled, the highest of
 // a turn's places stay in registers.
 fn highest_mark(marks: &[u8]) -> u8
     ensures { λ r. ⌜ r ≡ highestOf (now (marks .entry)) ⌝ }

@@ -199,7 +199,7 @@ pub fn make_rewritable(
     }
     let layout = judged.layout;
     let mut sector = [0u8; SECTOR];
-    sparing_table::write_free(&mut sector, spares);
+    sparing_written::write_free(&mut sector, spares);
     write_made(disc, marks, layout, &sector);
     Verdict::Go
 }

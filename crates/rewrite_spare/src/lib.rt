@@ -193,7 +193,7 @@ pub fn spare_packet(
     let next = next_sequence(sequence);
     let first = free_place(table, held);
     let mut sector = [0u8; SECTOR];
-    sparing_table::write_spared(&mut sector, table, entries, b, next);
+    sparing_written::write_spared(&mut sector, table, entries, b, next);
     write_sparing(
         disc,
         marks,

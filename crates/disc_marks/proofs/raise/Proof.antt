@@ -1,5 +1,5 @@
--- `disc_marks::raise` meets its contract. The loop's invariant: the highestOf so far and the highestOf of the marks that are left are together the
--- highestOf of both. Assumes nothing.
+-- `disc_marks::raise` meets its contract. The loop's invariant: the highest so far and the highest of the marks that are left are together the
+-- highest of both. Assumes nothing.
 use Prim.Native.Nat.{_-_, _≤_, max}
 use mathlib.Core.Path.{_≡_, refl, ap, _∙_}
 use mathlib.Core.Logic.{⊎-elim}

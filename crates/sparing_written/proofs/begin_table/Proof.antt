@@ -1,13 +1,13 @@
--- `sparing_table::begin_table` meets its contract: cleared, then field by field. Assumes nothing.
+-- `sparing_written::begin_table` meets its contract: cleared, then field by field. Assumes nothing.
 use Prim.Native.Nat.{ℕ}
 use mathlib.Core.Path.{ap, _∙_}
 use borrow.Author.Needs.{needs}
 use lib.ListN.{replicate}
 use Rattle.fields.specs.Regid.{identifier, regid}
-use Rattle.sparing_table.proofs.Written.{begun-written}
+use Rattle.sparing_written.proofs.Written.{begun-written}
 use Rattle.model.specs.Sparing.{sparingName}
-use Rattle.sparing_table.proofs.begin_table.Statement.{statement}
-use Rattle.sparing_table.proofs.begin_table.Tie as tie
+use Rattle.sparing_written.proofs.begin_table.Statement.{statement}
+use Rattle.sparing_written.proofs.begin_table.Tie as tie
 
 clear-requires : tie.Need-clear-requires
 clear-requires c κs = search needs

@@ -1,12 +1,12 @@
--- `sparing_table::put_spared` meets its contract, part by part. Assumes nothing.
+-- `sparing_written::put_spared` meets its contract, part by part. Assumes nothing.
 use Prim.Native.Nat.{_*_}
 use mathlib.Core.Path.{sym}
 use native.Mathlib.Omega.{arith}
 use borrow.Author.Needs.{needs}
 use lib.Seq.{length-take-le}
-use Rattle.sparing_table.proofs.Written.{spared-written}
-use Rattle.sparing_table.proofs.put_spared.Statement.{statement}
-use Rattle.sparing_table.proofs.put_spared.Tie as tie
+use Rattle.sparing_written.proofs.Written.{spared-written}
+use Rattle.sparing_written.proofs.put_spared.Statement.{statement}
+use Rattle.sparing_written.proofs.put_spared.Tie as tie
 
 mul-below : tie.Need-mul-below
 mul-below c = search needs

@@ -1,4 +1,4 @@
--- `sparing_table::put_free` meets its contract. The invariant: the spares passed are put in. The measure is the spares left. Assumes nothing.
+-- `sparing_written::put_free` meets its contract. The invariant: the spares passed are put in. The measure is the spares left. Assumes nothing.
 use Prim.Native.Nat.{ℕ, _-_, _≤_}
 use mathlib.Core.Path.{_≡_, refl, ap, _∙_}
 use borrow.Author.Needs.{needs}
@@ -7,13 +7,13 @@ use lib.ListN.{length, take}
 use mathlib.Core.List.{List}
 use lib.Seq.{take-all}
 use Rattle.fields_written.proofs.Laws.{writing-none}
-use Rattle.sparing_table.proofs.Written.{spares-next}
+use Rattle.sparing_written.proofs.Written.{spares-next}
 use Rattle.model.specs.Both.{spareEntries}
 use Rattle.model.specs.Sparing.{flat}
 use Rattle.fields.specs.Number.{quads}
 use Rattle.fields.specs.Bytes.{splice}
-use Rattle.sparing_table.proofs.put_free.Statement.{statement}
-use Rattle.sparing_table.proofs.put_free.Tie as tie
+use Rattle.sparing_written.proofs.put_free.Statement.{statement}
+use Rattle.sparing_written.proofs.put_free.Tie as tie
 
 abbrev Inv-loop : tie.InvT-loop
 Inv-loop sector₀ spares i₀ sector i = (i ≤ length spares) × (length sector ≡ length sector₀) × (sector ≡ splice sector₀ 56 (quads (flat (spareEntries (take i spares)))))

@@ -1,19 +1,19 @@
--- `sparing_table::write_free` meets its contract: the fields, then the spares. Assumes nothing.
+-- `sparing_written::write_free` meets its contract: the fields, then the spares. Assumes nothing.
 use Prim.Native.Nat.{ℕ}
 use mathlib.Core.Path.{ap, _∙_}
 use native.Mathlib.Omega.{arith}
 use borrow.Author.Needs.{needs}
 use mathlib.Core.List.{List}
 use lib.ListN.{length}
-use Rattle.sparing_table.proofs.Written.{table-written}
+use Rattle.sparing_written.proofs.Written.{table-written}
 use Rattle.sparing_copy.proofs.Entries.{length-spares}
 use Rattle.model.proofs.SparingLaws.{length-flat}
 use Rattle.model.specs.Both.{spareEntries}
 use Rattle.model.specs.Sparing.{flat}
 use Rattle.fields.specs.Number.{quads}
 use Rattle.fields.specs.Bytes.{splice}
-use Rattle.sparing_table.proofs.write_free.Statement.{statement}
-use Rattle.sparing_table.proofs.write_free.Tie as tie
+use Rattle.sparing_written.proofs.write_free.Statement.{statement}
+use Rattle.sparing_written.proofs.write_free.Tie as tie
 
 cast-begin-table : tie.Need-cast-begin-table
 cast-begin-table c = search needs

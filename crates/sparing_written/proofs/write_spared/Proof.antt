@@ -1,20 +1,20 @@
--- `sparing_table::write_spared` meets its contract: the fields, then the parts of the lent table, which are the resorted one. Assumes nothing.
+-- `sparing_written::write_spared` meets its contract: the fields, then the parts of the lent table, which are the resorted one. Assumes nothing.
 use Prim.Native.Nat.{ℕ, _*_, _≤_, _<_}
 use mathlib.Core.Path.{_≡_, sym, ap, _∙_, ap₂}
 use native.Mathlib.Omega.{arith}
 use borrow.Author.Needs.{needs}
 use mathlib.Core.List.{List}
 use lib.ListN.{length, take}
-use Rattle.sparing_table.proofs.Resorted.{spared-before, spared-within, spared-is}
-use Rattle.sparing_table.proofs.Written.{table-written, length-spared}
-use Rattle.sparing_table.specs.Written.{sparedNumbers}
+use Rattle.sparing_written.proofs.Resorted.{spared-before, spared-within, spared-is}
+use Rattle.sparing_written.proofs.Written.{table-written, length-spared}
+use Rattle.sparing_written.specs.Written.{sparedNumbers}
 use Rattle.sparing_table.specs.Table.{has, above, placeWhere}
 use Rattle.model.specs.Sparing.{entries, flat, resorted, writtenTable}
 use Rattle.model.specs.Vat.{none}
 use Rattle.fields.specs.Number.{quads}
 use Rattle.fields.specs.Bytes.{splice}
-use Rattle.sparing_table.proofs.write_spared.Statement.{statement}
-use Rattle.sparing_table.proofs.write_spared.Tie as tie
+use Rattle.sparing_written.proofs.write_spared.Statement.{statement}
+use Rattle.sparing_written.proofs.write_spared.Tie as tie
 
 usize-of-u32-requires : tie.Need-usize-of-u32-requires
 usize-of-u32-requires c κs = search needs

@@ -1,10 +1,10 @@
--- `sparing_table::put_entry` meets its contract, its two numbers one after the other. Assumes nothing.
+-- `sparing_written::put_entry` meets its contract, its two numbers one after the other. Assumes nothing.
 use mathlib.Core.Path.{_∙_}
 use native.Mathlib.Omega.{arith}
 use borrow.Author.Needs.{needs}
-use Rattle.sparing_table.proofs.Written.{entry-written}
-use Rattle.sparing_table.proofs.put_entry.Statement.{statement}
-use Rattle.sparing_table.proofs.put_entry.Tie as tie
+use Rattle.sparing_written.proofs.Written.{entry-written}
+use Rattle.sparing_written.proofs.put_entry.Statement.{statement}
+use Rattle.sparing_written.proofs.put_entry.Tie as tie
 
 mul-at : tie.Need-mul-at
 mul-at c = search needs

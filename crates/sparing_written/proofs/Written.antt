@@ -17,7 +17,7 @@ use Rattle.model.specs.Sparing.{Entry, sparingName, flat, writtenTable}
 use Rattle.model.specs.Both.{spareEntries}
 use Rattle.model.proofs.SparingLaws.{length-flat}
 use Rattle.sparing_copy.proofs.Entries.{length-spares}
-use Rattle.sparing_table.specs.Written.{begun, sparedNumbers}
+use Rattle.sparing_written.specs.Written.{begun, sparedNumbers}
 
 -- ---- an entry
 

@@ -16,10 +16,10 @@ use Rattle.model.specs.Vat.{none}
 use Rattle.model.specs.Sparing.{Entry, entries, flat, isFree, usedOf, freeOf, inserted, firstFree, rest, resorted}
 use Rattle.model.specs.Rewrite.{noEntry}
 use Rattle.sparing_copy.proofs.Entries.{entries-drop}
 use Rattle.sparing_table.specs.Table.{lentEntry, has, above, placeWhere}
-use Rattle.sparing_table.specs.Written.{sparedNumbers}
+use Rattle.sparing_written.specs.Written.{sparedNumbers}
 use Rattle.sparing_table.proofs.Table.{lent-end, entry-found, free-found, free-at}
-use Rattle.sparing_table.proofs.Written.{flat-append}
+use Rattle.sparing_written.proofs.Written.{flat-append}
 
 -- ---- the place of the first free entry
 
