@@ -264,7 +264,7 @@ uint32_t tuormik_commit(uint8_t *disc, size_t disc_length,
 
 /*
  * Tells how full a write-once disc is, in per mille: 1,000 times NWA / L to the nearest whole number, an exact half
- * going to the even one. So 1,000 may be told of a disc that has a block left, and 0 of one that is not unused.
+ * going to the even one. So 1,000 may be told of a disc that has a block left, and 0 of one that is in use.
  * Leaves: that number in result, whose length is 1.
  * Refuses: 1 to 7, 11.
  */
