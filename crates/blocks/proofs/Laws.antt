@@ -5,7 +5,7 @@ use mathlib.Core.Path.{_≡_, refl, sym, ap, ap₂, _∙_}
 use mathlib.Core.List.{List, [], _∷_, _++_}
 use lib.Dec.{eqb}
 use lib.ListN.{replicate}
-use Rattle.refusal.specs.declared.Refusal.the-variants.{OtherKind, Misaligned, StaleRecord, NotRecorded, NotBlank}
+use Rattle.refusal.specs.declared.Refusal.the-variants.{OtherKind, Misaligned, StaleRecord, NotBlank}
 use Rattle.refusal.specs.declared.Verdict.{Verdict}
 use Rattle.refusal.specs.declared.Verdict.the-variants.{Go, Stop}
 use Rattle.refusal.specs.Number.{verdictNumber}
@@ -18,7 +18,7 @@ use Rattle.model.specs.declared.Opened.{Opened}
 use Rattle.model.specs.declared.Given.{Given}
 use Rattle.model.specs.Told.{openedNumber, givenNumber}
 use Rattle.model.specs.Lent.{Opens, Reads, Makes}
-use Rattle.model.specs.Disc.{Disc, sector, recorded}
+use Rattle.model.specs.Disc.{Disc, sector, mark, markTests}
 use Rattle.model.specs.Writes.{Write, upward}
 use Rattle.model.specs.Vat.{none, entriesOf}
 use Rattle.model.specs.VatWritten.{writtenIcb}
@@ -173,7 +173,7 @@ module _ (e : Setting) (d : Disc) (w : writeOnce e ≡ false) where
     read-again : readBlockVerdict e d t held b out ≡ readVerdict e d t held b out
     unfolding readBlockVerdict rewritableVerdict readVerdict readRewritableTests
     read-again =
-        ap (λ (p : ℕ). andThen (examined e d (readLent t out)) (first (test (not (writeOnce e)) OtherKind ∷ (copyTests e d ++ (test (heldCurrent e d t held) StaleRecord ∷ blockTest e b ∷ test (recorded d p) NotRecorded ∷ []))))) place
+        ap (λ (p : ℕ). andThen (examined e d (readLent t out)) (first (test (not (writeOnce e)) OtherKind ∷ (copyTests e d ++ (test (heldCurrent e d t held) StaleRecord ∷ blockTest e b ∷ markTests (mark d p)))))) place
         ∙ again-tests (examined e d (readLent t out)) (readOnceTests e d t held b) (readRewritableTests e d t held b) w
 
     reading-again : readingBlock e d t held b out ≡ reading e d t held b out

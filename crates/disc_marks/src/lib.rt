@@ -15,7 +15,7 @@ ghost use mathlib.Core.List.{List};
 ghost use Prim.Native.Nat.{ℕ, _+_, _*_, _≤_, _<_, max};
 ghost use lib.ListN.{length};
 ghost use lib.Dec.{eqb};
-ghost use Rattle.model.specs.Disc.{disc as discOf, recorded, recordedRun, nwa, shapely, inside};
+ghost use Rattle.model.specs.Disc.{disc as discOf, recordedRun, nwa, shapely, inside};
 ghost use Rattle.disc_marks.specs.Marks.{highestOf};
 
 // How many sectors a disc may have, as a length.
@@ -181,15 +181,6 @@ pub fn is_next(marks: &[u8], s: u32, l: u32, next: LogicalAddress) -> bool
         return true;
     }
     marks[from - 1] != BLANK
-}
-
-// Whether a sector is recorded. Inside the layers: it is one of the disc's.
-pub fn is_recorded(marks: &[u8], at: PhysicalAddress) -> bool
-    requires { ⌜ at .0 < length (now marks) ⌝ }
-    ensures { λ r. ⌜ ((bytes : List ℕ) → r ≡ recorded (discOf bytes (now (marks .entry))) (at .0)) ⌝ }
-{
-    let at = at.0 as usize;
-    marks[at] == RECORDED
 }
 
 // Whether each of `count` sectors from `from` on is recorded. It looks at each, with no early way out.

@@ -65,11 +65,11 @@ module _ (e : Setting) (d : Disc) (t : List ℕ) where
   abbrev start-state : State
   start-state = afterOpening e d t
 
-  first-part : (cs ds : List Call) → Follows e d t (cs ++ ds) → Follows e d t cs
+  pub first-part : (cs ds : List Call) → Follows e d t (cs ++ ds) → Follows e d t cs
   first-part cs ds f = record { low = f .low; opens = f .opens; proper = proper-split e cs ds start-state false (f .proper) .0 }
 
   -- reading after a list that does not end in a cut
-  reads : (cs : List Call) → Follows e d t cs → endsCut false (answers e start-state cs) ≡ false → (v : ℕ) (out : List ℕ) → length out ≡ 2048
+  pub reads : (cs : List Call) → Follows e d t cs → endsCut false (answers e start-state cs) ≡ false → (v : ℕ) (out : List ℕ) → length out ≡ 2048
       → shownAfter e d t cs v out ≡ look (storeAfter e d t cs) v
   unfolding Demand3
   reads cs f q v out long = demand-3 e d t (f .low) (f .opens) cs (f .proper) .reads q v out long
@@ -214,14 +214,14 @@ module _ (e : Setting) (st : State) where
       let p = once-tells e (st .disc) (st .table) _ (st .held) (entryTests (st .table) (st .held) v) g in
       (kind-once e _ _ _ _ _ g, ltb-true _ _ (p .1 .0))
 
-  block-told : (b : ℕ) (x : List ℕ) (c : Cut) → accepted (step e st (saveBlock b x c) .answer) ≡ true → (writeOnce e ≡ false) × (b < e .span)
+  pub block-told : (b : ℕ) (x : List ℕ) (c : Cut) → accepted (step e st (saveBlock b x c) .answer) ≡ true → (writeOnce e ≡ false) × (b < e .span)
   unfolding step saveBlockPlan saveBlockTests blockTest
   block-told b x c a =
       let g = accepted-plan _ _ _ _ c st a in
       let p = again-tells e (st .disc) (st .table) _ (st .held) (saveBlockTests e (st .disc) b) g in
       (kind-again e _ _ _ _ _ g, ltb-true _ _ (p .1 .0))
 
-  packet-told : (b : ℕ) (x : List ℕ) (c : Cut) → accepted (step e st (savePacket b x c) .answer) ≡ true → (writeOnce e ≡ false) × (b % 32 ≡ 0) × (b < e .span)
+  pub packet-told : (b : ℕ) (x : List ℕ) (c : Cut) → accepted (step e st (savePacket b x c) .answer) ≡ true → (writeOnce e ≡ false) × (b % 32 ≡ 0) × (b < e .span)
   unfolding step savePacketPlan packetTests
   packet-told b x c a =
       let g = accepted-plan _ _ _ _ c st a in
@@ -229,7 +229,7 @@ module _ (e : Setting) (st : State) where
       let q = and-true (eqb (b % 32) 0) _ (p .1 .0) in
       (kind-again e _ _ _ _ _ g, eqb-true _ _ (q .0), ltb-true _ _ (q .1))
 
-  spare-told : (b : ℕ) (x : List ℕ) (c : Cut) → accepted (step e st (sparePacket b x c) .answer) ≡ true → (writeOnce e ≡ false) × (b % 32 ≡ 0) × (b < e .span)
+  pub spare-told : (b : ℕ) (x : List ℕ) (c : Cut) → accepted (step e st (sparePacket b x c) .answer) ≡ true → (writeOnce e ≡ false) × (b % 32 ≡ 0) × (b < e .span)
   unfolding step sparePlan spareTests packetTests
   spare-told b x c a =
       let g = accepted-plan _ _ _ _ c st a in

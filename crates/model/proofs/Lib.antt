@@ -2,6 +2,7 @@ pub mod Basics
 pub mod Agree
 pub mod Verdicts
 pub mod Plans
+pub mod Marks
 pub mod Scan
 pub mod Sectors
 pub mod SectorsRuns
@@ -43,7 +44,9 @@ pub mod ReadyLivesSome
 pub mod ConsequencesLists
 pub mod ConsequencesLooks
 pub mod Consequences
+pub mod BlankStays
 pub mod RunSteps
 pub mod Run
+pub mod BlankMet
 pub mod ReadBack
 pub mod ReadBackMet

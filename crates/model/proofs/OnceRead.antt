@@ -8,22 +8,23 @@ use lib.Dec.{leb, ltb, eqb}
 use lib.ListN.{length, getD, take, List·getD-map}
 use lib.Seq.{getD-take, length-take-le}
 use borrow.Author.Tests.{lt-ltb, le-ltb, le-leb, eq-eqb}
-use Rattle.refusal.specs.declared.Refusal.the-variants.{NumberOutside, UnusedEntry, NotRecorded}
+use Rattle.refusal.specs.declared.Refusal.the-variants.{NumberOutside, UnusedEntry}
 use Rattle.refusal.specs.declared.Verdict.{Verdict}
 use Rattle.refusal.specs.declared.Verdict.the-variants.{Go, Stop}
 use Rattle.refusal.specs.Tests.{test, first, need}
 use Rattle.maps.specs.Kinds.{readMaps}
 use Rattle.model.specs.declared.Record.{Record}
-use Rattle.model.specs.Disc.{Disc, sector, recorded, shapely, inside}
+use Rattle.model.specs.Disc.{Disc, sector, mark, markTests, shapely, inside}
 use Rattle.model.specs.Vat.{none, allBelow}
 use Rattle.model.specs.Examine.{Setting, writeOnce, examined, lentTable}
 use Rattle.model.specs.Once.{nextOn, entriesHeld, nextHeld, lastHeld, heldFits, entryTests}
 use Rattle.model.specs.Both.{readVerdict, readBytes, readLent, readOnceTests, entrySector, blockSector, blockBy}
 use Rattle.model.specs.Calls.{State}
-use Rattle.model.specs.Store.{Slot, unused, slotAt, entrySlot, entrySlots, Store, seenAs, look}
+use Rattle.model.specs.Store.{Slot, unused, entrySlot, entrySlots, Store, seenAs, look}
 use Rattle.model.specs.Demand.{seen, seenBy}
 use Rattle.model.proofs.Basics.{by-bool, by-lt, both}
 use Rattle.model.proofs.Verdicts.{examined-go, go-then}
+use Rattle.model.proofs.Marks.{sector-shown}
 use Rattle.model.proofs.Scan.{icb-recorded, length-slots, slot-none}
 use Rattle.model.proofs.Sectors.{nwa-above, nwa-blank}
 use Rattle.model.proofs.Once.{Kept, BlankFrom}
@@ -104,8 +105,7 @@ module _ (e : Setting) (once : writeOnce e ≡ true) (maps-go : readMaps (e .map
     read-tests : readVerdict e (st .disc) (st .table) (st .held) v out
         ≡ first (test (ltb v (entriesHeld (st .held))) NumberOutside
         ∷ test (not (eqb (getD (st .table) v 0) none)) UnusedEntry
-        ∷ test (recorded (st .disc) (e .start + getD (st .table) v 0)) NotRecorded
-        ∷ [])
+        ∷ markTests (mark (st .disc) (e .start + getD (st .table) v 0)))
     unfolding readVerdict readOnceTests entryTests blockSector entrySector readLent lentTable need
     read-tests =
         go-then _ (examined-once (st .disc) _ (i .kept .shape) (i .kept .within) (both (le-leb _ _ (i .lent)) (eq-eqb _ _ long)))
@@ -118,7 +118,7 @@ module _ (e : Setting) (once : writeOnce e ≡ true) (maps-go : readMaps (e .map
 
     -- reading shows what the plain store does
     pub read-once : seen e st v out ≡ look σ v
-    unfolding look seenBy blockBy entrySlot slotAt seenAs need
+    unfolding look seenBy blockBy entrySlot seenAs need
     read-once =
         let n = entriesHeld (st .held) in
         let x = getD (st .table) v 0 in
@@ -130,9 +130,9 @@ module _ (e : Setting) (once : writeOnce e ≡ true) (maps-go : readMaps (e .map
         by-bool (eqb x none)
         (λ b. shown (Stop UnusedEntry) (read-tests ∙ rw (la, b)) ∙ sym (rw (ln, la, bl, b)))
         (λ b.
-        by-bool (recorded (st .disc) (e .start + x))
-        (λ c. shown Go (read-tests ∙ rw (la, b, c)) ∙ sym (rw (ln, la, bl, b, c)))
-        (λ c. shown (Stop NotRecorded) (read-tests ∙ rw (la, b, c)) ∙ sym (rw (ln, la, bl, b, c)))))
+        shown (first (markTests (mark (st .disc) (e .start + x)))) (read-tests ∙ rw (la, b))
+        ∙ sector-shown (st .disc) (e .start + x) out
+        ∙ sym (rw (ln, la, bl, b))))
         (λ a.
         let la : ltb v n ≡ false = le-ltb v n a in
         shown (Stop NumberOutside) (read-tests ∙ rw la) ∙ sym (rw (ln, la)))

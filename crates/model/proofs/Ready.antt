@@ -3,12 +3,12 @@
 use Prim.Native.Nat.{ℕ, _*_, _≤_, _<_}
 use mathlib.Core.Bool.{Bool, true, false}
 use mathlib.Core.Path.{_≡_, sym, ap, ap₂, _∙_}
-use mathlib.Core.List.{List, [], _∷_}
+use mathlib.Core.List.{List, _∷_}
 use native.Mathlib.Omega.{arith}
 use lib.Dec.{ltb}
 use lib.ListN.{length, getD, take}
 use borrow.Author.Tests.{lt-ltb, le-ltb, le-leb, eq-eqb}
-use Rattle.refusal.specs.declared.Refusal.the-variants.{NumberOutside, NotRecorded}
+use Rattle.refusal.specs.declared.Refusal.the-variants.{NumberOutside}
 use Rattle.refusal.specs.declared.Verdict.{Verdict}
 use Rattle.refusal.specs.declared.Verdict.the-variants.{Go, Stop}
 use Rattle.refusal.specs.Tests.{test, first, need}
@@ -16,16 +16,17 @@ use Rattle.fields.specs.Bytes.{same}
 use Rattle.fields.proofs.Laws.{same-equal}
 use Rattle.maps.specs.Kinds.{readMaps}
 use Rattle.model.specs.declared.Record.{Record}
-use Rattle.model.specs.Disc.{Disc, sector, recorded, shapely, inside}
+use Rattle.model.specs.Disc.{Disc, sector, mark, markTests, shapely, inside}
 use Rattle.model.specs.Sparing.{Geometry, Entry, entries, flat, entriesFit, locate}
 use Rattle.model.specs.Examine.{Setting, writeOnce, geometry, examined, lentTable}
 use Rattle.model.specs.Rewrite.{tableOn, entriesOn, sequenceOn, countOn, copyTests, heldCurrent, placeOf, blockTest}
 use Rattle.model.specs.Both.{readVerdict, readBytes, readLent, readRewritableTests, blockSector, blockBy}
 use Rattle.model.specs.Calls.{State}
-use Rattle.model.specs.Store.{Slot, unused, slotAt, start, Store, seenAs, look, next}
+use Rattle.model.specs.Store.{Slot, unused, slotAt, start, Store, look, next}
 use Rattle.model.specs.Demand.{seen, seenBy}
-use Rattle.model.proofs.Basics.{by-bool, by-lt, both}
+use Rattle.model.proofs.Basics.{by-lt, both}
 use Rattle.model.proofs.Verdicts.{examined-go, go-then}
+use Rattle.model.proofs.Marks.{sector-shown}
 use Rattle.model.proofs.Ground.{Ground}
 use Rattle.model.proofs.SparingLaws.{length-flat, counts-fits, Settled, settled-some, settled-sequence, settled-table, settled-agree}
 
@@ -122,7 +123,7 @@ module _ (e : Setting) (g : Geometry) (again : writeOnce e ≡ false) (γ : Grou
     there = rw again (omega (arith, ready-place γ (i .ready) b))
 
     read-tests : readVerdict e (st .disc) (st .table) (st .held) b out
-        ≡ first (test (ltb b (g .span)) NumberOutside ∷ test (recorded (st .disc) at-block) NotRecorded ∷ [])
+        ≡ first (test (ltb b (g .span)) NumberOutside ∷ markTests (mark (st .disc) at-block))
     unfolding readVerdict readRewritableTests blockTest readLent lentTable need copyTests tableOn
     read-tests =
         go-then _ (examined-again (st .disc) _ (i .ready) (both (le-leb _ _ (i .lent)) (eq-eqb _ _ long)))
@@ -135,16 +136,16 @@ module _ (e : Setting) (g : Geometry) (again : writeOnce e ≡ false) (γ : Grou
 
     -- reading shows what the plain store does
     pub read-again : seen e st b out ≡ look σ b
-    unfolding look seenBy blockBy slotAt seenAs need
+    unfolding look seenBy blockBy need
     read-again =
         let ln = i .ready .count in
         by-lt b (g .span)
         (λ a.
         let la : ltb b (g .span) ≡ true = lt-ltb b (g .span) a in
         let bl = i .ready .same b a in
-        by-bool (recorded (st .disc) at-block)
-        (λ c. shown Go (read-tests ∙ rw (la, c)) ∙ sym (rw (ln, la, bl, c)))
-        (λ c. shown (Stop NotRecorded) (read-tests ∙ rw (la, c)) ∙ sym (rw (ln, la, bl, c))))
+        shown (first (markTests (mark (st .disc) at-block))) (read-tests ∙ rw la)
+        ∙ sector-shown (st .disc) at-block out
+        ∙ sym (rw (ln, la, bl)))
         (λ a.
         let la : ltb b (g .span) ≡ false = le-ltb b (g .span) a in
         shown (Stop NumberOutside) (read-tests ∙ rw la) ∙ sym (rw (ln, la)))

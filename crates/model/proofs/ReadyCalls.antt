@@ -1,6 +1,6 @@
 -- The saves of a rewritable disc, refused, cut or carried out. Assumes nothing.
 use Prim.Native.Nat.{ℕ, _+_, _-_, _*_, _%_, _≤_, _<_}
-use mathlib.Core.Bool.{Bool, true, false, not}
+use mathlib.Core.Bool.{Bool, true, false, not, _&&_}
 use mathlib.Core.Logic.{_≢_, _⊎_}
 use mathlib.Core.Path.{_≡_, refl, sym, ap, _∙_}
 use mathlib.Core.List.{List, _∷_, _++_}
@@ -18,14 +18,15 @@ use Rattle.fields.proofs.Laws.{length-splice, part-splice-width, part-splice-be
 use Rattle.model.specs.declared.Cut.{Cut}
 use Rattle.model.specs.declared.Landing.{Landing}
 use Rattle.model.specs.declared.Record.{Record}
-use Rattle.model.specs.Disc.{Disc, sector, recorded, joined}
+use Rattle.model.specs.Disc.{Disc, sector, recorded, recordedRun, markTests, joined}
 use Rattle.model.specs.Writes.{landing, writes, upward, struck}
 use Rattle.model.specs.Sparing.{Geometry, entries, packetOf, locate}
 use Rattle.model.specs.Examine.{Setting, writeOnce, examined, lentTable}
-use Rattle.model.specs.Rewrite.{copyTests, heldCurrent, rewritableVerdict, placeOf, othersRecorded, blockTest, saveBlockTests, blockLent, packetWrites, replaced, saveBlockPlan, packetTests, packetLent, savePacketPlan}
+use Rattle.model.specs.Rewrite.{copyTests, heldCurrent, rewritableVerdict, placeOf, blockTest, saveBlockTests, blockLent, packetWrites, replaced, saveBlockPlan, packetTests, packetLent, savePacketPlan}
 use Rattle.model.specs.Calls.{saveBlock, savePacket, State, step}
 use Rattle.model.specs.Store.{Slot, holds, unused, slotAt, slotAfter, puts, putsCut, slotsIn, packetWith, Store, Shape, cutIn, writesIn, taken}
 use Rattle.model.proofs.Basics.{by-lt, by-eq, and-true}
+use Rattle.model.proofs.Marks.{other-mark}
 use Rattle.model.proofs.Verdicts.{Examined, examined-tells, then-go}
 use Rattle.model.proofs.Sectors.{shapely-made, landing-uncut}
 use Rattle.model.proofs.SectorsRuns.{length-joined, joined-part, recordedRun-each, length-upward}
@@ -155,11 +156,11 @@ module _ (e : Setting) (g : Geometry) (γ : Ground e g) (h : Shape) (st : State)
         (λ a. part-splice-after (joined d start 32) (2048 * k) x (2048 * j) 2048 (omega (arith, long-joined)) (omega arith))
         ∙ joined-part d start 32 j u)
 
-    module _ (others : othersRecorded d start k ≡ true) where
+    module _ (others : (recordedRun d start k && recordedRun d (start + k + 1) (31 - k)) ≡ true) where
       recorded-other : (j : ℕ) → j < 32 → j ≢ k → recorded d (start + j) ≡ true
-      unfolding othersRecorded recorded
+      unfolding recorded
       recorded-other j u w =
-          let r = and-true (Rattle.model.specs.Disc.recordedRun d start k) _ others in
+          let r = and-true (recordedRun d start k) _ others in
           by-lt j k
           (λ a. ap (λ (m : ℕ). eqb m 1) (recordedRun-each d start k j (r .0) a))
           (λ a.
@@ -221,7 +222,7 @@ module _ (e : Setting) (g : Geometry) (γ : Ground e g) (h : Shape) (st : State)
           ∙ sym (after-done (getD (σ .blocks) (p + j) unused) _ (landing-uncut (1 + j) 32 c uncut (omega arith) (omega arith))))
 
   pub sound-block : (b : ℕ) (x : List ℕ) (c : Cut) → Sound (AgainOk e g) h σ (saveBlock b x c) (step e st (saveBlock b x c))
-  unfolding step saveBlockPlan packetWrites AgainOk cutIn writesIn taken saveBlockTests blockTest blockLent
+  unfolding step saveBlockPlan packetWrites AgainOk cutIn writesIn taken saveBlockTests blockTest blockLent markTests
   sound-block b x c =
       sound-plan (AgainOk e g) h σ (saveBlock b x c) c st _ _ _ _ (n, l, i) λ go.
       let t = again-tells e d (st .table) _ (st .held) (saveBlockTests e d b) go in
@@ -229,7 +230,7 @@ module _ (e : Setting) (g : Geometry) (γ : Ground e g) (h : Shape) (st : State)
       let below : b < g .span = rw (← γ .span-is) (ltb-true _ _ (t .1 .0)) in
       let long : length x ≡ 2048 = eqb-true _ _ (u .1) in
       let place = ready-place γ (i .ready) (packetOf b) in
-      let others : othersRecorded d (locate (g .start) (entries l) (packetOf b)) (b % 32) ≡ true = rw place at (t .1 .1 .0) in
+      let others = sym (other-mark d (locate (g .start) (entries l) (packetOf b)) (b % 32)) ∙ rw place at (t .1 .1 .1 .0) in
       let w = length-upward 32 (placeOf e d (packetOf b)) (replaced d (placeOf e d (packetOf b)) (b % 32) x) 0 in
       sound-carried (AgainOk e g) h σ (saveBlock b x c) c st _ _ _ refl (sym w)
       (λ z. (n, l, rw place (block-cut b x c below long others), i .lent))

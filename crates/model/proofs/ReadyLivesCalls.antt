@@ -1,6 +1,6 @@
 -- When the calls on a rewritable disc are carried out, and what they then answer and leave. Assumes nothing.
 use Prim.Native.Nat.{ℕ, _+_, _-_, _*_, _%_, _≤_, _<_}
-use mathlib.Core.Bool.{Bool, true, false, not}
+use mathlib.Core.Bool.{Bool, true, false, cond, not}
 use mathlib.Core.Logic.{_≢_}
 use mathlib.Core.Path.{_≡_, sym, ap, ap₂, _∙_}
 use mathlib.Core.List.{List}
@@ -18,11 +18,12 @@ use Rattle.model.specs.Writes.{Write, writes, struck, noCut}
 use Rattle.model.specs.Sparing.{Geometry, Entry, entries, freeOf, spotOf, inPlace, packetOf, locate}
 use Rattle.model.specs.Examine.{Setting, writeOnce, lentTable}
 use Rattle.model.specs.Plan.{carry, unless, replyOf, discAfter, tableAfter}
-use Rattle.model.specs.Rewrite.{isSpared, noEntry, tableOn, copyTests, currentRecord, rewritableVerdict, othersRecorded, blockTest, saveBlockTests, blockLent, saveBlockPlan, packetTests, packetLent, spareTests, sparePlan}
+use Rattle.model.specs.Rewrite.{isSpared, noEntry, tableOn, copyTests, currentRecord, rewritableVerdict, otherMark, blockTest, saveBlockTests, blockLent, saveBlockPlan, packetTests, packetLent, spareTests, sparePlan}
 use Rattle.model.specs.Both.{openVerdict, recordOn, passedOn, openedBy, opening}
 use Rattle.model.specs.Calls.{Call, saveBlock, sparePacket, openDisc, done, opened, State, Result, answerOf, heldAfter, carried, answerOfOpening, step, accepted, isCut}
-use Rattle.model.specs.Store.{Slot, holds, unused, unreadable, slotAt, puts, slotsIn, Store, store, Shape, cutIn, writesIn, wasCut, taken, next}
+use Rattle.model.specs.Store.{Slot, holds, unused, unreadable, blank, slotAt, puts, slotsIn, Store, store, Shape, cutIn, writesIn, wasCut, taken, next}
 use Rattle.model.proofs.Basics.{by-bool, both}
+use Rattle.model.proofs.Marks.{mark-goes, other-mark}
 use Rattle.model.proofs.Verdicts.{go-then}
 use Rattle.model.proofs.Ground.{Ground}
 use Rattle.model.proofs.SectorsRuns.{recordedRun-all}
@@ -55,13 +56,14 @@ unfolding accepted isCut next
 sound-opened Ok h σ c r held n q s = rw q at s
 
 -- a sector that is a block of bytes is recorded
-unread-differs : (x : List ℕ) → unreadable ≡ holds x → ⊥
-unread-differs x h = let z : _≡_ {A = ℕ} 0 1 = cc in omega arith
+unread-differs : (b : Bool) (x : List ℕ) → cond b blank unreadable ≡ holds x → ⊥
+unread-differs true x h = let z : _≡_ {A = ℕ} 0 1 = cc in omega arith
+unread-differs false x h = let z : _≡_ {A = ℕ} 0 1 = cc in omega arith
 
 holds-recorded : (d : Disc) (p : ℕ) (x : List ℕ) → slotAt d p ≡ holds x → mark d p ≡ 1
 unfolding slotAt recorded
 holds-recorded d p x h =
-    by-bool (eqb (mark d p) 1) (eqb-true _ _) (λ q. absurd (unread-differs x (rw q at h)))
+    by-bool (eqb (mark d p) 1) (eqb-true _ _) (λ q. absurd (unread-differs (eqb (mark d p) 0) x (rw q at h)))
 
 -- a store whose blocks below n all hold bytes
 pub record Whole (n : ℕ) (bs : List Slot) : Type 0 where
@@ -132,11 +134,11 @@ module _ (e : Setting) (g : Geometry) (again : writeOnce e ≡ false) (γ : Grou
           ∙ sym (i .ready .same (p + j) v)
           ∙ whole .block (p + j) v)
 
-      others : othersRecorded (st .disc) start (b % 32) ≡ true
-      unfolding othersRecorded
+      others : eqb (otherMark (st .disc) start (b % 32)) 1 ≡ true
       others =
           let k : ℕ = b % 32 in
-          both
+          other-mark (st .disc) start k
+          ∙ both
           (recordedRun-all (st .disc) start k (λ j u. each-recorded j (omega arith)))
           (recordedRun-all (st .disc) (start + k + 1) (31 - k)
           (λ j u.
@@ -147,7 +149,7 @@ module _ (e : Setting) (g : Geometry) (again : writeOnce e ≡ false) (γ : Grou
       unfolding saveBlockTests blockTest blockLent lentTable need
       save-goes =
           own-tests st _ (saveBlockTests e (st .disc) b) i (both (le-leb _ _ (i .lent)) (eq-eqb _ _ long))
-          ∙ rw (ready-place γ (i .ready) (packetOf b), others, γ .span-is, lt-ltb b (g .span) below)
+          ∙ rw (ready-place γ (i .ready) (packetOf b), γ .span-is, lt-ltb b (g .span) below) (sym (mark-goes _ others))
 
       -- it answers with the record as it was
       pub save-answer : step e st (saveBlock b x noCut) .answer ≡ done (Record.Rewritable (length (entries l)) n)

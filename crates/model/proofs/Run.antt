@@ -45,11 +45,11 @@ use Rattle.model.proofs.RunSteps.{nextAfter, Between, told, told-none, 
 -- ---- the disc
 
 -- whether every number of a list is a byte
-bytesOnly : List ℕ → Bool
+unfoldable pub bytesOnly : List ℕ → Bool
 bytesOnly [] = true
 bytesOnly (x ∷ l) = ltb x 256 && bytesOnly l
 
-bytes-below : (l : List ℕ) → bytesOnly l ≡ true → Below 256 l
+pub bytes-below : (l : List ℕ) → bytesOnly l ≡ true → Below 256 l
 unfolding Below bytesOnly
 bytes-below [] q i h = absurd (omega arith)
 bytes-below (x ∷ l) q zero h = ltb-true x 256 (and-true (ltb x 256) (bytesOnly l) q .0)
@@ -70,7 +70,7 @@ computed = record { once = refl; maps = refl; opens = refl; whole = refl }
 -- ---- what the calls answer
 
 -- the record that opening hands back is the one on the disc
-handed : (e : Setting) (d : Disc) (t : List ℕ) (r : Record) (p : ℕ) → openVerdict e d t ≡ Go → opening e d t ≡ Opened.Open r p → recordOn e d ≡ r
+pub handed : (e : Setting) (d : Disc) (t : List ℕ) (r : Record) (p : ℕ) → openVerdict e d t ≡ Go → opening e d t ≡ Opened.Open r p → recordOn e d ≡ r
 unfolding opening openedBy
 handed e d t r p g q = let w : Opened.Open (recordOn e d) (passedOn e d) ≡ Opened.Open r p = rw g at q in cc
 

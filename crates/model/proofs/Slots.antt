@@ -1,14 +1,12 @@
 -- Blocks of the plain store after several were written, and sectors as blocks. Assumes nothing.
 use Prim.Native.Nat.{ℕ, zero, suc, _+_, _*_, _≤_, _<_}
-use mathlib.Core.Bool.{true, false}
+use mathlib.Core.Bool.{true}
 use mathlib.Core.Logic.{_⊎_, inl, inr}
 use mathlib.Core.Path.{_≡_, refl, ap, _∙_}
 use mathlib.Core.List.{List, [], _∷_}
 use native.Mathlib.Omega.{arith}
-use lib.Dec.{eqb}
 use lib.ListN.{length, getD, set, length-set}
 use lib.Seq.{getD-set-same, getD-set-other}
-use borrow.Author.Tests.{ne-eqb}
 use Rattle.fields.specs.Bytes.{part}
 use Rattle.model.specs.declared.Cut.{Cut}
 use Rattle.model.specs.declared.Landing.{Landing}
@@ -30,8 +28,7 @@ unfolding slotAfter slotAt landed recorded
 slot-landed Landing.Done p b d e h m = rw (recorded-done p b d h, sector-done p b d e h m)
 slot-landed Landing.Old p b d e h m = refl
 slot-landed Landing.Unreadable p b d e h m =
-    let q : eqb (mark (landed Landing.Unreadable p b d) p) 1 ≡ false = ne-eqb (mark (landed Landing.Unreadable p b d) p) 1 (λ w. omega (arith, mark-unreadable p b d h)) in
-    rw q
+    rw (mark-unreadable p b d h)
 slot-landed Landing.Untouched p b d e h m = refl
 
 -- a recorded sector holds its bytes

@@ -1,10 +1,10 @@
 -- Opening, reading and making: the calls of both kinds (document 01, "Calls and their sector writes").
-use Prim.Native.Nat.{ℕ, _+_, _*_}
+use Prim.Native.Nat.{ℕ, _*_}
 use mathlib.Core.Bool.{Bool, true, cond, _&&_}
 use mathlib.Core.List.{List, [], _∷_, _++_}
 use lib.ListN.{length, replicate}
 use lib.Dec.{eqb}
-use Rattle.refusal.specs.declared.Refusal.the-variants.{Misaligned, StaleRecord, NotRecorded, NotBlank}
+use Rattle.refusal.specs.declared.Refusal.the-variants.{Misaligned, StaleRecord, NotBlank}
 use Rattle.refusal.specs.declared.Verdict.{Verdict}
 use Rattle.refusal.specs.declared.Verdict.the-variants.{Go, Stop}
 use Rattle.refusal.specs.Tests.{Test, test, first, andThen}
@@ -12,7 +12,7 @@ use Rattle.address.specs.Translation.{entrySectorAt}
 use Rattle.model.specs.declared.Record.{Record}
 use Rattle.model.specs.declared.Opened.{Opened}
 use Rattle.model.specs.declared.Given.{Given}
-use Rattle.model.specs.Disc.{Disc, sector, recorded}
+use Rattle.model.specs.Disc.{Disc, sector, mark, markTests}
 use Rattle.model.specs.Writes.{Write, writes, upward, noCut}
 use Rattle.model.specs.Vat.{none, entriesOf}
 use Rattle.model.specs.VatWritten.{writtenIcb}
@@ -68,20 +68,19 @@ entrySector e t v = entrySectorAt (e .start) t v
 unfoldable pub blockSector : Setting → Disc → List ℕ → ℕ → ℕ
 blockSector e d t v = cond (writeOnce e) (entrySector e t v) (placeOf e d v)
 
--- lines 11 to 14 on a write-once disc
+-- lines 11 to 13, 25 and 14 on a write-once disc
 unfoldable pub readOnceTests : Setting → Disc → List ℕ → Record → ℕ → List Test
 readOnceTests e d t held v =
     test (heldFits e d t held) StaleRecord
-    ∷ (entryTests t held v ++ (test (recorded d (blockSector e d t v)) NotRecorded ∷ []))
+    ∷ (entryTests t held v ++ markTests (mark d (blockSector e d t v)))
 
--- lines 8, 10 to 12 and 14 on a rewritable disc
+-- lines 8, 10 to 12, 25 and 14 on a rewritable disc
 unfoldable pub readRewritableTests : Setting → Disc → List ℕ → Record → ℕ → List Test
 readRewritableTests e d t held b =
     copyTests e d
     ++ (test (heldCurrent e d t held) StaleRecord
     ∷ blockTest e b
-    ∷ test (recorded d (blockSector e d t b)) NotRecorded
-    ∷ [])
+    ∷ markTests (mark d (blockSector e d t b)))
 
 -- line 3
 unfoldable pub readLent : List ℕ → List ℕ → Bool

@@ -6,7 +6,7 @@ use mathlib.Core.Bool.{Bool, true, false, cond, not, _&&_, _||_}
 use mathlib.Core.List.{List, [], _∷_, _++_}
 use lib.ListN.{length, getD, take}
 use lib.Dec.{eqb}
-use Rattle.refusal.specs.declared.Refusal.the-variants.{UnusedEntry, NotRecorded}
+use Rattle.refusal.specs.declared.Refusal.the-variants.{UnusedEntry, BlankSector, UnreadableSector}
 use Rattle.fields.specs.Bytes.{part}
 use Rattle.model.specs.declared.Cut.{Cut}
 use Rattle.model.specs.declared.Landing.{Landing}
@@ -15,7 +15,7 @@ use Rattle.model.specs.Writes.{landing, noCut}
 use Rattle.model.specs.Sparing.{packetOf}
 use Rattle.model.specs.Examine.{Setting, writeOnce}
 use Rattle.model.specs.Both.{opening}
-use Rattle.model.specs.Calls.{Call, saveVirtual, freeVirtual, commit, saveBlock, savePacket, sparePacket, openDisc, Answer, cut, step, answers, final, accepted, isCut, isOpened, answerOfOpening, Proper}
+use Rattle.model.specs.Calls.{Call, saveVirtual, freeVirtual, commit, saveBlock, savePacket, sparePacket, openDisc, Answer, cut, step, answers, final, accepted, isCut, isOpened, answerOfOpening, Proper, endsCut}
 use Rattle.model.specs.Store.{Store, Shape, store, start, shapeOf, writesIn, wasCut, wholeAt, Seen, bytes, turned, look}
 use Rattle.model.specs.Demand.{Below, afterOpening, followed, seen}
 
@@ -109,6 +109,36 @@ CopyByCommit =
     → storeAfter e d t (cs ++ (c ∷ [])) .copy
     ≡ cond (accepted (answerAfter e d t cs c) && laysIcb (shapeOf e) (storeAfter e d t cs) c) (storeAfter e d t cs .blocks) (storeAfter e d t cs .copy)
 
+-- ---- blank blocks (02, slip 5)
+
+-- whether a call saves or frees number v
+unfoldable pub saves : ℕ → Call → Bool
+saves v (saveVirtual u b c) = eqb u v
+saves v (freeVirtual u) = eqb u v
+saves v (commit c) = false
+saves v (saveBlock b x c) = false
+saves v (savePacket b x c) = false
+saves v (sparePacket b x c) = false
+saves v openDisc = false
+
+-- no call of a list that was accepted does
+unfoldable pub leaves : ℕ → List Call → List Answer → Bool
+leaves v [] al = true
+leaves v (c ∷ cs) [] = true
+leaves v (c ∷ cs) (a ∷ al) = not (accepted a && saves v c) && leaves v cs al
+
+-- a number that reads 25 on a write-once disc, after whatever list, does so after every list until it is saved or freed: no cut, no commit and no
+-- opening records its sector
+unfoldable pub BlankStays : Type 0
+BlankStays =
+    (e : Setting) (d : Disc) (t : List ℕ) (cs later : List Call) → writeOnce e ≡ true → Follows e d t (cs ++ later)
+    → endsCut false (answers e (afterOpening e d t) cs) ≡ false
+    → endsCut false (answers e (afterOpening e d t) (cs ++ later)) ≡ false
+    → (v : ℕ) (out : List ℕ) → length out ≡ 2048
+    → shownAfter e d t cs v out ≡ turned BlankSector
+    → leaves v later (answers e (final e (afterOpening e d t) cs) later) ≡ true
+    → shownAfter e d t (cs ++ later) v out ≡ turned BlankSector
+
 -- ---- rewritable discs
 
 -- "a save gives its block the lent bytes", "save packet and spare packet give 32 blocks the lent bytes": every other number reads as before
@@ -141,7 +171,7 @@ SpareAllOrNothing =
 unfoldable pub seenLanded : Landing → Seen → Seen → Seen
 seenLanded Landing.Done o n = n
 seenLanded Landing.Old o n = o
-seenLanded Landing.Unreadable o n = turned NotRecorded
+seenLanded Landing.Unreadable o n = turned UnreadableSector
 seenLanded Landing.Untouched o n = o
 
 -- "a cut save, of a block or a packet, gives each sector of its packet by the cut's rule": every number outside the packet reads as before,

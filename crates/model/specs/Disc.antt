@@ -1,10 +1,12 @@
 -- The disc (document 01, "The disc and its addresses"): lent bytes, 2,048 a sector, and a mark byte a sector, 0 blank, 1 recorded,
 -- 2 unreadable.
 use Prim.Native.Nat.{ℕ, zero, suc, _+_, _*_}
-use mathlib.Core.Bool.{Bool, true, cond, _&&_}
+use mathlib.Core.Bool.{Bool, true, cond, not, _&&_}
 use mathlib.Core.List.{List, [], _∷_, _++_}
 use lib.ListN.{length, getD}
 use lib.Dec.{eqb, leb}
+use Rattle.refusal.specs.declared.Refusal.the-variants.{BlankSector, UnreadableSector}
+use Rattle.refusal.specs.Tests.{Test, test}
 use Rattle.fields.specs.Bytes.{part}
 use Rattle.address.specs.Translation.{sectorAt}
 
@@ -33,6 +35,16 @@ recorded d p = eqb (mark d p) 1
 unfoldable pub recordedRun : Disc → ℕ → ℕ → Bool
 recordedRun d p zero = true
 recordedRun d p (suc n) = recorded d p && recordedRun d (p + 1) n
+
+-- the mark of the first of n sectors from p on that is not recorded, lowest first; 1 if all are
+unfoldable pub firstMark : Disc → ℕ → ℕ → ℕ
+firstMark d p zero = 1
+firstMark d p (suc n) = cond (recorded d p) (firstMark d (p + 1) n) (mark d p)
+
+-- lines 25 and 14 (02, slip 5, "Blank or broken"): what the mark of the first sector to be read that is not recorded is told as, 25 where it is
+-- blank and 14 where it is unreadable; 1 where all are recorded
+unfoldable pub markTests : ℕ → List Test
+markTests m = test (not (eqb m 0)) BlankSector ∷ test (eqb m 1) UnreadableSector ∷ []
 
 -- the bytes of n sectors from p on, joined
 unfoldable pub joined : Disc → ℕ → ℕ → List ℕ

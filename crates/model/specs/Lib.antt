@@ -18,4 +18,5 @@ pub mod Examples
 pub mod LivesAgain
 pub mod Consequences
 pub mod Run
+pub mod Blank
 pub mod ReadBack

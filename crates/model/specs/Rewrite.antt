@@ -4,12 +4,12 @@ use mathlib.Core.Bool.{Bool, true, false, cond, not, _&&_}
 use mathlib.Core.List.{List, [], _∷_, _++_}
 use lib.ListN.{length, take}
 use lib.Dec.{eqb, leb, ltb}
-use Rattle.refusal.specs.declared.Refusal.the-variants.{OtherKind, NoTable, CopiesDiffer, StaleRecord, NumberOutside, NotRecorded, OneTable, AlreadySpared, NoSpare, LastSequence}
+use Rattle.refusal.specs.declared.Refusal.the-variants.{OtherKind, NoTable, CopiesDiffer, StaleRecord, NumberOutside, OneTable, AlreadySpared, NoSpare, LastSequence}
 use Rattle.refusal.specs.declared.Verdict.{Verdict}
 use Rattle.refusal.specs.Tests.{Test, test, first, andThen}
 use Rattle.fields.specs.Bytes.{same, splice}
 use Rattle.model.specs.declared.Record.{Record}
-use Rattle.model.specs.Disc.{Disc, recordedRun, joined}
+use Rattle.model.specs.Disc.{Disc, recordedRun, firstMark, markTests, joined}
 use Rattle.model.specs.Writes.{Write, upward}
 use Rattle.model.specs.Sparing.{Entry, entries, flat, freeOf, counting, current, currentSequence, currentTable, agree, Spot, mappedTo, inPlace, spotOf, packetOf, locate, firstFree, resorted, writtenTable}
 use Rattle.model.specs.Examine.{Setting, writeOnce, geometry, examined, lentTable}
@@ -66,20 +66,20 @@ placeOf e d b = locate (e .start) (entriesOn e d) b
 
 -- ---- save b: the packet read, one block replaced, 32 sectors rewritten upward
 
--- the sectors of a packet from p on, each recorded or the one that is replaced, number i of them
-unfoldable pub othersRecorded : Disc → ℕ → ℕ → Bool
-othersRecorded d p i = recordedRun d p i && recordedRun d (p + i + 1) (31 - i)
+-- the sectors to be read (02, slip 5): those of a packet from p on but the one that is replaced, number i of them. The mark of the first of
+-- them that is not recorded, of those below it, and if all of those are, of those above it
+unfoldable pub otherMark : Disc → ℕ → ℕ → ℕ
+otherMark d p i = cond (recordedRun d p i) (firstMark d (p + i + 1) (31 - i)) (firstMark d p i)
 
 -- line 12: b is below L
 unfoldable pub blockTest : Setting → ℕ → Test
 blockTest e b = test (ltb b (e .span)) NumberOutside
 
--- lines 12 and 14
+-- lines 12, 25 and 14
 unfoldable pub saveBlockTests : Setting → Disc → ℕ → List Test
 saveBlockTests e d b =
     blockTest e b
-    ∷ test (othersRecorded d (placeOf e d (packetOf b)) (b % 32)) NotRecorded
-    ∷ []
+    ∷ markTests (otherMark d (placeOf e d (packetOf b)) (b % 32))
 
 -- line 3
 unfoldable pub blockLent : List ℕ → List ℕ → Bool

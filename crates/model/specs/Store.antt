@@ -6,13 +6,13 @@ use mathlib.Core.List.{List, [], _∷_, _++_, map}
 use lib.ListN.{length, getD, set, take, drop}
 use lib.Dec.{eqb, ltb}
 use Rattle.refusal.specs.declared.Refusal.{Refusal}
-use Rattle.refusal.specs.declared.Refusal.the-variants.{NumberOutside, UnusedEntry, NotRecorded}
+use Rattle.refusal.specs.declared.Refusal.the-variants.{NumberOutside, UnusedEntry, BlankSector, UnreadableSector}
 use Rattle.fields.specs.Bytes.{part}
 use Rattle.address.specs.Translation.{sectorAt}
 use Rattle.model.specs.declared.Cut.{Cut}
 use Rattle.model.specs.declared.Effect.{Effect}
 use Rattle.model.specs.declared.Landing.{Landing}
-use Rattle.model.specs.Disc.{Disc, sector, recorded}
+use Rattle.model.specs.Disc.{Disc, sector, mark, recorded}
 use Rattle.model.specs.Writes.{landing, struck, noCut}
 use Rattle.model.specs.Vat.{none, entriesOf}
 use Rattle.model.specs.VatWritten.{dataSectors}
@@ -23,11 +23,12 @@ use Rattle.model.specs.Rewrite.{placeOf}
 use Rattle.model.specs.Calls.{Call, saveVirtual, freeVirtual, commit, saveBlock, savePacket, sparePacket, openDisc}
 use Rattle.maps.specs.Kinds.{tablesOf}
 
--- a block: its bytes, unused, or unreadable (blank too)
+-- a block: its bytes, unused, unreadable, or blank (02, slip 5: "The plain store gains blank as a fourth reading")
 pub data Slot : Type 0 where
   holds : List ℕ → Slot
   unused : Slot
   unreadable : Slot
+  blank : Slot
 
 -- the blocks, and on a write-once disc a committed copy of them
 pub record Store : Type 0 where
@@ -47,7 +48,7 @@ pub record Shape : Type 0 where
 
 -- a sector as a block
 unfoldable pub slotAt : Disc → ℕ → Slot
-slotAt d p = cond (recorded d p) (holds (sector d p)) unreadable
+slotAt d p = cond (recorded d p) (holds (sector d p)) (cond (eqb (mark d p) 0) blank unreadable)
 
 -- a VAT entry as a block; the partition starts at sector s
 unfoldable pub entrySlot : Disc → ℕ → ℕ → Slot
@@ -171,11 +172,12 @@ pub data Seen : Type 0 where
   bytes : List ℕ → Seen
   turned : Refusal → Seen
 
--- its bytes, 13 where it is unused, 14 where it is unreadable
+-- its bytes, 13 where it is unused, 14 where it is unreadable, 25 where it is blank
 unfoldable pub seenAs : Slot → Seen
 seenAs (holds b) = bytes b
 seenAs unused = turned UnusedEntry
-seenAs unreadable = turned NotRecorded
+seenAs unreadable = turned UnreadableSector
+seenAs blank = turned BlankSector
 
 -- and 12 from the number of blocks upward
 unfoldable pub look : Store → ℕ → Seen

@@ -1,22 +1,22 @@
 -- Laws of reading on a write-once disc, one for each way on or out. Assumes nothing.
 use Prim.Native.Nat.{ℕ, zero, suc, _+_, _*_, _≤_, _<_}
-use mathlib.Core.Bool.{Bool, true, false, cond, not, _&&_}
+use mathlib.Core.Bool.{Bool, true, cond, _&&_}
 use mathlib.Core.Path.{_≡_, refl, sym, ap, _∙_}
 use mathlib.Core.List.{List, [], _∷_, _++_}
 use native.Mathlib.Omega.{arith}
-use borrow.Author.Tests.{eqb-true, eqb-false, leb-true, ltb-true, ne-eqb, not-true, not-false}
+use borrow.Author.Tests.{eqb-true, eqb-false, leb-true, ltb-true, ne-eqb, not-true}
 use lib.Dec.{eqb, leb}
 use lib.ListN.{length, getD, take}
 use lib.Seq.{length-take-le, getD-take}
 use Rattle.refusal.specs.declared.Refusal.{Refusal}
-use Rattle.refusal.specs.declared.Refusal.the-variants.{OtherKind, StaleRecord, NotRecorded}
+use Rattle.refusal.specs.declared.Refusal.the-variants.{OtherKind, StaleRecord}
 use Rattle.refusal.specs.declared.Verdict.{Verdict}
 use Rattle.refusal.specs.declared.Verdict.the-variants.{Go, Stop}
 use Rattle.refusal.specs.Tests.{test, first}
 use Rattle.refusal.proofs.Laws.{All, passed, stops-all, goes-all}
 use Rattle.model.specs.declared.Record.{Record}
 use Rattle.model.specs.declared.Given.{Given}
-use Rattle.model.specs.Disc.{Disc, sector, recorded, nwa}
+use Rattle.model.specs.Disc.{Disc, sector, mark, markTests, nwa}
 use Rattle.model.specs.Vat.{none, belowOrNone, allBelow}
 use Rattle.model.specs.Examine.{Setting, writeOnce, examined, lentTable}
 use Rattle.model.specs.Once.{nextOn, entriesHeld, heldFits, onceVerdict, entryTests}
@@ -24,7 +24,7 @@ use Rattle.model.specs.Rewrite.{placeOf}
 use Rattle.model.specs.Both.{readOnceTests, readLent, blockSector, entrySector, givenBy, blockBy}
 use Rattle.model.proofs.Basics.{and-true, other}
 use Rattle.model.proofs.Sectors.{shapely-made, shapely-most, inside-fits, nwa-most}
-use Rattle.model.proofs.Verdicts.{Examined, examined-tells, then-go, stop-test, next-test}
+use Rattle.model.proofs.Verdicts.{Examined, examined-tells, then-go}
 use Rattle.examine.proofs.Laws.{once-stops, once-goes}
 use Rattle.examine.proofs.Calls.{held-tells}
 use Rattle.once_open.specs.Calls.{readOnceVerdict, readingOnce, readOnceBytes}
@@ -71,7 +71,7 @@ held-entry e d t (Record.Rewritable n sequence) v h p q u = let z : v < 0 = p in
 
 module _ (e : Setting) (d : Disc) (t : List ℕ) (held : Record) (v : ℕ) (out : List ℕ) where
   -- its tests are the common ones and its own
-  own-tests : readOnceVerdict e d t held v out ≡ onceVerdict e d t (readLent t out) held (entryTests t held v ++ (test (recorded d (blockSector e d t v)) NotRecorded ∷ []))
+  own-tests : readOnceVerdict e d t held v out ≡ onceVerdict e d t (readLent t out) held (entryTests t held v ++ markTests (mark d (blockSector e d t v)))
   unfolding readOnceVerdict readOnceTests onceVerdict
   own-tests = refl
 
@@ -142,24 +142,28 @@ module _ (e : Setting) (d : Disc) (t : List ℕ) (held : Record) (v : ℕ) (out 
               let span = inside-fits d (e .start) (e .span) (told .seen .within) .1 in
               omega arith
 
-          last-test : readOnceVerdict e d t held v out ≡ first (test (recorded d (blockSector e d t v)) NotRecorded ∷ [])
+          last-test : readOnceVerdict e d t held v out ≡ first (markTests (mark d (blockSector e d t v)))
           last-test =
               own-tests
               ∙ once-goes e d t (readLent t out) held _ (common ∙ h)
-              ∙ sym (goes-all (entryTests t held v) (test (recorded d (blockSector e d t v)) NotRecorded ∷ []) _ (sym g ∙ x) refl)
+              ∙ sym (goes-all (entryTests t held v) (markTests (mark d (blockSector e d t v))) _ (sym g ∙ x) refl)
 
           place : blockSector e d t v ≡ e .start + getD t v 0
           unfolding blockSector entrySector
           place = ap (λ (b : Bool). cond b (e .start + getD t v 0) (placeOf e d v)) (told .once)
 
-          -- line 14
-          pub read-unrecorded : {y : Bool} → y ≡ recorded d (e .start + getD t v 0) → not y ≡ true → (Given.Refused NotRecorded ≡ readingOnce e d t held v out) × (out ≡ readOnceBytes e d t held v out)
-          read-unrecorded m n =
-              read-refused (last-test ∙ stop-test NotRecorded [] (ap (recorded d) place ∙ sym m ∙ not-true _ n))
+          -- y is the verdict of lines 25 and 14
+          module _ {y : Verdict} (m : y ≡ first (markTests (mark d (e .start + getD t v 0)))) where
+            marked : readOnceVerdict e d t held v out ≡ y
+            marked = last-test ∙ ap (λ (p : ℕ). first (markTests (mark d p))) place ∙ sym m
 
-          -- none of the lines, and the block is given
-          pub read-given : {y : Bool} → y ≡ recorded d (e .start + getD t v 0) → not y ≡ false → {b : List ℕ} → b ≡ sector d (e .start + getD t v 0) → (Given.Block ≡ readingOnce e d t held v out) × (b ≡ readOnceBytes e d t held v out)
-          unfolding readingOnce readOnceBytes givenBy blockBy entrySector
-          read-given m n is =
-              let all = last-test ∙ next-test NotRecorded [] (ap (recorded d) place ∙ sym m ∙ not-false _ n) in
-              (sym (ap givenBy all), is ∙ sym (ap (λ (w : Verdict). blockBy w (sector d (e .start + getD t v 0)) out) all))
+            -- lines 25 and 14
+            pub read-unrecorded : {why : Refusal} → y ≡ Stop why → (Given.Refused why ≡ readingOnce e d t held v out) × (out ≡ readOnceBytes e d t held v out)
+            read-unrecorded n = read-refused (marked ∙ n)
+
+            -- none of the lines, and the block is given
+            pub read-given : y ≡ Go → {b : List ℕ} → b ≡ sector d (e .start + getD t v 0) → (Given.Block ≡ readingOnce e d t held v out) × (b ≡ readOnceBytes e d t held v out)
+            unfolding readingOnce readOnceBytes givenBy blockBy entrySector
+            read-given n is =
+                let all = marked ∙ n in
+                (sym (ap givenBy all), is ∙ sym (ap (λ (w : Verdict). blockBy w (sector d (e .start + getD t v 0)) out) all))

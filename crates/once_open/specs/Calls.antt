@@ -48,7 +48,7 @@ pub record PassedOver (e : Setting) (d : Disc) (r : Opened) : Type 0 where
 unfoldable pub blockOf : List ℕ → Record → VirtualAddress → ToLogical
 blockOf t held v = unlessLogical (first (entryTests t held (v .0))) (entryOf t v)
 
--- ---- reading: lines 1 to 7 and 11 to 14
+-- ---- reading: lines 1 to 7, 11 to 13, 25 and 14
 
 -- why it is turned down
 unfoldable pub readOnceVerdict : Setting → Disc → List ℕ → Record → ℕ → List ℕ → Verdict

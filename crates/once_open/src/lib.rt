@@ -126,8 +126,8 @@ pub fn read_virtual(
         ToLogical::Refused(why) => Given::Refused(why),
         ToLogical::At(b) => {
             let at = address::sector_of(span.start, b);
-            if !disc_marks::is_recorded(marks, at) {
-                return Given::Refused(Refusal::NotRecorded);
+            if let Verdict::Stop(why) = disc_read::judge_sector(marks, at) {
+                return Given::Refused(why);
             }
             let from = SECTOR * at.0 as usize;
             let to = from + SECTOR;

@@ -1,11 +1,11 @@
--- The number of each refusal, its line in document 01, "Why a call is turned down"; and of a verdict.
+-- The number of each refusal, its line in document 01, "Why a call is turned down", or in document 02; and of a verdict.
 use Prim.Native.Nat.{ℕ}
 use Rattle.refusal.specs.declared.Refusal.{Refusal}
 use Rattle.refusal.specs.declared.Verdict.{Verdict}
 use Rattle.refusal.specs.declared.Verdict.the-variants.{Go, Stop}
-use Rattle.refusal.specs.declared.Refusal.the-variants.{DiscShape, SpanOutside, LentLength, MapCut, NeitherKind, Misaligned, OtherKind, NoTable, TooManyEntries, CopiesDiffer, StaleRecord, NumberOutside, UnusedEntry, NotRecorded, PassesAsIcb, NoRoom, OneTable, AlreadySpared, NoSpare, LastSequence, NotBlank}
+use Rattle.refusal.specs.declared.Refusal.the-variants.{DiscShape, SpanOutside, LentLength, MapCut, NeitherKind, Misaligned, OtherKind, NoTable, TooManyEntries, CopiesDiffer, StaleRecord, NumberOutside, UnusedEntry, BlankSector, UnreadableSector, PassesAsIcb, NoRoom, OneTable, AlreadySpared, NoSpare, LastSequence, NotBlank}
 
--- the line of 01 by which a call is turned down
+-- the line by which a call is turned down
 abbrev pub numberOf : Refusal → ℕ
 numberOf DiscShape = 1
 numberOf SpanOutside = 2
@@ -20,7 +20,8 @@ numberOf CopiesDiffer = 10
 numberOf StaleRecord = 11
 numberOf NumberOutside = 12
 numberOf UnusedEntry = 13
-numberOf NotRecorded = 14
+numberOf BlankSector = 25
+numberOf UnreadableSector = 14
 numberOf PassesAsIcb = 15
 numberOf NoRoom = 16
 numberOf OneTable = 17

@@ -1,9 +1,10 @@
 // Why a call is turned down: a name for each line of document 01, section "Why a call is turned
-// down", and the line's number. Nothing else in the project writes a refusal's number.
+// down", and of document 02, and the line's number. Nothing else in the project writes a refusal's number.
 ghost use mathlib.Core.Path.{_≡_};
 ghost use Rattle.refusal.specs.Number.{numberOf};
 
-// A variant for each line, in checking order.
+// A variant for each line, in checking order. That is not the order of the numbers: those of document 02 stand where it
+// places them, 25 directly before 14.
 pub enum Refusal {
     // Disc bytes are not 2,048 times the marks, sectors exceed the limit or are none, or a mark exceeds 2.
     DiscShape,
@@ -31,8 +32,10 @@ pub enum Refusal {
     NumberOutside,
     // The entry to be read or freed is unused.
     UnusedEntry,
-    // A sector to be read is not recorded.
-    NotRecorded,
+    // The first sector to be read that is not recorded is blank (document 02, slip 5).
+    BlankSector,
+    // The first sector to be read that is not recorded is unreadable.
+    UnreadableSector,
     // The block would pass as a VAT ICB at NWA.
     PassesAsIcb,
     // The partition has no room left for the call and the commit after it.
@@ -73,7 +76,8 @@ pub fn number(r: Refusal) -> u32
         Refusal::StaleRecord => 11,
         Refusal::NumberOutside => 12,
         Refusal::UnusedEntry => 13,
-        Refusal::NotRecorded => 14,
+        Refusal::BlankSector => 25,
+        Refusal::UnreadableSector => 14,
         Refusal::PassesAsIcb => 15,
         Refusal::NoRoom => 16,
         Refusal::OneTable => 17,

@@ -1,20 +1,20 @@
 -- Laws of reading on a rewritable disc, one for each way on or out. Assumes nothing.
 use Prim.Native.Nat.{ℕ, _+_, _%_, _≤_, _<_}
-use mathlib.Core.Bool.{Bool, true, false, not, _&&_}
+use mathlib.Core.Bool.{Bool, _&&_}
 use mathlib.Core.Path.{_≡_, sym, ap, _∙_}
 use mathlib.Core.List.{List, [], _∷_}
 use native.Mathlib.Omega.{arith}
-use borrow.Author.Tests.{eqb-true, lt-ltb, le-ltb, not-true, not-false}
+use borrow.Author.Tests.{eqb-true, lt-ltb, le-ltb}
 use lib.Dec.{eqb}
 use lib.ListN.{length}
 use Rattle.refusal.specs.declared.Refusal.{Refusal}
-use Rattle.refusal.specs.declared.Refusal.the-variants.{NumberOutside, NotRecorded}
+use Rattle.refusal.specs.declared.Refusal.the-variants.{NumberOutside}
 use Rattle.refusal.specs.declared.Verdict.{Verdict}
 use Rattle.refusal.specs.declared.Verdict.the-variants.{Go, Stop}
-use Rattle.refusal.specs.Tests.{test, first}
+use Rattle.refusal.specs.Tests.{first}
 use Rattle.model.specs.declared.Record.{Record}
 use Rattle.model.specs.declared.Given.{Given}
-use Rattle.model.specs.Disc.{Disc, sector, recorded}
+use Rattle.model.specs.Disc.{Disc, sector, mark, markTests}
 use Rattle.model.specs.Sparing.{packetOf, locate}
 use Rattle.model.specs.Examine.{Setting, geometry, lentTable}
 use Rattle.model.specs.Rewrite.{entriesOn, rewritableVerdict, placeOf, blockTest}
@@ -73,28 +73,32 @@ module _ (e : Setting) (d : Disc) (t : List ℕ) (held : Record) (b : ℕ) (out 
       unfolding readLent
       read-room = eqb-true (length out) 2048 (and-true (lentTable t) _ (read-told .lengths) .1)
 
-      own : readBlockVerdict e d t held b out ≡ first (blockTest e b ∷ test (recorded d (placeOf e d b)) NotRecorded ∷ [])
+      own : readBlockVerdict e d t held b out ≡ first (blockTest e b ∷ markTests (mark d (placeOf e d b)))
       unfolding readBlockVerdict
       own = rewritable-goes e d t (readLent t out) held _ (common ∙ h)
 
       -- line 12
       pub read-outside : e .span ≤ b → (Given.Refused NumberOutside ≡ readingBlock e d t held b out) × (out ≡ readBlockBytes e d t held b out)
       unfolding blockTest
-      read-outside x = read-refused (own ∙ stop-test NumberOutside (test (recorded d (placeOf e d b)) NotRecorded ∷ []) (le-ltb b (e .span) x))
+      read-outside x = read-refused (own ∙ stop-test NumberOutside (markTests (mark d (placeOf e d b))) (le-ltb b (e .span) x))
 
-      -- p is the sector of the block
-      module _ (x : b < e .span) {p : ℕ} (at : p ≡ placeOf e d b) where
-        last : readBlockVerdict e d t held b out ≡ first (test (recorded d (placeOf e d b)) NotRecorded ∷ [])
+      -- p is the sector of the block, and y the verdict of lines 25 and 14 on it
+      module _ (x : b < e .span) {p : ℕ} (at : p ≡ placeOf e d b) {y : Verdict} (m : y ≡ first (markTests (mark d p))) where
+        marked : readBlockVerdict e d t held b out ≡ y
         unfolding blockTest
-        last = own ∙ next-test NumberOutside (test (recorded d (placeOf e d b)) NotRecorded ∷ []) (lt-ltb b (e .span) x)
+        marked =
+            own
+            ∙ next-test NumberOutside (markTests (mark d (placeOf e d b))) (lt-ltb b (e .span) x)
+            ∙ ap (λ (q : ℕ). first (markTests (mark d q))) (sym at)
+            ∙ sym m
 
-        -- line 14
-        pub read-unrecorded : {y : Bool} → y ≡ recorded d p → not y ≡ true → (Given.Refused NotRecorded ≡ readingBlock e d t held b out) × (out ≡ readBlockBytes e d t held b out)
-        read-unrecorded m n = read-refused (last ∙ stop-test NotRecorded [] (ap (recorded d) (sym at) ∙ sym m ∙ not-true _ n))
+        -- lines 25 and 14
+        pub read-unrecorded : {why : Refusal} → y ≡ Stop why → (Given.Refused why ≡ readingBlock e d t held b out) × (out ≡ readBlockBytes e d t held b out)
+        read-unrecorded n = read-refused (marked ∙ n)
 
         -- none of the lines, and the block is given
-        pub read-given : {y : Bool} → y ≡ recorded d p → not y ≡ false → {u : List ℕ} → u ≡ sector d p → (Given.Block ≡ readingBlock e d t held b out) × (u ≡ readBlockBytes e d t held b out)
+        pub read-given : y ≡ Go → {u : List ℕ} → u ≡ sector d p → (Given.Block ≡ readingBlock e d t held b out) × (u ≡ readBlockBytes e d t held b out)
         unfolding readingBlock readBlockBytes givenBy blockBy
-        read-given m n is =
-            let all = last ∙ next-test NotRecorded [] (ap (recorded d) (sym at) ∙ sym m ∙ not-false _ n) in
+        read-given n is =
+            let all = marked ∙ n in
             (sym (ap givenBy all), is ∙ ap (sector d) at ∙ sym (ap (λ (v : Verdict). blockBy v (sector d (placeOf e d b)) out) all))

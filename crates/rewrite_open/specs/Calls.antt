@@ -1,13 +1,11 @@
 -- Opening and reading on a rewritable disc alone: as the calls of both kinds (model, Both.antt), with line 7 for a write-once list.
 use Prim.Native.Nat.{ℕ}
-use mathlib.Core.List.{List, [], _∷_}
-use Rattle.refusal.specs.declared.Refusal.the-variants.{NotRecorded}
+use mathlib.Core.List.{List, _∷_}
 use Rattle.refusal.specs.declared.Verdict.{Verdict}
-use Rattle.refusal.specs.Tests.{test}
 use Rattle.model.specs.declared.Record.{Record}
 use Rattle.model.specs.declared.Opened.{Opened}
 use Rattle.model.specs.declared.Given.{Given}
-use Rattle.model.specs.Disc.{Disc, sector, recorded}
+use Rattle.model.specs.Disc.{Disc, sector, mark, markTests}
 use Rattle.model.specs.Examine.{Setting, lentTable}
 use Rattle.model.specs.Rewrite.{tableOn, currentRecord, rewritableVerdict, placeOf, blockTest}
 use Rattle.sparing_current.specs.Looked.{lookVerdict}
@@ -23,12 +21,12 @@ openingRewritable e d t = openedBy (lookVerdict e d (lentTable t)) (currentRecor
 unfoldable pub openedRewritable : Setting → Disc → List ℕ → List ℕ
 openedRewritable e d t = filledBy (lookVerdict e d (lentTable t)) (tableOn e d) t
 
--- ---- reading: lines 1 to 8, 10 to 12 and 14
+-- ---- reading: lines 1 to 8, 10 to 12, 25 and 14
 
 -- why it is turned down
 unfoldable pub readBlockVerdict : Setting → Disc → List ℕ → Record → ℕ → List ℕ → Verdict
 readBlockVerdict e d t held b out =
-    rewritableVerdict e d t (readLent t out) held (blockTest e b ∷ test (recorded d (placeOf e d b)) NotRecorded ∷ [])
+    rewritableVerdict e d t (readLent t out) held (blockTest e b ∷ markTests (mark d (placeOf e d b)))
 
 -- what it answers
 unfoldable pub readingBlock : Setting → Disc → List ℕ → Record → ℕ → List ℕ → Given

@@ -78,8 +78,8 @@ pub fn read_block(
     }
     let first = sparing_current::packet_place(table, held, span.start, b);
     let at = address::up_from(first, b.0 % PACKET);
-    if !disc_marks::is_recorded(marks, at) {
-        return Given::Refused(Refusal::NotRecorded);
+    if let Verdict::Stop(why) = disc_read::judge_sector(marks, at) {
+        return Given::Refused(why);
     }
     let from = SECTOR * at.0 as usize;
     let to = from + SECTOR;

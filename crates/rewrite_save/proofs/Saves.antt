@@ -1,26 +1,28 @@
 -- Laws of a save of a block and of a packet: its lent lengths, its own lines, and what it may rely on once nothing stops it. Assumes nothing.
 use Prim.Native.Nat.{ℕ, _+_, _-_, _*_, _%_, _≤_, _<_}
-use mathlib.Core.Bool.{Bool, true, false, not, _&&_}
+use mathlib.Core.Bool.{Bool, true, _&&_}
 use mathlib.Core.Path.{_≡_, refl, sym, ap, _∙_}
 use mathlib.Core.List.{List}
 use native.Mathlib.Omega.{arith}
-use borrow.Author.Tests.{ltb-true, leb-true, eqb-true, eq-eqb, ne-eqb, lt-ltb, le-ltb, not-true, not-false}
+use borrow.Author.Tests.{ltb-true, leb-true, eqb-true, eq-eqb, ne-eqb, lt-ltb, le-ltb}
 use lib.ListN.{length}
 use lib.Dec.{eqb, ltb}
-use Rattle.refusal.specs.declared.Refusal.the-variants.{NumberOutside, NotRecorded}
+use Rattle.refusal.specs.declared.Refusal.{Refusal}
+use Rattle.refusal.specs.declared.Refusal.the-variants.{NumberOutside}
 use Rattle.refusal.specs.declared.Verdict.{Verdict}
 use Rattle.refusal.specs.declared.Verdict.the-variants.{Go, Stop}
 use Rattle.refusal.specs.Tests.{first}
 use Rattle.refusal.proofs.Laws.{goes, stops, passed}
 use Rattle.model.specs.declared.Cut.{Cut}
 use Rattle.model.specs.declared.Record.{Record}
-use Rattle.model.specs.Disc.{Disc, recordedRun}
+use Rattle.model.specs.Disc.{Disc, firstMark, markTests}
 use Rattle.model.specs.Writes.{writes, upward, struck}
 use Rattle.model.specs.Sparing.{packetOf}
 use Rattle.model.specs.Examine.{Setting, lentTable}
-use Rattle.model.specs.Rewrite.{rewritableVerdict, placeOf, othersRecorded, blockTest, saveBlockTests, blockLent, packetWrites, replaced, saveBlockPlan, packetTests, packetLent, savePacketPlan}
+use Rattle.model.specs.Rewrite.{rewritableVerdict, placeOf, otherMark, blockTest, saveBlockTests, blockLent, packetWrites, replaced, saveBlockPlan, packetTests, packetLent, savePacketPlan}
 use Rattle.model.specs.Plan.{carry}
 use Rattle.model.proofs.Basics.{and-true, and-false, and-false-left, both}
+use Rattle.model.proofs.Marks.{others-below, others-above}
 use Rattle.model.proofs.Verdicts.{unless-go}
 use Rattle.model.proofs.SectorsRuns.{length-upward}
 use Rattle.model.proofs.SparingLaws.{packet-own}
@@ -54,7 +56,7 @@ pub packet-bytes : (t packet : List ℕ) → packetLent t packet ≡ true → le
 unfolding packetLent
 packet-bytes t packet h = eqb-true (length packet) 65536 (and-true (lentTable t) (eqb (length packet) 65536) h .1)
 
--- ---- lines 12 and 14 of a block
+-- ---- lines 12, 25 and 14 of a block
 
 module _ (e : Setting) (d : Disc) (b : ℕ) where
   -- there is no block b
@@ -62,39 +64,26 @@ module _ (e : Setting) (d : Disc) (b : ℕ) where
   unfolding saveBlockTests blockTest
   block-outside h = stops _ (le-ltb b (e .span) h)
 
-  -- there is one, its packet is at p, and x tells whether the sectors before it are recorded
-  module _ (low : b < e .span) {p : ℕ} (at : p ≡ placeOf e d (packetOf b)) {x : Bool} (below : x ≡ recordedRun d p (b % 32)) where
-    -- whether they are at its packet's place
-    before-it : recordedRun d (placeOf e d (packetOf b)) (b % 32) ≡ x
-    before-it = sym (below ∙ ap (λ (q : ℕ). recordedRun d q (b % 32)) at)
+  -- there is one, its packet is at p, and x is the verdict on the sectors before it
+  module _ (low : b < e .span) {p : ℕ} (at : p ≡ placeOf e d (packetOf b)) {x : Verdict} (below : x ≡ first (markTests (firstMark d p (b % 32)))) where
+    -- the lines of all others
+    others : first (markTests (otherMark d p (b % 32))) ≡ first (saveBlockTests e d b)
+    unfolding saveBlockTests blockTest
+    others = goes _ (lt-ltb b (e .span) low) (ap (λ (q : ℕ). first (markTests (otherMark d q (b % 32)))) at)
 
-    -- one before it is not
-    pub block-before : not x ≡ true → Stop NotRecorded ≡ first (saveBlockTests e d b)
-    unfolding saveBlockTests blockTest othersRecorded
-    block-before h =
-        goes _ (lt-ltb b (e .span) low)
-        (stops _ (and-false-left _ (before-it ∙ not-true x h)))
+    -- one before it is not recorded
+    pub block-before : {why : Refusal} → x ≡ Stop why → Stop why ≡ first (saveBlockTests e d b)
+    block-before h = sym h ∙ below ∙ sym (others-below d p (b % 32) (sym below ∙ h)) ∙ others
 
-    -- y tells whether those after it are
-    module _ (all : not x ≡ false) {q : ℕ} (behind : q ≡ p + (b % 32 + 1)) {y : Bool} (above : y ≡ recordedRun d q (31 - b % 32)) where
-      after-it : recordedRun d (placeOf e d (packetOf b) + b % 32 + 1) (31 - b % 32) ≡ y
-      after-it =
-          let k : q ≡ placeOf e d (packetOf b) + b % 32 + 1 = omega (arith, behind, at) in
-          sym (above ∙ ap (λ (r : ℕ). recordedRun d r (31 - b % 32)) k)
-
-      -- one after it is not
-      pub block-after : not y ≡ true → Stop NotRecorded ≡ first (saveBlockTests e d b)
-      unfolding saveBlockTests blockTest othersRecorded
-      block-after h =
-          goes _ (lt-ltb b (e .span) low)
-          (stops _ (and-false (recordedRun d (placeOf e d (packetOf b)) (b % 32)) (after-it ∙ not-true y h)))
-
-      -- all others are
-      pub block-whole : not y ≡ false → Go ≡ first (saveBlockTests e d b)
-      unfolding saveBlockTests blockTest othersRecorded
-      block-whole h =
-          goes _ (lt-ltb b (e .span) low)
-          (goes _ (both (before-it ∙ not-false x all) (after-it ∙ not-false y h)) refl)
+    -- all those are, and y is the verdict on the sectors after it
+    module _ (all : x ≡ Go) {q : ℕ} (behind : q ≡ p + (b % 32 + 1)) {y : Verdict} (above : y ≡ first (markTests (firstMark d q (31 - b % 32)))) where
+      pub block-after : y ≡ first (saveBlockTests e d b)
+      block-after =
+          let k : q ≡ p + b % 32 + 1 = omega (arith, behind) in
+          above
+          ∙ ap (λ (r : ℕ). first (markTests (firstMark d r (31 - b % 32)))) k
+          ∙ sym (others-above d p (b % 32) (sym below ∙ all))
+          ∙ others
 
 -- ---- what a save of a block may rely on
 

@@ -62,12 +62,12 @@ fn judge_block(
     }
     let first = sparing_current::packet_place(table, held, span.start, b);
     let i = b.0 % PACKET;
-    if !disc_marks::all_recorded(marks, first, i as usize) {
-        return stopped(Refusal::NotRecorded);
+    if let Verdict::Stop(why) = disc_read::judge_run(marks, first, i as usize) {
+        return stopped(why);
     }
     let after = address::up_from(first, i + 1);
-    if !disc_marks::all_recorded(marks, after, (31 - i) as usize) {
-        return stopped(Refusal::NotRecorded);
+    if let Verdict::Stop(why) = disc_read::judge_run(marks, after, (31 - i) as usize) {
+        return stopped(why);
     }
     Placed {
         verdict: Verdict::Go,

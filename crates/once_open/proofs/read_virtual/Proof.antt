@@ -1,12 +1,12 @@
 -- `once_open::read_virtual` meets its contract: each return by the law of its line. Assumes nothing.
-use Prim.Native.Nat.{_+_, _-_, _*_, _≤_, _<_}
+use Prim.Native.Nat.{ℕ, _+_, _-_, _*_, _≤_, _<_}
 use mathlib.Core.Path.{_≡_, refl, sym, ap, ap₂, _∙_}
 use native.Mathlib.Omega.{arith}
 use borrow.Author.Needs.{needs}
 use lib.ListN.{length, getD}
 use Rattle.refusal.specs.declared.Verdict.the-variants.{Go}
 use Rattle.refusal.specs.Tests.{first}
-use Rattle.model.specs.Disc.{disc, Disc, sector, recorded}
+use Rattle.model.specs.Disc.{disc, Disc, sector, mark, markTests}
 use Rattle.model.specs.Examine.{setting, Setting}
 use Rattle.model.specs.Once.{entryTests}
 use Rattle.model.proofs.Basics.{and-true}
@@ -92,27 +92,33 @@ sector-of-requires c κs =
     let p = placed c in
     omega (arith, p .place, p .most, found c .1, c .before .before .before .before .before .before .before .judge-once .ensures .start (c .before .before .before .before .before .enum-told .given .1))
 
-is-recorded-requires : tie.Need-is-recorded-requires
-is-recorded-requires c κs = omega (arith, placed (c .before) .place, sited c)
+judge-sector-requires : tie.Need-judge-sector-requires
+judge-sector-requires c κs = omega (arith, placed (c .before) .place, sited c)
+
+enum-known-why : tie.Need-enum-known-why
+enum-known-why c = search needs
 
 same-length-2 : tie.Need-same-length-2
 same-length-2 c = search needs
 
 returns-2 : tie.Need-returns-2
 returns-2 c =
-    let z = c .before .before .before .before .before .before .before .before .before .before .before .before .before .before .before .before .before .before in
-    read-unrecorded (settingOf z) (discOf z) _ _ _ _ (c .before .before .before .before .before .before .before .before .before .before .before .are-lent .ensures) (c .before .before .before .before .before .before .before .before .before .before .judge-once .ensures .verdict) (c .before .before .before .before .before .before .before .before .enum-told .given .1) refl (found (c .before .before .before) .0)
-    (c .before .is-recorded .ensures _ ∙ ap (recorded (discOf z)) (sited (c .before .before)))
-    (c .if1 .taken)
+    let z = c .before .before .before .before .before .before .before .before .before .before .before .before .before .before .before .before .before .before .before .before in
+    read-unrecorded (settingOf z) (discOf z) _ _ _ _ (c .before .before .before .before .before .before .before .before .before .before .before .before .before .are-lent .ensures) (c .before .before .before .before .before .before .before .before .before .before .before .before .judge-once .ensures .verdict) (c .before .before .before .before .before .before .before .before .before .before .enum-told .given .1) refl (found (c .before .before .before .before .before) .0)
+    (c .before .before .before .judge-sector .ensures _ ∙ ap (λ (p : ℕ). first (markTests (mark (discOf z) p))) (sited (c .before .before .before .before)))
+    (c .before .why .given .1)
+
+enum-told-2 : tie.Need-enum-told-2
+enum-told-2 c = search needs
 
 cast-from : tie.Need-cast-from
 cast-from c = search needs
 
 mul-from : tie.Need-mul-from
-mul-from c = let p = placed (c .before .before .before .before) in omega (arith, p .place, p .most, sited (c .before .before .before))
+mul-from c = let p = placed (c .before .before .before .before .before) in omega (arith, p .place, p .most, sited (c .before .before .before .before))
 
 add-to : tie.Need-add-to
-add-to c = let p = placed (c .before .before .before .before) in omega (arith, p .place, p .most, sited (c .before .before .before))
+add-to c = let p = placed (c .before .before .before .before .before) in omega (arith, p .place, p .most, sited (c .before .before .before .before))
 
 sub-copy : tie.Need-sub-copy
 sub-copy c = search needs
@@ -121,13 +127,13 @@ part-copy-start : tie.Need-part-copy-start
 part-copy-start c = search needs
 
 part-copy-end : tie.Need-part-copy-end
-part-copy-end c = let p = placed (c .before .before .before .before) in omega (arith, p .place, p .made, sited (c .before .before .before))
+part-copy-end c = let p = placed (c .before .before .before .before .before) in omega (arith, p .place, p .made, sited (c .before .before .before .before))
 
 copy-requires : tie.Need-copy-requires
 copy-requires c κs =
-    let z = c .before .before .before .before .before .before .before .before .before .before .before .before .before .before .before .before .before .before .before .before .before in
-    let p = placed (c .before .before .before .before .before .before) in
-    part-room (z .args .disc .now) (2048 * c .before .before .before .before .before .sector-of .result .0) (z .args .out .now) (omega (arith, p .place, p .made, sited (c .before .before .before .before .before))) (p .room)
+    let z = c .before .before .before .before .before .before .before .before .before .before .before .before .before .before .before .before .before .before .before .before .before .before in
+    let p = placed (c .before .before .before .before .before .before .before) in
+    part-room (z .args .disc .now) (2048 * c .before .before .before .before .before .before .sector-of .result .0) (z .args .out .now) (omega (arith, p .place, p .made, sited (c .before .before .before .before .before .before))) (p .room)
 
 same-length-3 : tie.Need-same-length-3
 same-length-3 c = search needs
@@ -143,13 +149,13 @@ same-length-4 c = search needs
 returns-4 : tie.Need-returns-4
 unfolding sector
 returns-4 c =
-    let z = c .before .before .before .before .before .before .before .before .before .before .before .before .before .before .before .before .before .before .before .before .before .before .before .before in
-    let p = placed (c .before .before .before .before .before .before .before .before .before) in
-    let k = 2048 * c .before .before .before .before .before .before .before .before .sector-of .result .0 in
-    read-given (settingOf z) (discOf z) _ _ _ _ (c .before .before .before .before .before .before .before .before .before .before .before .before .before .before .before .before .before .are-lent .ensures) (c .before .before .before .before .before .before .before .before .before .before .before .before .before .before .before .before .judge-once .ensures .verdict) (c .before .before .before .before .before .before .before .before .before .before .before .before .before .before .enum-told .given .1) refl (found (c .before .before .before .before .before .before .before .before .before) .0)
-    (c .before .before .before .before .before .before .before .is-recorded .ensures _ ∙ ap (recorded (discOf z)) (sited (c .before .before .before .before .before .before .before .before)))
-    (c .before .before .before .before .before .before .if1 .left)
-    (copied-part (z .args .disc .now) _ _ k (k + 2048 - k) 2048 (omega arith) (omega (arith, p .place, p .made, sited (c .before .before .before .before .before .before .before .before))) (p .room) (c .before .before .copy .ensures .1) ∙ ap (sector (discOf z)) (sited (c .before .before .before .before .before .before .before .before)))
+    let z = c .before .before .before .before .before .before .before .before .before .before .before .before .before .before .before .before .before .before .before .before .before .before .before .before .before in
+    let p = placed (c .before .before .before .before .before .before .before .before .before .before) in
+    let k = 2048 * c .before .before .before .before .before .before .before .before .before .sector-of .result .0 in
+    read-given (settingOf z) (discOf z) _ _ _ _ (c .before .before .before .before .before .before .before .before .before .before .before .before .before .before .before .before .before .before .are-lent .ensures) (c .before .before .before .before .before .before .before .before .before .before .before .before .before .before .before .before .before .judge-once .ensures .verdict) (c .before .before .before .before .before .before .before .before .before .before .before .before .before .before .before .enum-told .given .1) refl (found (c .before .before .before .before .before .before .before .before .before .before) .0)
+    (c .before .before .before .before .before .before .before .before .judge-sector .ensures _ ∙ ap (λ (p : ℕ). first (markTests (mark (discOf z) p))) (sited (c .before .before .before .before .before .before .before .before .before)))
+    (c .before .before .before .before .before .before .enum-told2 .given .1)
+    (copied-part (z .args .disc .now) _ _ k (k + 2048 - k) 2048 (omega arith) (omega (arith, p .place, p .made, sited (c .before .before .before .before .before .before .before .before .before))) (p .room) (c .before .before .copy .ensures .1) ∙ ap (sector (discOf z)) (sited (c .before .before .before .before .before .before .before .before .before)))
 
 pub read-virtual-spec : {M : Type 1} → statement M
 read-virtual-spec =
@@ -165,9 +171,11 @@ read-virtual-spec =
     enum-known-found
     enum-known-found-2
     sector-of-requires
-    is-recorded-requires
+    judge-sector-requires
+    enum-known-why
     same-length-2
     returns-2
+    enum-told-2
     cast-from
     mul-from
     add-to

@@ -116,20 +116,26 @@ packet-place-requires c κs =
 up-from-requires : tie.Need-up-from-requires
 up-from-requires c κs = let p = placed (c .before) in omega (arith, p .on, p .most)
 
-is-recorded-requires : tie.Need-is-recorded-requires
-is-recorded-requires c κs = found c .on
+judge-sector-requires : tie.Need-judge-sector-requires
+judge-sector-requires c κs = found c .on
+
+enum-known-why : tie.Need-enum-known-why
+enum-known-why c = search needs
 
 same-length-3 : tie.Need-same-length-3
 same-length-3 c = search needs
 
 returns-3 : tie.Need-returns-3
 returns-3 c =
-    let p = c .before .before .before .before in
-    let f = found (c .before .before) in
+    let p = c .before .before .before .before .before .before in
+    let f = found (c .before .before .before .before) in
     let z = p .before .before .before .before .before .before .before .before .before .before .before .before .before .before .before in
     read-unrecorded (settingOf z) (discOf z) (z .args .table .now) (z .args .held) (z .args .b) (z .args .out .now) (p .before .before .before .before .before .before .before .before .are-lent .ensures) (p .before .before .before .before .before .before .before .judge .ensures .verdict) (p .before .before .before .before .before .enum-told .given .1) (within (p .before)) (f .is)
-    (c .before .is-recorded .ensures _)
-    (c .if2 .taken)
+    (c .before .before .before .judge-sector .ensures _)
+    (c .before .why .given .1)
+
+enum-told-2 : tie.Need-enum-told-2
+enum-told-2 c = search needs
 
 cast-from : tie.Need-cast-from
 cast-from c = search needs
@@ -148,16 +154,16 @@ part-copy-start c = search needs
 
 part-copy-end : tie.Need-part-copy-end
 part-copy-end c =
-    let p = found (c .before .before .before) in
+    let p = found (c .before .before .before .before) in
     let on = p .on in
     let made = p .made in
     omega arith
 
 copy-requires : tie.Need-copy-requires
 copy-requires c κs =
-    let b = c .before .before .before .before .before .before .before in
+    let b = c .before .before .before .before .before .before .before .before in
     let z = b .before .before .before .before .before .before .before .before .before .before .before .before .before .before .before in
-    let u = c .before .before .before .before .before in
+    let u = c .before .before .before .before .before .before in
     let p = found u in
     let on = p .on in
     let made = p .made in
@@ -169,16 +175,16 @@ same-length-4 c = search needs
 returns-4 : tie.Need-returns-4
 unfolding sector
 returns-4 c =
-    let b = c .before .before .before .before .before .before .before .before .before .before in
+    let b = c .before .before .before .before .before .before .before .before .before .before .before in
     let z = b .before .before .before .before .before .before .before .before .before .before .before .before .before .before .before in
-    let u = c .before .before .before .before .before .before .before .before in
+    let u = c .before .before .before .before .before .before .before .before .before in
     let p = found u in
     let on = p .on in
     let made = p .made in
     let k = 2048 * u .up-from .result .0 in
     read-given (settingOf z) (discOf z) (z .args .table .now) (z .args .held) (z .args .b) (z .args .out .now) (b .before .before .before .before .before .before .before .before .are-lent .ensures) (b .before .before .before .before .before .before .before .judge .ensures .verdict) (b .before .before .before .before .before .enum-told .given .1) (within (b .before)) (p .is)
-    (c .before .before .before .before .before .before .before .is-recorded .ensures _)
-    (c .before .before .before .before .before .before .if2 .left)
+    (c .before .before .before .before .before .before .before .before .judge-sector .ensures _)
+    (c .before .before .before .before .before .before .enum-told2 .given .1)
     (copied-part (z .args .disc .now) _ _ k (k + 2048 - k) 2048 (omega arith) (omega arith) (p .room) (c .before .before .copy .ensures .1))
 
 pub read-block-spec : {M : Type 1} → statement M
@@ -195,9 +201,11 @@ read-block-spec =
     returns-2
     packet-place-requires
     up-from-requires
-    is-recorded-requires
+    judge-sector-requires
+    enum-known-why
     same-length-3
     returns-3
+    enum-told-2
     cast-from
     mul-from
     add-to

@@ -1,6 +1,6 @@
 -- `rewrite_save::judge_block` meets its contract: each return by the law of its line. Assumes nothing.
 use Prim.Native.Nat.{_+_, _≤_, _<_}
-use mathlib.Core.Path.{_≡_, _∙_}
+use mathlib.Core.Path.{_≡_, sym, _∙_}
 use native.Mathlib.Omega.{arith}
 use borrow.Author.Needs.{needs}
 use lib.ListN.{length}
@@ -12,7 +12,7 @@ use Rattle.sparing_current.proofs.Laws.{Common, going}
 use Rattle.sparing_current.proofs.Held.{room-held, place-on, sum-small}
 use Rattle.sparing_current.proofs.Judging.{span-start, span-length}
 use Rattle.rewrite_save.proofs.Laws.{stops-call, goes-call, placed-stop, place-laid}
-use Rattle.rewrite_save.proofs.Saves.{block-lent, table-lent, block-outside, block-before, block-after, block-whole}
+use Rattle.rewrite_save.proofs.Saves.{block-lent, table-lent, block-outside, block-before, block-after}
 use Rattle.rewrite_save.proofs.judge_block.Statement.{statement}
 use Rattle.rewrite_save.proofs.judge_block.Tie as tie
 
@@ -97,55 +97,67 @@ packet-place-requires c κs =
       omega (arith, spanned k .0, sum-small (settingOf z) (discOf z) (z .args .table .now) _ (z .args .held) h (z .args .b .0) (within c)),
     )
 
-cast-all-recorded : tie.Need-cast-all-recorded
-cast-all-recorded c = search needs
+cast-judge-run : tie.Need-cast-judge-run
+cast-judge-run c = search needs
 
-all-recorded-requires : tie.Need-all-recorded-requires
-all-recorded-requires c κs = omega (arith, on (c .before))
+judge-run-requires : tie.Need-judge-run-requires
+judge-run-requires c κs = omega (arith, on (c .before))
+
+enum-known-why : tie.Need-enum-known-why
+enum-known-why c = search needs
 
 stopped-requires-3 : tie.Need-stopped-requires-3
 stopped-requires-3 c κs = search needs
 
 returns-3 : tie.Need-returns-3
 returns-3 c =
-    let z = c .before .before .before .before .before .before .before .before .before .before .before .before .before .before .before .before .before .before in
+    let z = c .before .before .before .before .before .before .before .before .before .before .before .before .before .before .before .before .before .before .before .before in
     placed-stop _ (c .stopped3 .ensures)
-    (goes-call (settingOf z) (discOf z) (z .args .table .now) _ (z .args .held) _ (block-lent _ (z .args .block .now) (c .before .before .before .before .before .before .before .before .before .before .before .before .are-lent .ensures)) (c .before .before .before .before .before .before .before .before .before .before .before .judge .ensures .verdict) (c .before .before .before .before .before .before .before .before .before .enum-told .given .1)
-    (block-before (settingOf z) (discOf z) (z .args .b .0) (within (c .before .before .before .before .before)) (at (c .before .before .before .before)) (c .before .before .all-recorded .ensures (z .args .disc .now)) (c .before .if2 .taken)))
+    (goes-call (settingOf z) (discOf z) (z .args .table .now) _ (z .args .held) _ (block-lent _ (z .args .block .now) (c .before .before .before .before .before .before .before .before .before .before .before .before .before .before .are-lent .ensures)) (c .before .before .before .before .before .before .before .before .before .before .before .before .before .judge .ensures .verdict) (c .before .before .before .before .before .before .before .before .before .before .before .enum-told .given .1)
+    (block-before (settingOf z) (discOf z) (z .args .b .0) (within (c .before .before .before .before .before .before .before)) (at (c .before .before .before .before .before .before)) (c .before .before .before .before .judge-run .ensures (z .args .disc .now)) (c .before .before .why .given .1)))
+
+enum-told-2 : tie.Need-enum-told-2
+enum-told-2 c = search needs
 
 add-up-from : tie.Need-add-up-from
 add-up-from c = search needs
 
 up-from-requires : tie.Need-up-from-requires
-up-from-requires c κs = omega (arith, on (c .before .before .before), told (c .before .before .before .before .before .before .before .before) .few)
+up-from-requires c κs = omega (arith, on (c .before .before .before .before), told (c .before .before .before .before .before .before .before .before .before) .few)
 
-sub-all-recorded : tie.Need-sub-all-recorded
-sub-all-recorded c = search needs
+sub-judge-run : tie.Need-sub-judge-run
+sub-judge-run c = search needs
 
-cast-all-recorded-2 : tie.Need-cast-all-recorded-2
-cast-all-recorded-2 c = search needs
+cast-judge-run-2 : tie.Need-cast-judge-run-2
+cast-judge-run-2 c = search needs
 
-all-recorded-requires-2 : tie.Need-all-recorded-requires-2
-all-recorded-requires-2 c κs = omega (arith, on (c .before .before .before .before), c .up-from .ensures)
+judge-run-requires-2 : tie.Need-judge-run-requires-2
+judge-run-requires-2 c κs = omega (arith, on (c .before .before .before .before .before), c .up-from .ensures)
+
+enum-known-why-2 : tie.Need-enum-known-why-2
+enum-known-why-2 c = search needs
 
 stopped-requires-4 : tie.Need-stopped-requires-4
 stopped-requires-4 c κs = search needs
 
 returns-4 : tie.Need-returns-4
 returns-4 c =
-    let z = c .before .before .before .before .before .before .before .before .before .before .before .before .before .before .before .before .before .before .before .before .before in
+    let z = c .before .before .before .before .before .before .before .before .before .before .before .before .before .before .before .before .before .before .before .before .before .before .before .before in
     placed-stop _ (c .stopped4 .ensures)
-    (goes-call (settingOf z) (discOf z) (z .args .table .now) _ (z .args .held) _ (block-lent _ (z .args .block .now) (c .before .before .before .before .before .before .before .before .before .before .before .before .before .before .before .are-lent .ensures)) (c .before .before .before .before .before .before .before .before .before .before .before .before .before .before .judge .ensures .verdict) (c .before .before .before .before .before .before .before .before .before .before .before .before .enum-told .given .1)
-    (block-after (settingOf z) (discOf z) (z .args .b .0) (within (c .before .before .before .before .before .before .before .before)) (at (c .before .before .before .before .before .before .before)) (c .before .before .before .before .before .all-recorded .ensures (z .args .disc .now)) (c .before .before .before .before .if2 .left) (c .before .before .before .up-from .ensures) (c .before .before .all-recorded2 .ensures (z .args .disc .now)) (c .before .if3 .taken)))
+    (goes-call (settingOf z) (discOf z) (z .args .table .now) _ (z .args .held) _ (block-lent _ (z .args .block .now) (c .before .before .before .before .before .before .before .before .before .before .before .before .before .before .before .before .before .before .are-lent .ensures)) (c .before .before .before .before .before .before .before .before .before .before .before .before .before .before .before .before .before .judge .ensures .verdict) (c .before .before .before .before .before .before .before .before .before .before .before .before .before .before .before .enum-told .given .1)
+    (sym (c .before .before .why2 .given .1) ∙ block-after (settingOf z) (discOf z) (z .args .b .0) (within (c .before .before .before .before .before .before .before .before .before .before .before)) (at (c .before .before .before .before .before .before .before .before .before .before)) (c .before .before .before .before .before .before .before .before .judge-run .ensures (z .args .disc .now)) (c .before .before .before .before .before .before .enum-told2 .given .1) (c .before .before .before .before .before .up-from .ensures) (c .before .before .before .before .judge-run2 .ensures (z .args .disc .now))))
+
+enum-told-3 : tie.Need-enum-told-3
+enum-told-3 c = search needs
 
 returns-5 : tie.Need-returns-5
 returns-5 c =
-    let z = c .before .before .before .before .before .before .before .before .before .before .before .before .before .before .before .before .before .before .before .before in
+    let z = c .before .before .before .before .before .before .before .before .before .before .before .before .before .before .before .before .before .before .before .before .before .before in
     record {
       verdict =
-          goes-call (settingOf z) (discOf z) (z .args .table .now) _ (z .args .held) _ (block-lent _ (z .args .block .now) (c .before .before .before .before .before .before .before .before .before .before .before .before .before .before .are-lent .ensures)) (c .before .before .before .before .before .before .before .before .before .before .before .before .before .judge .ensures .verdict) (c .before .before .before .before .before .before .before .before .before .before .before .enum-told .given .1)
-          (block-whole (settingOf z) (discOf z) (z .args .b .0) (within (c .before .before .before .before .before .before .before)) (at (c .before .before .before .before .before .before)) (c .before .before .before .before .all-recorded .ensures (z .args .disc .now)) (c .before .before .before .if2 .left) (c .before .before .up-from .ensures) (c .before .all-recorded2 .ensures (z .args .disc .now)) (c .if3 .left));
-      place = λ _. at (c .before .before .before .before .before .before);
+          goes-call (settingOf z) (discOf z) (z .args .table .now) _ (z .args .held) _ (block-lent _ (z .args .block .now) (c .before .before .before .before .before .before .before .before .before .before .before .before .before .before .before .before .are-lent .ensures)) (c .before .before .before .before .before .before .before .before .before .before .before .before .before .before .before .judge .ensures .verdict) (c .before .before .before .before .before .before .before .before .before .before .before .before .before .enum-told .given .1)
+          (sym (c .enum-told3 .given .1) ∙ block-after (settingOf z) (discOf z) (z .args .b .0) (within (c .before .before .before .before .before .before .before .before .before)) (at (c .before .before .before .before .before .before .before .before)) (c .before .before .before .before .before .before .judge-run .ensures (z .args .disc .now)) (c .before .before .before .before .enum-told2 .given .1) (c .before .before .before .up-from .ensures) (c .before .before .judge-run2 .ensures (z .args .disc .now)));
+      place = λ _. at (c .before .before .before .before .before .before .before .before);
     }
 
 pub judge-block-spec : {M : Type 1} → statement M
@@ -161,15 +173,19 @@ judge-block-spec =
     stopped-requires-2
     returns-2
     packet-place-requires
-    cast-all-recorded
-    all-recorded-requires
+    cast-judge-run
+    judge-run-requires
+    enum-known-why
     stopped-requires-3
     returns-3
+    enum-told-2
     add-up-from
     up-from-requires
-    sub-all-recorded
-    cast-all-recorded-2
-    all-recorded-requires-2
+    sub-judge-run
+    cast-judge-run-2
+    judge-run-requires-2
+    enum-known-why-2
     stopped-requires-4
     returns-4
+    enum-told-3
     returns-5)
