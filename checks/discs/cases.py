@@ -290,7 +290,7 @@ def rooms():
     p("# line 12 of a save")
     for n, v in ((3, 2), (3, 3), (3, 4), (3, "none"), (4095, 4095), (4096, 4095), (4096, 4096)):
         save(20, n, v)
-    p("# lines 12, 13 and 14 of reading and freeing: entries 1, unused, 2 (unreadable), 3 (blank)")
+    p("# lines 12, 13, 25 and 14 of reading, 12 and 13 of freeing: entries 1, unused, 2 (unreadable), 3 (blank)")
     start(20, 4)
     p("mark 4 2")
     p("mark 6 1")
@@ -300,10 +300,22 @@ def rooms():
     p("held 4 5 0")
     for v in ("0", "1", "2", "3", "4", "none"):
         p("read " + v)
+    p("# 02, slip 5: so too through the VAT that opening finds; the blank one's block is saved, and the save not committed")
+    p("commit")
+    p("fill 7 7 7 7")
+    p("open")
+    reads(2, 3)
+    p("save 3")
+    reads(3)
+    p("open")
+    reads(2, 3)
     for v in (4, 1, 2, 2):
         p("free %d" % v)
     p("read 2")
     p("table")
+    p("# line 11 before line 25")
+    p("held 4 6 5")
+    p("read 3")
     p("# 01, example l: NWA 3, L 64; 02, slip 4, has it 47")
     start(64, 0)
     p("mark 4 2")
@@ -617,7 +629,7 @@ def turned():
     for c in ("read 63", "read 64", "read none", "change 63", "change 64", "packet 31", "packet 32", "packet 64",
               "packet 4294967264", "spare 1", "spare 64", "spare 32"):
         p(c)
-    p("# line 14")
+    p("# lines 25 and 14: block 5 is blank, then unreadable; saved itself, it is recorded")
     for m in (0, 2):
         volume(2)
         packet(0, 128)
@@ -657,6 +669,66 @@ def turned():
     p("# room for so many spares in a table")
     for size, s in ((56, ""), (56, "192"), (63, "192"), (64, "192"), (71, "192 224"), (72, "192 224")):
         volume(2, s, size)
+
+
+def unrecorded():
+    def hurt(places, marks):
+        for i, m in zip(places, marks):
+            p("mark %d %d" % (64 + i, m))
+
+    p("# 02, slip 5: of the 31 others one is blank and one unreadable, both below the saved block, both above it, one on each side")
+    volume(2)
+    packet(0, 128)
+    for b, places in ((16, (0, 15)), (16, (17, 31)), (16, (15, 17)), (0, (1, 31)), (31, (0, 30))):
+        for marks in ((0, 2), (2, 0)):
+            hurt(places, marks)
+            p("change %d" % b)
+        hurt(places, (1, 1))
+    p("# the block's own sector is not asked, blank or unreadable; it is written where the others are recorded")
+    for marks in ((0, 2), (2, 0)):
+        hurt((16, 20), marks)
+        reads(16, 20)
+        p("change 16")
+        p("mark 84 1")
+        change(16, 85)
+        reads(16)
+    p("# lines 11 and 12 before line 25; the sectors beside the packet are not asked")
+    hurt((5, 32, -1), (0, 0, 2))
+    p("kept 3 1")
+    p("read 5")
+    p("change 4")
+    p("kept 3 0")
+    p("change 64")
+    p("mark 69 1")
+    p("change 4")
+    p("# power failures at the write of a blank block, in its save and in that of its packet; then it is saved")
+    p("blocks 64")
+    for c in ("change 5", "packet 0"):
+        for e in EFFECTS:
+            p("mark 69 0")
+            p("cut 6 " + e)
+            p(c)
+            p("cut 0 old")
+            p("open")
+            reads(5)
+            p("change 4")
+            change(5, 102)
+    p("# at the write of block 2: it is unreadable, and block 5 blank still")
+    p("mark 69 0")
+    p("cut 3 unreadable")
+    p("change 5")
+    p("cut 0 old")
+    p("open")
+    reads(2, 5)
+    for b in (2, 5, 9):
+        p("change %d" % b)
+    p("# a packet is asked at its present place, spared at 192 and not at 64")
+    spare(0, 128)
+    p("change 4")
+    for m in (0, 2):
+        p("mark 197 %d" % m)
+        p("change 4")
+        reads(5)
 
 
 def counting():
@@ -712,7 +784,9 @@ def sized():
     p("open")
 
 
+GROUPS = ["tables", "sizes", "cuts", "forged", "rooms", "refused", "spared", "turned", "unrecorded", "counting", "sized"]
+
 if __name__ == "__main__":
-    for name in sys.argv[1:] or ["tables", "sizes", "cuts", "forged", "rooms", "refused", "spared", "turned", "counting", "sized"]:
+    for name in sys.argv[1:] or GROUPS:
         globals()[name]()
     sys.stdout.write("\n".join(o) + "\n")

@@ -1,4 +1,4 @@
-"""Document 01 in Python, with slip 4 of document 02, written from their text alone: what each call answers and leaves."""
+"""Document 01 in Python, with slips 4 and 5 of document 02, written from their text alone: what each call answers and leaves."""
 from fractions import Fraction
 
 NONE = 0xffffffff
@@ -209,6 +209,15 @@ def write(d, writes, cut):
 UNCUT = (0, "old")
 
 
+def to_read(d, sectors):
+    """raises 25 or 14, by the mark of the first of the sectors, the lowest first, that is not recorded (02, slip 5)"""
+    for p in sorted(sectors):
+        if d.m[p] == 0:
+            raise Refuse(25)
+        if d.m[p] == 2:
+            raise Refuse(14)
+
+
 class Once:
     """the calls on a write-once disc; a record is ('once', N, NWA, last)"""
 
@@ -254,8 +263,7 @@ class Once:
     def read(d, maps, s, l, table, rec, v, out=2048):
         n, _, _ = Once.judge(d, maps, s, l, table, rec, out == 2048)
         Once.entry(table, n, v)
-        if d.m[s + table[v]] != 1:
-            raise Refuse(14)
+        to_read(d, [s + table[v]])
         return d.sector(s + table[v])
 
     @staticmethod
@@ -398,8 +406,7 @@ class Rw:
         if b >= l:
             raise Refuse(12)
         p = Rw.place(es, s, b)
-        if d.m[p] != 1:
-            raise Refuse(14)
+        to_read(d, [p])
         return d.sector(p)
 
     @staticmethod
@@ -408,8 +415,7 @@ class Rw:
         if b >= l:
             raise Refuse(12)
         p = Rw.place(es, s, b - b % 32)
-        if any(d.m[p + i] != 1 for i in range(32) if i != b % 32):
-            raise Refuse(14)
+        to_read(d, [p + i for i in range(32) if i != b % 32])
         write(d, [(p + i, block if i == b % 32 else d.sector(p + i)) for i in range(32)], cut)
         return rec
 
