@@ -4,8 +4,8 @@
 
 Compared with crates/capi/src/lib.rt, function by function: the name, each parameter's name, place and type, whether what a pointer
 points to may be written, and what is returned. A lent slice of the source is a pointer and a length there. Compared with
-crates/refusal/src/lib.rt: the name and number of every refusal; with the crates that have them: the numbers of answers, kinds, effects,
-calls and lengths. And the header's version is the Rust package's.
+crates/refusal/src/lib.rt: the name and number of every refusal, and the order in which they are tested; with the crates that have them:
+the numbers of answers, kinds, effects, calls and lengths. And the header's version is the Rust package's.
 
 It also tries itself: each of the wrong copies below, one slip away from the files as they are, has to be told from them.
 """
@@ -60,6 +60,9 @@ CONSTANTS = {
 # parameters that the source calls otherwise than the header does
 RENAMED = {"kept": "record", "at": "cut_at", "effect": "cut_effect", "size": "table_bytes"}
 RENAMED_IN = {("tuormik_read", "v"): "number"}
+
+# refusals that the header calls otherwise than the source does: TUORMIK_UNREADABLE is a mark there (DECISIONS 59)
+RENAMED_REFUSALS = {"UNREADABLE_SECTOR": "NOT_RECORDED"}
 
 SLICES = {
     "&[u8]": ("const u8*", "usize"),
@@ -175,13 +178,37 @@ def upper(name):
     return re.sub(r"(?<!^)(?=[A-Z])", "_", name).upper()
 
 
+def variants(text, where):
+    """The refusals in the order of the enum."""
+    body = re.search(r"pub enum Refusal \{\n(.*?)^\}$", text, flags=re.M | re.S)
+    if not body:
+        raise Wrong("%s: no enum Refusal" % where)
+    return re.findall(r"^    (\w+),$", body.group(1), flags=re.M)
+
+
 def refusals_of_source(text):
-    """Name to number."""
+    """Name to number, in the order of the enum, which is the order in which they are tested."""
     body = re.search(r"pub fn number\(.*?\n\}\n", text, flags=re.S)
-    found = re.findall(r"Refusal::(\w+) => (\d+),", body.group(0)) if body else []
-    if not found:
-        raise Wrong("%s: no numbers of refusals" % REFUSALS)
-    return {upper(name): int(number) for name, number in found}
+    found = dict(re.findall(r"Refusal::(\w+) => (\d+),", body.group(0))) if body else {}
+    names = variants(text, REFUSALS)
+    if not names or set(names) != set(found):
+        raise Wrong("%s: not every refusal has a number" % REFUSALS)
+    return {upper(name): int(found[name]) for name in names}
+
+
+def in_header(refusals):
+    return {RENAMED_REFUSALS.get(name, name): number for name, number in refusals.items()}
+
+
+def order_in_words(refusals):
+    """The numbers in their order, those that follow on each other as one run: 1 to 13, 25, 14 to 21."""
+    runs = []
+    for number in refusals.values():
+        if runs and number == runs[-1][1] + 1:
+            runs[-1][1] = number
+        else:
+            runs.append([number, number])
+    return ", ".join(str(a) if a == b else "%d to %d" % (a, b) for a, b in runs)
 
 
 def refusals_of_header(text):
@@ -189,6 +216,12 @@ def refusals_of_header(text):
     if not part:
         raise Wrong("%s: no answers from TUORMIK_DONE 0u to TUORMIK_CUT 255u" % HEADER)
     return {name: int(number) for name, number in re.findall(r"^#define TUORMIK_(\w+) (\d+)u$", part.group(1), flags=re.M)}
+
+
+def order_of_header(text):
+    """The order in which refusals are tested, as the header says it."""
+    found = re.search(r"Refusals are tested in this order: ([\d, to]+)\.", re.sub(r"\s*\n \* ", " ", text))
+    return found.group(1) if found else None
 
 
 def texts_of_header(text):
@@ -200,11 +233,12 @@ def texts_of_header(text):
 
 
 def refusals_of_rust(text):
-    body = re.search(r"pub enum Refusal \{\n(.*?)^\}$", text, flags=re.M | re.S)
-    if not body:
-        raise Wrong("%s: no enum Refusal" % RUST_REFUSALS)
-    names = re.findall(r"^    (\w+),$", body.group(1), flags=re.M)
-    return {upper(name): i + 1 for i, name in enumerate(names)}
+    """Name to number, in the order of the enum, which is that of LINES, where the numbers stand."""
+    lines = re.search(r"^const LINES: .*? = \[\n(.*?)^\];$", text, flags=re.M | re.S)
+    found = re.findall(r"^    \(\s*(\w+),\s*(\d+),\s*\"", lines.group(1), flags=re.M) if lines else []
+    if [name for name, _ in found] != variants(text, RUST_REFUSALS):
+        raise Wrong("%s: LINES does not have every refusal in the order of the enum" % RUST_REFUSALS)
+    return {upper(name): int(number) for name, number in found}
 
 
 def constants_of_source(files):
@@ -257,11 +291,17 @@ def compare(files):
         refusals = refusals_of_source(files[REFUSALS])
         said = differences(functions, of_header(files[HEADER]), HEADER)
         said += differences(functions, of_declared(files[DECLARED]), DECLARED)
-        said += differences(refusals, refusals_of_header(files[HEADER]), HEADER)
-        said += differences(refusals, refusals_of_rust(files[RUST_REFUSALS]), RUST_REFUSALS)
+        for wanted, found, where in ((in_header(refusals), refusals_of_header(files[HEADER]), HEADER),
+                                     (refusals, refusals_of_rust(files[RUST_REFUSALS]), RUST_REFUSALS)):
+            said += differences(wanted, found, where)
+            if list(wanted) != list(found):
+                said.append("%s: the refusals do not stand in the order of the source" % where)
+        if order_of_header(files[HEADER]) != order_in_words(refusals):
+            said.append("%s: the order of the refusals is %s, and the source has %s"
+                        % (HEADER, order_of_header(files[HEADER]), order_in_words(refusals)))
         constants = constants_of_source(files)
         said += differences(constants, constants_of_header(files[HEADER], constants), HEADER)
-        said += ["%s: %s has no text" % (HEADER, name) for name in sorted(set(refusals) - texts_of_header(files[HEADER]))]
+        said += ["%s: %s has no text" % (HEADER, name) for name in sorted(set(in_header(refusals)) - texts_of_header(files[HEADER]))]
         versions = version_of_header(files[HEADER]), version_of_package(files[PACKAGE])
         if versions[0] is None or versions[0] != versions[1]:
             said.append("the version is %s in %s and %s in %s" % (versions[0], HEADER, versions[1], PACKAGE))
@@ -297,6 +337,11 @@ SLIPS = [
     (HEADER, "#define TUORMIK_NO_SPARE 19u", "#define TUORMIK_NO_SPARE 18u"),
     (HEADER, "#define TUORMIK_NO_SPARE 19u\n", ""),
     (HEADER, "    case TUORMIK_NO_SPARE:\n", ""),
+    (HEADER, "#define TUORMIK_BLANK_SECTOR 25u\n#define TUORMIK_NOT_RECORDED 14u\n",
+     "#define TUORMIK_NOT_RECORDED 14u\n#define TUORMIK_BLANK_SECTOR 25u\n"),
+    (HEADER, "#define TUORMIK_NOT_RECORDED 14u\n", "#define TUORMIK_UNREADABLE_SECTOR 14u\n"),
+    (HEADER, "in this order: 1 to 13, 25, 14 to 21.", "in this order: 1 to 14, 25, 15 to 21."),
+    (HEADER, "in this order: 1 to 13, 25, 14 to 21.", "in the order of their numbers."),
     (HEADER, "#define TUORMIK_EFFECT_UNREADABLE 1u", "#define TUORMIK_EFFECT_UNREADABLE 2u"),
     (HEADER, "#define TUORMIK_RECORD_LAST 3", "#define TUORMIK_RECORD_LAST 2"),
     (HEADER, "#define TUORMIK_CALL_COMMIT 2u\n", ""),
@@ -324,10 +369,13 @@ SLIPS = [
     (SOURCE, '#[no_mangle]\npub extern "C" fn tuormik_run(', "pub fn tuormik_run("),
     (SOURCE, '#[no_mangle]\npub extern "C" fn tuormik_run(', 'pub extern "C" fn tuormik_run('),
     (REFUSALS, "Refusal::NoRoom => 16", "Refusal::NoRoom => 17"),
+    (REFUSALS, "    NoRoom,\n", ""),
     (SHARED, "const CUT: u32 = 255;", "const CUT: u32 = 254;"),
     (CALLS, "const SAVE_PACKET: u32 = 4;", "const SAVE_PACKET: u32 = 5;"),
     (RUST_REFUSALS, "    OneTable,\n", "    OneSparingTable,\n"),
     (RUST_REFUSALS, "    OneTable,\n", ""),
+    (RUST_REFUSALS, "(OneTable, 17,", "(OneSparingTable, 17,"),
+    (RUST_REFUSALS, "(OneTable, 17,", "(OneTable, 18,"),
 ]
 
 

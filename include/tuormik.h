@@ -1,8 +1,8 @@
 /*
  * tuormik.h - the block layer of CD UDF discs, for C and C++.
  *
- * The numbers and words are those of document 01, "The CD UDF block layer"; "line n" is line n of its section "Why a call is turned
- * down".
+ * The numbers and words are those of document 01, "The CD UDF block layer", and of the change requests, document 02, that README lists;
+ * "line n" is line n of 01's section "Why a call is turned down", or the number n that 02 adds to it.
  *
  * Lent to most calls:
  *   disc     2,048 bytes a sector
@@ -18,9 +18,9 @@
  * type and has as many elements behind it as the length says; and no two lent slices of one call overlap where one of them may be
  * written.
  *
- * Every call returns a number: 0 (TUORMIK_DONE), a refusal (the line of 01, 1 to 21), or 255 (TUORMIK_CUT) where the power failed in it.
- * Refusals are tested in the order of their numbers. On a refusal nothing lent has changed. The functions of the CRC return its value and
- * refuse nothing. Every call returns, whatever it is lent.
+ * Every call returns a number: 0 (TUORMIK_DONE), a refusal (its line: 1 to 21, or 25), or 255 (TUORMIK_CUT) where the power failed in it.
+ * Refusals are tested in this order: 1 to 13, 25, 14 to 21. The first that applies is returned, and nothing lent has changed. The functions
+ * of the CRC return its value and refuse nothing. Every call returns, whatever it is lent.
  *
  * The layer has no variables of its own and allocates nothing: all that a call reads or writes is lent to it, but for at most
  * TUORMIK_STACK bytes of stack. It calls nothing but the C library's functions on memory (memcpy and its like). Nothing has to be begun
@@ -44,7 +44,7 @@ extern "C" {
 #define TUORMIK_VERSION_PATCH 0
 #define TUORMIK_VERSION "0.1.0"
 
-/* ---- answers: tuormik_refusal_text tells each in words */
+/* ---- answers, the refusals in the order in which they are tested: tuormik_refusal_text tells each in words */
 
 #define TUORMIK_DONE 0u
 
@@ -61,6 +61,9 @@ extern "C" {
 #define TUORMIK_STALE_RECORD 11u
 #define TUORMIK_NUMBER_OUTSIDE 12u
 #define TUORMIK_UNUSED_ENTRY 13u
+/* The first sector to be read that is not recorded, the lowest first: 25 where it is blank (its mark is 0), 14 where it is unreadable
+   (its mark is 2). */
+#define TUORMIK_BLANK_SECTOR 25u
 #define TUORMIK_NOT_RECORDED 14u
 #define TUORMIK_PASSES_AS_ICB 15u
 #define TUORMIK_NO_ROOM 16u
@@ -105,8 +108,10 @@ static inline const char *tuormik_refusal_text(uint32_t number) {
         return "The block number is outside, or a packet start is not a multiple of 32 below L.";
     case TUORMIK_UNUSED_ENTRY:
         return "The entry to be read or freed is unused.";
+    case TUORMIK_BLANK_SECTOR:
+        return "A sector to be read was never recorded: the first that is not recorded is blank.";
     case TUORMIK_NOT_RECORDED:
-        return "A sector to be read is not recorded.";
+        return "A sector to be read cannot be read: the first that is not recorded is unreadable.";
     case TUORMIK_PASSES_AS_ICB:
         return "The block would pass as a VAT ICB at NWA.";
     case TUORMIK_NO_ROOM:
@@ -194,7 +199,7 @@ uint32_t tuormik_open(const uint8_t *disc, size_t disc_length,
 /*
  * Reads a block: virtual block `number` of a write-once disc, logical block `number` of a rewritable one.
  * Leaves: its 2,048 bytes in out, whose length is 2,048.
- * Refuses: 1 to 6, 8 and 10 (rewritable), 11, 12, 13 (write-once), 14.
+ * Refuses: 1 to 6, 8 and 10 (rewritable), 11, 12, 13 (write-once), 25 where its sector is blank, 14 where it is unreadable.
  */
 uint32_t tuormik_read(const uint8_t *disc, size_t disc_length,
                       const uint8_t *marks, size_t marks_length,
@@ -279,9 +284,11 @@ uint32_t tuormik_fullness(const uint8_t *disc, size_t disc_length,
 /* ---- rewritable */
 
 /*
- * Saves 2,048 bytes as logical block b: its packet is read, the block replaced, and 32 sectors are written upward.
+ * Saves 2,048 bytes as logical block b: its packet is read, the block replaced, and 32 sectors are written upward. The block's own sector
+ * need not be recorded: it is not read.
  * Leaves: disc and marks written; the record. The table is only read.
- * Refuses: 1 to 8, 10 to 12, 14 where another sector of the packet is not recorded.
+ * Refuses: 1 to 8, 10 to 12; and, by the first of the other 31 sectors that is not recorded, 25 where it is blank, 14 where it is
+ * unreadable.
  */
 uint32_t tuormik_save_block(uint8_t *disc, size_t disc_length,
                             uint8_t *marks, size_t marks_length,
@@ -295,7 +302,7 @@ uint32_t tuormik_save_block(uint8_t *disc, size_t disc_length,
 
 /*
  * Saves 65,536 bytes as the packet that begins at logical block b: 32 sectors are written upward. Nothing is read, so that a packet with
- * unreadable sectors is healed by it.
+ * blank or unreadable sectors is whole after it.
  * Leaves: disc and marks written; the record. The table is only read.
  * Refuses: 1 to 8, 10 to 12.
  */
