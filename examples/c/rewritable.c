@@ -1,6 +1,7 @@
 /*
  * A rewritable disc in memory: made with two sparing tables and two spares, saved to and spared; then the power is cut in a sparing and
- * in a save, the disc is opened after each, and the packet that the save hurt is saved whole again.
+ * in a save, the disc is opened after each, and the packet that the save hurt is saved whole again. At last a sector that was never
+ * recorded is told from one that cannot be read.
  *
  *     cc -std=c99 -Iinclude examples/c/rewritable.c target/staticlib/libcapi.a -o rewritable && ./rewritable
  */
@@ -92,6 +93,16 @@ int main(void) {
         reads(5, "dunlins") &&
         is("spare packet 32 again",
            tuormik_spare_packet(DISC, HELD, 32, TUORMIK_LENT_PACKET(packet_of("plovers")), TUORMIK_NO_CUT), TUORMIK_ALREADY_SPARED);
+
+    /* a blank sector, as where a disc was formatted in part: it is not read, nor is another block of its packet saved, until it is saved
+       itself */
+    marks[S + 70] = TUORMIK_BLANK;
+    well = well &&
+           is("read block 70", tuormik_read(DISC, HELD, 70, TUORMIK_LENT_BLOCK(block)), TUORMIK_BLANK_SECTOR) &&
+           is("save block 71", save(71, "14 May: rain", TUORMIK_NO_CUT), TUORMIK_BLANK_SECTOR) &&
+           is("save block 70", save(70, "14 May: rain", TUORMIK_NO_CUT), TUORMIK_DONE) &&
+           reads(70, "14 May: rain") &&
+           is("save block 71", save(71, "15 May: sun", TUORMIK_NO_CUT), TUORMIK_DONE);
     printf(well ? "What was saved is there, but for the sector at which the power failed.\n" : "Something is wrong.\n");
     return well ? 0 : 1;
 }
