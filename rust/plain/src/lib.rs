@@ -3,7 +3,8 @@
 //! It was written from these documents, with the readings of open points in `docs/DECISIONS.md`, and shares no code with the proved layer.
 //! The tests hold the two against each other, and the benchmarks take it as their baseline. Each function is the one of the same name in
 //! `include/tuormik.h`, with slices for pointers and lengths; the CRC goes by tables and has names of its own. "Line n" is line n of 01,
-//! "Why a call is turned down"; a call is turned down by `Err(n)`.
+//! "Why a call is turned down", or number n of 02, which stands where 02 places it among them: 25 directly before 14. A call is turned
+//! down by `Err(n)`.
 #![deny(missing_docs)]
 #![allow(clippy::too_many_arguments)]
 
@@ -29,7 +30,7 @@ const REWRITABLE: u32 = 1;
 
 const CUT: u32 = 255;
 
-/// A refusal is its line of 01.
+/// A refusal is its line.
 type Answer<T> = Result<T, u32>;
 
 /// Turned down by a line unless the test holds.
@@ -252,6 +253,16 @@ fn examine(disc: &[u8], marks: &[u8], maps: &[u8], s: u32, l: u32, lent: bool) -
         }
     }
     Ok((span, volume))
+}
+
+/// Lines 25 and 14 (02, slip 5) of the sectors to be read, by their marks from the lowest sector up: the first that is not recorded tells
+/// which.
+fn need_recorded(marks: impl IntoIterator<Item = u8>) -> Answer<()> {
+    match marks.into_iter().find(|&m| m != RECORDED) {
+        None => Ok(()),
+        Some(BLANK) => Err(25),
+        Some(_) => Err(14),
+    }
 }
 
 fn is_table(table: &[u32]) -> bool {
@@ -803,7 +814,7 @@ pub fn read(disc: &[u8], marks: &[u8], maps: &[u8], s: u32, l: u32, table: &[u32
                 spared.place(table, block)
             }
         };
-        need(marks[at] == RECORDED, 14)?;
+        need_recorded([marks[at]])?;
         out.copy_from_slice(sector(disc, at));
         Ok(())
     };
@@ -917,8 +928,7 @@ pub fn save_block(
         let at = spared.place(table, b);
         let start = at - b as usize % PACKET;
         let is_other = |i: &usize| *i != at;
-        let mut others = (start..start + PACKET).filter(is_other);
-        need(others.all(|i| marks[i] == RECORDED), 14)?;
+        need_recorded((start..start + PACKET).filter(is_other).map(|i| marks[i]))?;
         let mut writer = Writer::new(disc, marks, cut);
         for i in start..start + PACKET {
             if is_other(&i) {

@@ -188,8 +188,8 @@ fn compare_step(a: &Layer, b: &Layer, step: &Step, ours: &mut World, theirs: &mu
         }
         if let Step::Call(call) | Step::Oddly(_, call) = step {
             tally.add(call.name(), one.number);
-            if let (Call::Run { calls, .. }, 0) = (call, one.number) {
-                for &reply in one.lent.iter().take(calls.len()) {
+            if let (Call::Run { calls, replies, .. }, 0) = (call, one.number) {
+                for &reply in one.lent.iter().take(calls.len().min(*replies)) {
                     tally.add(IN_A_LIST, reply);
                 }
             }

@@ -2,6 +2,7 @@
 //!
 //! `TUORMIK_SEED` and `TUORMIK_CASES` choose another seed and number of cases; the program `compare` does the same with progress.
 
+use tuormik::{BLANK, PACKET, RECORDED};
 use tuormik_second::compare::{compare_cases, Tally, IN_A_LIST};
 use tuormik_second::layer::{Layer, PLAIN, PROVED};
 
@@ -20,14 +21,14 @@ fn compared() -> Tally {
     }
 }
 
-/// What each call can answer: lines of 01, 0 done and 255 cut.
+/// What each call can answer: lines of 01 and 02, 0 done and 255 cut.
 const ANSWERS: [(&str, &[u32]); 15] = [
     ("open", &[0, 1, 2, 3, 4, 5, 6, 8, 9, 10]),
-    ("read", &[0, 1, 2, 3, 4, 5, 6, 8, 10, 11, 12, 13, 14]),
+    ("read", &[0, 1, 2, 3, 4, 5, 6, 8, 10, 11, 12, 13, 14, 25]),
     ("save_virtual", &[0, 1, 2, 3, 4, 5, 6, 7, 11, 12, 15, 16, 255]),
     ("free_virtual", &[0, 1, 2, 3, 4, 5, 6, 7, 11, 12, 13]),
     ("commit", &[0, 1, 2, 3, 4, 5, 6, 7, 11, 16, 255]),
-    ("save_block", &[0, 1, 2, 3, 4, 5, 6, 7, 8, 10, 11, 12, 14, 255]),
+    ("save_block", &[0, 1, 2, 3, 4, 5, 6, 7, 8, 10, 11, 12, 14, 25, 255]),
     ("save_packet", &[0, 1, 2, 3, 4, 5, 6, 7, 8, 10, 11, 12, 255]),
     ("spare_packet", &[0, 1, 2, 3, 4, 5, 6, 7, 8, 10, 11, 12, 17, 18, 19, 20, 255]),
     ("make", &[0, 1, 2, 4, 5, 6, 21]),
@@ -36,7 +37,7 @@ const ANSWERS: [(&str, &[u32]); 15] = [
     ("write_maps", &[0, 3, 5, 6]),
     ("look_up", &[0, 3, 8, 9, 12, 13]),
     ("run", &[0, 1, 2, 3, 4, 5, 6, 8, 9, 10]),
-    (IN_A_LIST, &[0, 3, 7, 12, 13, 14, 16, 17, 18, 19, 20, 255]),
+    (IN_A_LIST, &[0, 3, 7, 12, 13, 14, 16, 17, 18, 19, 20, 25, 255]),
 ];
 
 #[test]
@@ -50,7 +51,7 @@ fn the_two_agree_and_every_answer_is_met() {
         for answer in 0..=255 {
             let met = tally.count(call, answer) > 0;
             assert!(met || !answers.contains(&answer), "{call} never answered {answer}");
-            assert!(!met || answers.contains(&answer) || call == IN_A_LIST, "{call} answered {answer}, which 01 does not let it");
+            assert!(!met || answers.contains(&answer) || call == IN_A_LIST, "{call} answered {answer}, which 01 and 02 do not let it");
         }
     }
 }
@@ -83,6 +84,117 @@ fn a_difference_is_found_and_cut_down() {
         Err(difference) => {
             assert!(difference.steps() <= 3, "{difference}");
             assert!(difference.to_string().contains("the record differs"), "{difference}");
+        }
+    }
+}
+
+// ---- layers that tell blank and unreadable sectors apart by another rule
+
+/// By which of the other sectors of a packet a save is turned down.
+#[derive(Clone, Copy)]
+enum By {
+    AnyBlank,
+    AnyUnreadable,
+    Last,
+    AboveFirst,
+    OwnToo,
+}
+
+const BLANK_LINE: u32 = 25;
+const UNREADABLE_LINE: u32 = 14;
+
+/// The line of the first of some marks that is not recorded.
+fn line_of_first(marks: impl Iterator<Item = u8>) -> Option<u32> {
+    marks.filter(|&m| m != RECORDED).map(|m| if m == BLANK { BLANK_LINE } else { UNREADABLE_LINE }).next()
+}
+
+/// The line of the sectors of a packet but for the one at `own`.
+fn line_by(by: By, packet: &[u8], own: usize) -> Option<u32> {
+    let (below, above) = (packet[..own].iter().copied(), packet[own + 1..].iter().copied());
+    let others = below.clone().chain(above.clone());
+    match by {
+        By::AnyBlank => line_of_first(others.clone().filter(|&m| m == BLANK)).or(line_of_first(others)),
+        By::AnyUnreadable => line_of_first(others.clone().filter(|&m| m != BLANK)).or(line_of_first(others)),
+        By::Last => line_of_first(others.rev()),
+        By::AboveFirst => line_of_first(above.chain(below)),
+        By::OwnToo => line_of_first(packet.iter().copied()),
+    }
+}
+
+/// The plain save of a block, but for the rule of lines 25 and 14.
+#[allow(clippy::too_many_arguments)]
+fn save_block_by<const BY: usize>(
+    disc: &mut [u8],
+    marks: &mut [u8],
+    maps: &[u8],
+    s: u32,
+    l: u32,
+    table: &[u32],
+    record: &mut [u32],
+    b: u32,
+    block: &[u8],
+    cut_at: u32,
+    cut_effect: u32,
+) -> u32 {
+    let by = [By::AnyBlank, By::AnyUnreadable, By::Last, By::AboveFirst, By::OwnToo][BY];
+    let before = (disc.to_vec(), marks.to_vec(), record.to_vec());
+    let answer = (PLAIN.save_block)(disc, marks, maps, s, l, table, record, b, block, cut_at, cut_effect);
+    if ![0, UNREADABLE_LINE, BLANK_LINE, 255].contains(&answer) {
+        return answer;
+    }
+    let own = b as usize % PACKET;
+    let original = b - own as u32;
+    let spared = table[..2 * record[1] as usize].chunks_exact(2).find(|entry| entry[0] == original);
+    let start = spared.map_or(s + original, |entry| entry[1]) as usize;
+    match line_by(by, &before.1[start..start + PACKET], own) {
+        Some(line) => {
+            disc.copy_from_slice(&before.0);
+            marks.copy_from_slice(&before.1);
+            record.copy_from_slice(&before.2);
+            line
+        }
+        None => answer,
+    }
+}
+
+/// The plain reading, which on discs of one kind, told by the length of its map list, does not tell blank sectors.
+#[allow(clippy::too_many_arguments)]
+fn read_without_blank<const MAPS: usize>(
+    disc: &[u8],
+    marks: &[u8],
+    maps: &[u8],
+    s: u32,
+    l: u32,
+    table: &[u32],
+    record: &[u32],
+    number: u32,
+    out: &mut [u8],
+) -> u32 {
+    match (PLAIN.read)(disc, marks, maps, s, l, table, record, number, out) {
+        BLANK_LINE if maps.len() == MAPS => UNREADABLE_LINE,
+        answer => answer,
+    }
+}
+
+/// The random discs have blank and unreadable sectors, in both orders, below and above the block to be saved, and as its own: a layer that
+/// goes by another rule is found.
+#[test]
+fn other_rules_for_blank_and_unreadable_are_found() {
+    let save_by = |name, save_block| Layer { name, save_block, ..PLAIN };
+    let read_by = |name, read| Layer { name, read, ..PLAIN };
+    let wrong = [
+        save_by("any blank", save_block_by::<0>),
+        save_by("any unreadable", save_block_by::<1>),
+        save_by("the last", save_block_by::<2>),
+        save_by("those above first", save_block_by::<3>),
+        save_by("the own sector too", save_block_by::<4>),
+        read_by("no blank on a write-once disc", read_without_blank::<70>),
+        read_by("no blank on a rewritable disc", read_without_blank::<64>),
+    ];
+    for layer in wrong {
+        match compare_cases(&layer, &PLAIN, SEED, 0..1_000, |_, _| {}) {
+            Ok(_) => panic!("{}: no difference was found", layer.name),
+            Err(difference) => assert!(difference.to_string().contains(&format!("then: {} answers", layer.name)), "{difference}"),
         }
     }
 }

@@ -4,7 +4,7 @@ use super::bytes::{Allocation, Bytes, Copy, Entries, File, Icb, Random, Twist, C
 use super::step::{Call, Fail, Odd, Start, Step, World};
 use crate::plain;
 use std::collections::VecDeque;
-use tuormik::{MOST_ENTRIES, NONE, PACKET, PACKET_BYTES, SECTOR};
+use tuormik::{BLANK, MOST_ENTRIES, NONE, PACKET, PACKET_BYTES, SECTOR, UNREADABLE};
 
 /// What a case is drawn by.
 pub struct Drawer {
@@ -292,7 +292,7 @@ impl Drawer {
         let next = partition.iter().rposition(|&m| m != 0).map_or(0, |last| last as u32 + 1);
         let recorded = s + random.below(next) as usize;
         let newest = s + next.saturating_sub(1) as usize;
-        match random.below(9) {
+        match random.below(10) {
             0 => self.queue.push_back(Step::Mark { sector: recorded, mark: random.below(3) as u8 }),
             1 => self.queue.push_back(Step::Mark { sector: newest, mark: random.below(3) as u8 }),
             2 => self.queue.push_back(Step::Mark { sector: s + random.below(world.l) as usize, mark: random.between(1, 3) as u8 }),
@@ -310,7 +310,19 @@ impl Drawer {
             }
             6 => self.queue.push_back(Step::CopySector { from: recorded, to: s + next.min(world.l - 1) as usize }),
             7 => self.queue.push_back(Step::PutIcb(icb(random, world, next.min(world.l - 1)))),
+            8 => self.unrecorded_entry(random, world, next),
             _ => self.forged_file(random, world, next),
+        }
+    }
+
+    /// A used entry whose sector, below NWA, is blank or unreadable, and its block read.
+    fn unrecorded_entry(&mut self, random: &mut Random, world: &World, next: u32) {
+        let v = random.below(world.record[1].min(MOST_ENTRIES as u32));
+        let entry = world.table[v as usize];
+        if entry < next {
+            self.queue.push_back(Step::Mark { sector: (world.s + entry) as usize, mark: random.pick(&[BLANK, UNREADABLE]) });
+            self.queue.push_back(Step::Call(Call::Open));
+            self.queue.push_back(Step::Call(Call::Read { number: v }));
         }
     }
 
@@ -384,7 +396,7 @@ impl Drawer {
             1 if !self.spares.is_empty() => random.pick(&self.spares) as usize + random.below(32) as usize,
             _ => (world.s + random.below(world.l)) as usize,
         };
-        match random.below(8) {
+        match random.below(9) {
             0 | 1 => self.queue.push_back(Step::Mark { sector: somewhere, mark: random.below(3) as u8 }),
             2 => {
                 let at =
@@ -392,6 +404,7 @@ impl Drawer {
                 self.queue.push_back(Step::Byte { sector: table, at, by: 1 << random.below(8) });
             }
             3 => self.queue.push_back(Step::CopySector { from: table, to: random.pick(&self.tables) as usize }),
+            4 => self.unrecorded_packet(random, world),
             _ => {
                 let mut copy = Copy::of(held);
                 self.forge(random, world, &mut copy);
@@ -405,6 +418,27 @@ impl Drawer {
                 }
             }
         }
+    }
+
+    /// A packet, at its present place, of recorded sectors but one to three that are blank or unreadable, and a block of it saved and
+    /// read, which may be one of those: which of them is the first decides.
+    fn unrecorded_packet(&mut self, random: &mut Random, world: &World) {
+        let first = random.below(world.l / PACKET as u32) * PACKET as u32;
+        let entries = world.table[..2 * world.record[1].min(MOST_ENTRIES as u32 / 2) as usize].chunks_exact(2);
+        let mapped = entries.filter(|entry| entry[0] == first).map(|entry| entry[1]).next();
+        let start = mapped.unwrap_or(world.s + first) as usize;
+        if !random.once_in(3) {
+            self.queue.push_back(Step::Call(Call::SavePacket { b: first, packet: packet(random), fail: Fail { at: 0, effect: 0 } }));
+        }
+        let others: Vec<usize> = (0..random.between(1, 3)).map(|_| random.below(PACKET as u32) as usize).collect();
+        for i in &others {
+            self.queue.push_back(Step::Mark { sector: start + i, mark: random.pick(&[BLANK, UNREADABLE]) });
+        }
+        self.queue.push_back(Step::Call(Call::Open));
+        let within = if random.once_in(3) { random.pick(&others) as u32 } else { random.below(PACKET as u32) };
+        self.queue.push_back(Step::Call(Call::Read { number: first + random.pick(&others) as u32 }));
+        let block = self.block(random, world);
+        self.queue.push_back(Step::Call(Call::SaveBlock { b: first + within, block, fail: fail(random, 32) }));
     }
 
     fn forge(&self, random: &mut Random, world: &World, copy: &mut Copy) {
