@@ -235,7 +235,9 @@ impl<'a> OpenRef<'a> {
         self.disc
     }
 
-    /// Reads a block: a virtual one of a write-once disc, a logical one of a rewritable disc.
+    /// Reads a block: a virtual one of a write-once disc, a logical one of a rewritable disc. One whose sector was never recorded is
+    /// refused as [`BlankSector`](crate::Refusal::BlankSector), one whose sector cannot be read as
+    /// [`UnreadableSector`](crate::Refusal::UnreadableSector).
     pub fn read(&self, number: u32) -> Result<[u8; SECTOR], Error> {
         self.found.read(self.disc, number)
     }
@@ -313,7 +315,9 @@ impl<'a> Open<'a> {
         answer
     }
 
-    /// Reads a block: a virtual one of a write-once disc, a logical one of a rewritable disc.
+    /// Reads a block: a virtual one of a write-once disc, a logical one of a rewritable disc. One whose sector was never recorded is
+    /// refused as [`BlankSector`](crate::Refusal::BlankSector), one whose sector cannot be read as
+    /// [`UnreadableSector`](crate::Refusal::UnreadableSector).
     pub fn read(&self, number: u32) -> Result<[u8; SECTOR], Error> {
         self.need_power()?;
         self.found.read(self.disc.to_read(), number)
@@ -392,7 +396,9 @@ impl<'a> Open<'a> {
         self.settle(number, record)
     }
 
-    /// Saves a logical block of a rewritable disc.
+    /// Saves a logical block of a rewritable disc. The others of its packet are written with it: the first of them that is not recorded
+    /// is why it is refused, as [`BlankSector`](crate::Refusal::BlankSector) or as
+    /// [`UnreadableSector`](crate::Refusal::UnreadableSector). The block's own sector may be either.
     pub fn save_block(&mut self, b: u32, block: &[u8]) -> Result<(), Error> {
         self.save_block_cut(b, block, Cut::NONE)
     }

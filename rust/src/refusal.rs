@@ -1,8 +1,12 @@
-//! Why a call is turned down: the lines of document 01, "Why a call is turned down", with its words.
+//! Why a call is turned down: the lines of document 01, "Why a call is turned down", and the one that document 02, slip 5, adds, with
+//! their words.
 
 use std::fmt;
 
-/// A line of document 01 by which a call is turned down.
+/// A line of document 01 or 02 by which a call is turned down.
+///
+/// The variants stand in checking order: of the lines that apply, a call is turned down by the first. That is not the order of the
+/// numbers: 25 (document 02, slip 5) stands directly before 14.
 #[derive(Clone, Copy, Debug, PartialEq, Eq)]
 pub enum Refusal {
     /// The lent disc has no shape of a disc.
@@ -31,8 +35,11 @@ pub enum Refusal {
     NumberOutside,
     /// The block is unused.
     UnusedEntry,
-    /// A sector to be read is not recorded.
-    NotRecorded,
+    /// The first sector to be read that is not recorded is blank: it was never recorded. Reading and saving a logical block have this
+    /// line.
+    BlankSector,
+    /// The first sector to be read that is not recorded is unreadable. The same calls have this line.
+    UnreadableSector,
     /// The block would be taken for a VAT.
     PassesAsIcb,
     /// The disc is full.
@@ -51,60 +58,76 @@ pub enum Refusal {
 
 use Refusal::*;
 
-/// The lines in order, the first of number 1, each with its words.
-const LINES: [(Refusal, &str); 21] = [
-    (DiscShape, "Disc bytes are not 2,048 times the marks, sectors exceed the limit or are none, or a mark exceeds 2."),
-    (SpanOutside, "L is 0 or S + L exceeds the sectors."),
-    (LentLength, "The lent table has under 4,096 entries, or block, packet or written map bytes have the wrong length."),
-    (MapCut, "A map is cut short, or of length 0."),
-    (NeitherKind, "The list, read or to be written, is neither kind."),
+/// Each line with its number and its words, in the order of the variants, which is that of checking: a line does not stand at its number.
+const LINES: [(Refusal, u32, &str); 22] = [
+    (DiscShape, 1, "Disc bytes are not 2,048 times the marks, sectors exceed the limit or are none, or a mark exceeds 2."),
+    (SpanOutside, 2, "L is 0 or S + L exceeds the sectors."),
+    (LentLength, 3, "The lent table has under 4,096 entries, or block, packet or written map bytes have the wrong length."),
+    (MapCut, 4, "A map is cut short, or of length 0."),
+    (NeitherKind, 5, "The list, read or to be written, is neither kind."),
     (
         Misaligned,
+        6,
         "Rewritable: S, L or a table sector is not a multiple of 32, a table's packet is off the disc, in the partition or named twice, \
          or spares to be made break the copy rule.",
     ),
-    (OtherKind, "The call is for the other kind."),
-    (NoTable, "No VAT ICB or counting copy exists."),
-    (TooManyEntries, "The found VAT has over 4,096 entries."),
-    (CopiesDiffer, "Current copies differ in entries."),
+    (OtherKind, 7, "The call is for the other kind."),
+    (NoTable, 8, "No VAT ICB or counting copy exists."),
+    (TooManyEntries, 9, "The found VAT has over 4,096 entries."),
+    (CopiesDiffer, 10, "Current copies differ in entries."),
     (
         StaleRecord,
+        11,
         "The handed record has NWA wrong, N over 4,096, a used entry or the last ICB at or above NWA, or (rewritable) differs from the \
          current table, sequence included.",
     ),
-    (NumberOutside, "v is N or more (save: above N, or 4,096), b is L or more, or a packet start is not a multiple of 32 below L."),
-    (UnusedEntry, "The entry to be read or freed is unused."),
-    (NotRecorded, "A sector to be read is not recorded (save b: another of its packet)."),
-    (PassesAsIcb, "The block would pass as a VAT ICB at NWA."),
-    (NoRoom, "NWA + 1 + d + 1 exceeds L (save, d for the N after it), or NWA + d + 1 does (commit)."),
-    (OneTable, "Sparing with one table only."),
-    (AlreadySpared, "The packet is already spared."),
-    (NoSpare, "No entry is free."),
-    (LastSequence, "The sequence is 0xffffffff."),
-    (NotBlank, "A write-once partition to be made is not blank."),
+    (NumberOutside, 12, "v is N or more (save: above N, or 4,096), b is L or more, or a packet start is not a multiple of 32 below L."),
+    (UnusedEntry, 13, "The entry to be read or freed is unused."),
+    (
+        BlankSector,
+        25,
+        "A sector was never recorded: of those to be read (save b: the others of its packet) the first that is not recorded is blank.",
+    ),
+    (
+        UnreadableSector,
+        14,
+        "A sector cannot be read: of those to be read (save b: the others of its packet) the first that is not recorded is unreadable.",
+    ),
+    (PassesAsIcb, 15, "The block would pass as a VAT ICB at NWA."),
+    (NoRoom, 16, "NWA + 1 + d + 1 exceeds L (save, d for the N after it), or NWA + d + 1 does (commit)."),
+    (OneTable, 17, "Sparing with one table only."),
+    (AlreadySpared, 18, "The packet is already spared."),
+    (NoSpare, 19, "No entry is free."),
+    (LastSequence, 20, "The sequence is 0xffffffff."),
+    (NotBlank, 21, "A write-once partition to be made is not blank."),
 ];
 
 impl Refusal {
-    /// The number of the line.
+    /// The number of the line. From 22 on the numbers have gaps.
     pub fn number(self) -> u32 {
-        self as u32 + 1
+        LINES[self as usize].1
     }
 
     /// The refusal of a number.
     pub fn from_number(number: u32) -> Option<Refusal> {
-        let at = usize::try_from(number).ok()?.checked_sub(1)?;
-        LINES.get(at).map(|line| line.0)
+        LINES.iter().find(|line| line.1 == number).map(|line| line.0)
     }
 
-    /// Document 01's words.
+    /// The line in words: those of document 01, but of 25 and 14, which document 02, slip 5, tells apart.
     pub fn words(self) -> &'static str {
-        LINES[self as usize].1
+        LINES[self as usize].2
+    }
+
+    /// Where the line stands: the document, which is 01 up to 21 and 02 from 22 on, and the number.
+    pub fn place(self) -> String {
+        let document = if self.number() < 22 { "01" } else { "02" };
+        format!("{document}, line {}", self.number())
     }
 }
 
 impl fmt::Display for Refusal {
     fn fmt(&self, f: &mut fmt::Formatter) -> fmt::Result {
-        write!(f, "{} (01, line {})", self.words(), self.number())
+        write!(f, "{} ({})", self.words(), self.place())
     }
 }
 
@@ -147,7 +170,7 @@ impl fmt::Display for Error {
             Error::Cut => f.write_str("The power failed in the call."),
             Error::PowerOff => f.write_str("The power failed; the disc has to be opened again."),
             Error::Unknown(number) => {
-                write!(f, "The layer answered {number}, which is no line of 01.")
+                write!(f, "The layer answered {number}, which is no line of 01 or 02.")
             }
         }
     }
@@ -159,13 +182,37 @@ impl std::error::Error for Error {}
 mod tests {
     use super::*;
 
+    /// The numbers in checking order, as documents 01 and 02 give it.
+    const NUMBERS: [u32; 22] = [1, 2, 3, 4, 5, 6, 7, 8, 9, 10, 11, 12, 13, 25, 14, 15, 16, 17, 18, 19, 20, 21];
+
     #[test]
-    fn lines_stand_at_their_numbers() {
-        for (i, (why, _)) in LINES.iter().enumerate() {
-            assert_eq!(why.number() as usize, i + 1);
-            assert_eq!(Refusal::from_number(why.number()), Some(*why));
+    fn lines_have_their_numbers_in_checking_order() {
+        for (i, (why, number, words)) in LINES.iter().enumerate() {
+            assert_eq!((*why as usize, *number), (i, NUMBERS[i]));
+            assert_eq!((why.number(), why.words()), (*number, *words));
         }
-        assert_eq!(Refusal::from_number(0), None);
-        assert_eq!(Refusal::from_number(22), None);
+    }
+
+    #[test]
+    fn a_number_is_that_of_one_refusal_or_of_none() {
+        for number in (0..=300).chain([u32::MAX]) {
+            let why = Refusal::from_number(number);
+            assert_eq!(why.map(Refusal::number), NUMBERS.contains(&number).then_some(number));
+        }
+        assert_eq!(Refusal::from_number(25), Some(BlankSector));
+        assert_eq!(Refusal::from_number(14), Some(UnreadableSector));
+    }
+
+    /// Who is told that a sector was never recorded does not clean the disc.
+    #[test]
+    fn blank_and_unreadable_have_different_words() {
+        let [blank, unreadable] = [BlankSector, UnreadableSector].map(|why| why.to_string());
+        assert!(blank.starts_with("A sector was never recorded: ") && blank.ends_with(" is blank. (02, line 25)"), "{blank}");
+        assert!(
+            unreadable.starts_with("A sector cannot be read: ") && unreadable.ends_with(" is unreadable. (01, line 14)"),
+            "{unreadable}"
+        );
+        assert!(!blank.contains("unreadable") && !blank.contains("cannot be read"), "{blank}");
+        assert!(!unreadable.contains("blank") && !unreadable.contains("never"), "{unreadable}");
     }
 }

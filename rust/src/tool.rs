@@ -30,7 +30,7 @@ use tuormik::Refusal;
 
 /// Why a command did not come to its end.
 pub enum Failure {
-    /// The layer turned a call down: the case in a sentence, and the line of document 01.
+    /// The layer turned a call down: the case in a sentence, and the line of document 01 or 02.
     Refused(String, Refusal),
     /// The power failed in a call.
     Cut(String),
@@ -69,13 +69,13 @@ impl Failure {
     /// In a line.
     fn words(&self) -> String {
         match self {
-            Failure::Refused(words, why) => format!("{words} (01, line {})", why.number()),
+            Failure::Refused(words, why) => format!("{words} ({})", why.place()),
             Failure::Usage(words) | Failure::Cut(words) => words.clone(),
             Failure::Told(_) | Failure::Closed => String::new(),
         }
     }
 
-    /// Says it on the standard error, a refusal with its line of document 01, and gives the status.
+    /// Says it on the standard error, a refusal with its line of document 01 or 02, and gives the status.
     fn tell(&self) -> u8 {
         let words = match self {
             Failure::Refused(words, why) => format!("{words}\nturned down: {why}"),
@@ -151,18 +151,19 @@ and the spares.
         help: "tuormik verify IMAGE..
 
 Opens the disc of each image and reads every block that is used. A line an image says that it is clean, or what is wrong: it does not open;
-opening passed over sectors above the last commit; blocks that are used cannot be read; a copy of the sparing table is not current. The
-last line counts them. The status is 1 where one is not clean.
+opening passed over sectors above the last commit; blocks that are used cannot be read (they are unreadable), or were never recorded (they
+are blank); a copy of the sparing table is not current. The last line counts them. The status is 1 where one is not clean.
 ",
         run: verify::verify,
     },
     Entry {
         name: "list",
-        line: "each block: where it is, and whether it is recorded",
+        line: "each block: where it is, and in which state",
         help: "tuormik list IMAGE [--all]
 
-Lists the blocks. Write-once: a line for each virtual block, with its logical block and its sector. Rewritable: a line for each packet
-that is spared or has a sector that is not recorded.
+Lists the blocks. Write-once: a line for each virtual block, with its logical block, its sector and its state: recorded, unreadable, blank
+(its sector was never recorded) or unused. Rewritable: a line for each packet that is spared or has an unreadable or a blank sector, with
+the count of each.
   --all                a line for every packet
 ",
         run: commands::list,
@@ -173,7 +174,8 @@ that is spared or has a sector that is not recorded.
         help: "tuormik read IMAGE NUMBER [COUNT] [--at ICB] [--output FILE] [--hex]
 
 Reads COUNT blocks (1) from NUMBER on: virtual blocks of a write-once disc, logical ones of a rewritable disc. Their bytes go to FILE or to
-the standard output.
+the standard output. The message about a block whose sector was never recorded (blank) differs from that about one whose sector cannot be
+read (unreadable).
   --at ICB             as the commit left them whose VAT ICB is at this logical block ('tuormik history' lists them)
   --output FILE, -o    where the bytes go
   --hex                as text, sixteen bytes a line
@@ -220,7 +222,7 @@ Opens a write-once disc and commits the table that was found: the disc then ends
 
 Spares the packet that begins at logical block NUMBER of a rewritable disc. Its bytes are those of FILE (65,536), or those that are read
 from the disc.
-  --zeros              blocks that cannot be read become zeros
+  --zeros              blocks that cannot be read (unreadable) or were never recorded (blank) become zeros
 ",
         run: commands::spare,
     },
@@ -257,8 +259,8 @@ they make no file system.
         help: "tuormik export IMAGE FOLDER [--at ICB]
 
 Writes each block as a file into FOLDER, which must be empty or not there yet, and a list, list.csv, with each block's number, its logical
-block, its sector, its state and its file. Blocks that are unused or cannot be read are listed and skipped. The list is written last: an
-export that was stopped leaves none.
+block, its sector, its state and its file. Blocks that are unused, unreadable or blank (never recorded) are listed and skipped. The list is
+written last: an export that was stopped leaves none.
   --at ICB             as the commit left them whose VAT ICB is at this logical block ('tuormik history' lists them)
 ",
         run: export::export,
@@ -268,9 +270,10 @@ export that was stopped leaves none.
         line: "which blocks of two discs differ",
         help: "tuormik diff A B
 
-Holds the blocks of two images against each other, by their numbers, and tells which differ, appeared (in B alone) or went (in A alone), and
-which cannot be read. A and B are images, or IMAGE@ICB for the disc as the commit left it whose VAT ICB is at that logical block. The
-status is 0 where all are alike and 1 where not. A volume given by hand is that of both; --marks does not go with two images.
+Holds the blocks of two images against each other, by their numbers, and tells which differ, appeared (in B alone) or went (in A alone),
+which are blank (never recorded) in one of them, and which cannot be read. Blocks that are blank in both are alike. A and B are images, or
+IMAGE@ICB for the disc as the commit left it whose VAT ICB is at that logical block. The status is 0 where all are alike and 1 where not. A
+volume given by hand is that of both; --marks does not go with two images.
 ",
         run: diff::diff,
     },
@@ -300,8 +303,8 @@ before.
         line: "a picture of the disc",
         help: "tuormik map IMAGE PICTURE
 
-Draws the sectors of the disc, row by row: blank, recorded, live (a block of the current table), unreadable, VAT ICBs, sparing tables, spares,
-and a line around the partition. Where the disc is turned down it is drawn from its marks alone. PICTURE ends in .svg or .ppm.
+Draws the sectors of the disc, row by row: blank (never recorded), recorded, live (a block of the current table), unreadable, VAT ICBs,
+sparing tables, spares, and a line around the partition. Where the disc is turned down it is drawn from its marks alone. PICTURE ends in .svg or .ppm.
 ",
         run: commands::map,
     },
@@ -322,7 +325,7 @@ const ENDING: &str = "
 where commas stand between numbers, without commas in them.
 Status:
   0  done
-  1  turned down (the message gives the line of document 01), or the answer is no: not clean, or different
+  1  turned down (the message gives the line of document 01 or 02), or the answer is no: not clean, or different
   2  a wrong command line, or a file that cannot be read or written
   3  the power was cut, as --cut asked; the image was stored as the cut left it
 ";

@@ -88,7 +88,7 @@ fn info_of_several_and_as_json() {
     assert!(err.contains("no anchor volume descriptor pointer"), "{err}");
     let (status, out, _) = folder.run(&["info", "--json", "d.img", "noise", "r.img"]);
     assert_eq!(status, 2);
-    let expected = r#"[{"image": "d.img", "opens": true, "kind": "write-once", "partition": 0, "sectors": 400, "file_sectors": 400, "recorded": 299, "unreadable": 0, "blank": 101, "s": 288, "l": 112, "n": 3, "used": 2, "new_blocks_that_fit": 100, "fullness_per_mille": 98, "nwa": 11, "last_icb": 10, "passed_over": 0, "possible_newer_vat": null}, {"image": "noise", "opens": false, "words": ""#;
+    let expected = r#"[{"image": "d.img", "opens": true, "kind": "write-once", "partition": 0, "sectors": 400, "file_sectors": 400, "recorded": 299, "unreadable": 0, "blank": 101, "s": 288, "l": 112, "n": 3, "used": 2, "blocks_readable": 2, "blocks_unreadable": 0, "blocks_blank": 0, "new_blocks_that_fit": 100, "fullness_per_mille": 98, "nwa": 11, "last_icb": 10, "passed_over": 0, "possible_newer_vat": null}, {"image": "noise", "opens": false, "words": ""#;
     assert!(out.starts_with(expected), "{out}");
     let expected = r#"{"image": "r.img", "opens": true, "kind": "rewritable", "partition": 0, "sectors": 640, "file_sectors": 640, "recorded": 71, "unreadable": 0, "blank": 569, "s": 288, "l": 64, "tables": [0, 32, 64], "table_bytes": 2048, "blocks_readable": 64, "blocks_unreadable": 0, "blocks_blank": 0, "r": 2, "spares_used": 0, "spares_free": 2, "sequence": 0, "tables_not_current": [], "passed_over": 0}]
 "#;
@@ -161,10 +161,10 @@ fn export_of_any_commit() {
         .usage(&["export", "d.img", "other", "--at", "2"])
         .starts_with("no commit has its VAT ICB at block 2: the disc has 6 commits"));
     assert!(!folder.path("other").exists());
-    // blocks that cannot be read are listed and skipped
+    // unreadable blocks are listed and skipped
     folder.write("m", b"tuormik marks\nrecorded 0 299\nunreadable 296 1\n");
     let out = folder.does(&["export", "d.img", "damaged", "--marks", "m"]);
-    has(&out, "exported 1 of 3 blocks to damaged; skipped: 1 unused, 1 that cannot be read; list.csv lists all");
+    has(&out, "exported 1 of 3 blocks to damaged; skipped: 1 unused, 1 unreadable; list.csv lists all");
     assert!(String::from_utf8_lossy(&folder.bytes("damaged/list.csv")).ends_with("\n2,8,296,unreadable,\n"));
 }
 

@@ -1,4 +1,5 @@
-//! Refusals in words: for each line of 01 that a command can meet, the first line of the message is a sentence with the case's numbers.
+//! Refusals in words: for each line of 01 and 02 that a command can meet, the first line of the message is a sentence with the case's
+//! numbers.
 
 mod folder;
 
@@ -151,8 +152,8 @@ fn sectors_that_cannot_be_read() {
         (&["read", "d.img", "8"], "block 8 cannot be read: its sector, 296, is unreadable"),
         (
             &["save", "d.img", "3", "text"],
-            "block 3 cannot be saved by itself: of the others of its packet, which are written with it, 1 is not recorded (block 8, sector \
-             296)",
+            "block 3 cannot be saved by itself: the others of its packet are written with it, and block 8 cannot be read: its sector, 296, \
+             is unreadable",
         ),
         (&["spare", "d.img", "0"], "block 8 cannot be read: its sector, 296, is unreadable"),
     ];

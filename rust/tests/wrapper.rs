@@ -2,7 +2,7 @@
 
 use tuormik::{
     crc, crc_by_bytes, crc_by_words, crc_word, look_up, read_maps, write_maps, Call, Cut, Disc, DiscRef, Effect, Error, Held, Maps, Open,
-    Record, Refusal, BLANK, NONE, PACKET_BYTES, SECTOR,
+    Record, Refusal, BLANK, NONE, PACKET_BYTES, SECTOR, UNREADABLE,
 };
 
 struct Memory {
@@ -99,6 +99,34 @@ fn a_rewritable_disc() {
     assert_eq!(open.free_virtual(0), Err(refused(Refusal::OtherKind)));
     assert_eq!(open.commit(), Err(refused(Refusal::OtherKind)));
     assert_eq!(open.fullness(), Err(refused(Refusal::OtherKind)));
+}
+
+/// A block that was never recorded is not told as one that cannot be read (document 02, slip 5).
+#[test]
+fn blank_and_unreadable_blocks() {
+    let [blank, unreadable] = [refused(Refusal::BlankSector), refused(Refusal::UnreadableSector)];
+    let mut memory = Memory::once();
+    let mut open = memory.disc().open().expect("it opens");
+    for v in 0..3 {
+        assert_eq!(open.save_virtual(v, &[7; SECTOR]), Ok(()));
+    }
+    assert_eq!(open.commit(), Ok(()));
+    // logical blocks 1 to 3, from sector 6 on
+    memory.marks[6..8].copy_from_slice(&[BLANK, UNREADABLE]);
+    let mut open = memory.disc().open().expect("it opens");
+    assert_eq!([open.read(0), open.read(1), open.read(2)], [Err(blank), Err(unreadable), Ok([7; SECTOR])]);
+    assert_eq!(open.save_virtual(0, &[8; SECTOR]), Ok(()));
+    assert_eq!(open.read(0), Ok([8; SECTOR]));
+
+    // block 3 is blank and block 5 unreadable: of the others of a packet the first decides
+    let mut memory = Memory::rewritable();
+    (memory.marks[96 + 3], memory.marks[96 + 5]) = (BLANK, UNREADABLE);
+    let mut open = memory.disc().open().expect("it opens");
+    assert_eq!([open.read(3), open.read(5), open.read(4)], [Err(blank), Err(unreadable), Ok([0; SECTOR])]);
+    assert_eq!([open.save_block(0, &[8; SECTOR]), open.save_block(3, &[8; SECTOR])], [Err(blank), Err(unreadable)]);
+    assert_eq!(open.save_block(32, &[8; SECTOR]), Ok(()));
+    let calls = [5, 3, 9].map(|b| Call::SaveBlock { b, block: &[8; SECTOR], cut: Cut::NONE });
+    assert_eq!(memory.disc().run(&calls).expect("it opens").replies, [Err(blank), Err(unreadable), Err(blank)]);
 }
 
 #[test]
@@ -199,6 +227,11 @@ fn words_of_refusals() {
     assert_eq!(refused(Refusal::NoTable).to_string(), "No VAT ICB or counting copy exists. (01, line 8)");
     assert_eq!(Error::check(0), Ok(()));
     assert_eq!(Error::check(21), Err(refused(Refusal::NotBlank)));
+    assert_eq!(Error::check(25), Err(refused(Refusal::BlankSector)));
+    assert_eq!(Error::check(14), Err(refused(Refusal::UnreadableSector)));
+    for unknown in [22, 24, 26] {
+        assert_eq!(Error::check(unknown), Err(Error::Unknown(unknown)));
+    }
     assert_eq!(Error::check(255), Err(Error::Cut));
     assert_eq!(Error::check(77), Err(Error::Unknown(77)));
 }

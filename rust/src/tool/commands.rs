@@ -7,7 +7,7 @@ use super::passed::{need_force, Passed};
 use super::picture::Picture;
 use super::progress::{Progress, Waiting};
 use super::refused::{self, Asked};
-use super::states::View;
+use super::states::{Counts, View};
 use super::summary::mark_words;
 use super::words::{counted, grouped, number};
 use super::{Done, Failure};
@@ -77,7 +77,7 @@ fn list_once(open: View, out: &mut dyn Write) -> Done {
             Some((logical, sector)) => (grouped(logical), grouped(sector)),
             None => ("-".to_string(), "-".to_string()),
         };
-        writeln!(out, "{:>7}  {logical:>7}  {sector:>8}  {}", grouped(block.number), block.state())?;
+        writeln!(out, "{:>7}  {logical:>7}  {sector:>8}  {}", grouped(block.number), block.state)?;
     }
     Ok(())
 }
@@ -330,22 +330,26 @@ pub fn spare(args: &mut Args, out: &mut dyn Write) -> Done {
 }
 
 fn spare_it(mut open: Open, b: u32, given: Option<Vec<u8>>, zeros: bool, cut: Cut) -> Result<String, Failure> {
-    let packet = match given {
-        Some(bytes) => bytes,
-        None => read_packet(&open, b, zeros)?,
+    let (packet, blocks) = match given {
+        Some(bytes) => (bytes, Counts::default()),
+        None => (read_packet(&open, b, zeros)?, View::from(&open).packet(b).collect()),
     };
     let answer = open.spare_packet_cut(b, &packet, cut);
     answer.map_err(|error| refused::by_call(&open, Asked::SparePacket(b, packet.len()), error))?;
-    Ok(format!("spared the packet of block {}: it is now at sector {}", grouped(b), grouped(View::from(&open).packet_place(b))))
+    let spared = format!("spared the packet of block {}: it is now at sector {}", grouped(b), grouped(View::from(&open).packet_place(b)));
+    Ok(match blocks.not_recorded() {
+        words if words.is_empty() => spared,
+        words => format!("{spared}; zeros stand for {words}"),
+    })
 }
 
-/// The packet that begins at block b, as far as it can be read.
+/// The packet that begins at block b; with zeros for blocks that are unreadable or blank, where they are asked for.
 fn read_packet(open: &Open, b: u32, zeros: bool) -> Result<Vec<u8>, Failure> {
     let mut packet = Vec::with_capacity(PACKET_BYTES);
     for i in 0..PACKET as u32 {
         match open.read(b.saturating_add(i)) {
             Ok(block) => packet.extend_from_slice(&block),
-            Err(Error::Refused(Refusal::NotRecorded)) if zeros => packet.extend_from_slice(&[0; SECTOR]),
+            Err(Error::Refused(Refusal::BlankSector | Refusal::UnreadableSector)) if zeros => packet.extend_from_slice(&[0; SECTOR]),
             // that a number is outside, or that the disc is write-once, the sparing itself says
             Err(Error::Refused(Refusal::NumberOutside | Refusal::UnusedEntry)) => packet.extend_from_slice(&[0; SECTOR]),
             Err(error) => return Err(refused::by_call(open, Asked::Read(b.saturating_add(i)), error)),

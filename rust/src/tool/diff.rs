@@ -3,7 +3,7 @@
 use super::args::Args;
 use super::commands::{known, load};
 use super::progress::Progress;
-use super::states::View;
+use super::states::{State, View};
 use super::words::{counted, from_to, number, parts};
 use super::{commits, Done, Failure};
 use std::ffi::OsString;
@@ -18,22 +18,28 @@ enum Change {
     Differs,
     Appeared,
     Went,
-    /// not to be read on one of them
+    /// never recorded in one of them, with bytes in the other
+    BlankInA,
+    BlankInB,
+    /// not to be read in one of them
     Unknown,
 }
 
 /// The changes that are told, with the words of one block and of several, and of a count.
-const TOLD: [(Change, &str, &str, &str); 4] = [
+const TOLD: [(Change, &str, &str, &str); 6] = [
     (Change::Differs, "differs", "differ", "different"),
     (Change::Appeared, "appeared", "appeared", "appeared"),
     (Change::Went, "went", "went", "went"),
+    (Change::BlankInA, "is blank in A: it was never recorded there", "are blank in A: they were never recorded there", "blank in A"),
+    (Change::BlankInB, "is blank in B: it was never recorded there", "are blank in B: they were never recorded there", "blank in B"),
     (Change::Unknown, "cannot be compared: it cannot be read", "cannot be compared: they cannot be read", "not to be compared"),
 ];
 
 /// What a block is.
 enum Content {
     None,
-    Lost,
+    Blank,
+    Unreadable,
     Bytes(Box<[u8; SECTOR]>),
 }
 
@@ -67,11 +73,12 @@ pub fn diff(args: &mut Args, out: &mut dyn Write) -> Done {
 }
 
 fn content(open: &OpenRef, number: u32) -> Result<Content, Failure> {
-    match View::from(open).block(number) {
-        Some(block) if block.is_readable() => Ok(Content::Bytes(Box::new(commits::read(open, number)?))),
-        Some(block) if block.is_lost() => Ok(Content::Lost),
-        _ => Ok(Content::None),
-    }
+    Ok(match View::from(open).block(number).map(|block| block.state) {
+        Some(State::Recorded) => Content::Bytes(Box::new(commits::read(open, number)?)),
+        Some(State::Unreadable) => Content::Unreadable,
+        Some(State::Blank) => Content::Blank,
+        Some(State::Unused) | None => Content::None,
+    })
 }
 
 fn changes(a: &OpenRef, b: &OpenRef) -> Result<Vec<Change>, Failure> {
@@ -80,12 +87,14 @@ fn changes(a: &OpenRef, b: &OpenRef) -> Result<Vec<Change>, Failure> {
     let change = |number| -> Result<Change, Failure> {
         progress.tell(number as usize, count as usize);
         Ok(match (content(a, number)?, content(b, number)?) {
-            (Content::None, Content::None) => Change::Alike,
+            (Content::None, Content::None) | (Content::Blank, Content::Blank) => Change::Alike,
             (Content::None, _) => Change::Appeared,
             (_, Content::None) => Change::Went,
+            (Content::Unreadable, _) | (_, Content::Unreadable) => Change::Unknown,
+            (Content::Blank, _) => Change::BlankInA,
+            (_, Content::Blank) => Change::BlankInB,
             (Content::Bytes(a), Content::Bytes(b)) if a == b => Change::Alike,
             (Content::Bytes(_), Content::Bytes(_)) => Change::Differs,
-            _ => Change::Unknown,
         })
     };
     (0..count).map(change).collect()

@@ -3,7 +3,7 @@
 use super::args::Args;
 use super::commands::{known, load};
 use super::progress::Progress;
-use super::states::{Block, View};
+use super::states::{Block, Counts, View};
 use super::words::{counted, grouped, parts};
 use super::{commits, Done, Failure};
 use std::fs::{self, File};
@@ -26,13 +26,11 @@ pub fn export(args: &mut Args, out: &mut dyn Write) -> Done {
     let digits = count.saturating_sub(1).to_string().len().max(4);
     let mut list = "block,logical,sector,state,file\n".to_string();
     let mut progress = Progress::new("blocks exported");
-    let mut read = 0;
     for block in view.blocks() {
         let name = if block.is_readable() { format!("block-{:0digits$}.bin", block.number) } else { String::new() };
         if block.is_readable() {
             let to = folder.join(&name);
             write_new(&to, &commits::read(&open, block.number)?)?;
-            read += 1;
         }
         list.push_str(&line(&block, &name));
         progress.tell(block.number as usize, count);
@@ -40,10 +38,11 @@ pub fn export(args: &mut Args, out: &mut dyn Write) -> Done {
     drop(progress);
     // the list comes last: a tool that was stopped leaves none
     image.write_output(&folder.join(LIST), list.as_bytes())?;
-    let lost = view.blocks().filter(Block::is_lost).count();
-    let skipped = parts(&[(count - read - lost, "unused"), (lost, "that cannot be read")]);
+    let counts: Counts = view.blocks().collect();
+    let skipped = parts(&[(counts.unused, "unused"), (counts.unreadable, "unreadable"), (counts.blank, "blank (never recorded)")]);
     let also = if skipped.is_empty() { String::new() } else { format!("; skipped: {skipped}") };
-    writeln!(out, "exported {} of {} to {}{also}; {LIST} lists all", grouped(read), counted(count, "block"), folder.display())?;
+    let read = grouped(counts.recorded);
+    writeln!(out, "exported {read} of {} to {}{also}; {LIST} lists all", counted(count, "block"), folder.display())?;
     Ok(())
 }
 
@@ -53,7 +52,7 @@ fn line(block: &Block, name: &str) -> String {
         Some((logical, sector)) => (logical.to_string(), sector.to_string()),
         None => Default::default(),
     };
-    format!("{},{logical},{sector},{},{name}\n", block.number, block.state())
+    format!("{},{logical},{sector},{},{name}\n", block.number, block.state)
 }
 
 /// Writes a file that is not there yet.

@@ -1,6 +1,6 @@
 //! What an image has in the place of what document 01 asks for.
 
-use super::words::{counted, from_to, grouped, joined};
+use super::words::{are, counted, from_to, grouped, joined};
 use tuormik::image::mark_name;
 use tuormik::{DiscRef, Held, Maps, BLANK, MOST_ENTRIES, PACKET, RECORDED, SECTOR, UNREADABLE};
 
@@ -258,21 +258,23 @@ pub fn no_vat(disc: DiscRef) -> String {
         Some((at, words)) => format!("no VAT of CD UDF was found: sector {} has {words}", grouped(at)),
         None => {
             let unreadable = written(disc).filter(|(_, mark)| *mark == UNREADABLE).count();
+            let blank = last + 1 - start - written(disc).count();
             format!(
                 "no VAT was found in the partition, {partition}: of {} up to the last that is not blank, {}, {} and none is a VAT ICB",
                 counted(last + 1 - start, "sector"),
                 grouped(last),
-                are_unreadable(unreadable)
+                are_not_recorded(&[(unreadable, "unreadable"), (blank, "blank")])
             )
         }
     }
 }
 
-fn are_unreadable(count: usize) -> String {
-    match count {
-        0 => "all can be read".to_string(),
-        1 => "1 is unreadable".to_string(),
-        n => format!("{} are unreadable", grouped(n)),
+fn are_not_recorded(counts: &[(usize, &str)]) -> String {
+    let there: Vec<String> = counts.iter().filter(|(n, _)| *n > 0).map(|(n, state)| format!("{} {state}", are(*n))).collect();
+    if there.is_empty() {
+        "all can be read".to_string()
+    } else {
+        there.join(", ")
     }
 }
 

@@ -60,10 +60,11 @@ fn by_marks(marks: &[u8]) -> Vec<Kind> {
     marks.iter().map(kind).collect()
 }
 
-/// Paints sectors, but those that are unreadable.
+/// Paints sectors, but those that are unreadable, and those that are blank where it is no free spare, which may be blank.
 fn paint(kinds: &mut [Kind], from: usize, count: usize, with: Kind) {
     for kind in kinds.iter_mut().skip(from).take(count) {
-        if *kind != Kind::Unreadable {
+        let is_kept = *kind == Kind::Unreadable || (*kind == Kind::Blank && with != Kind::FreeSpare);
+        if !is_kept {
             *kind = with;
         }
     }

@@ -1,11 +1,10 @@
-//! Refusals in words: for each line of document 01 that a command can meet, a sentence with the case's own numbers.
+//! Refusals in words: for each line of documents 01 and 02 that a command can meet, a sentence with the case's own numbers.
 
 use super::room::commit_sectors;
-use super::states::View;
-use super::words::{counted, from_to, grouped};
+use super::states::{Block, Counts, View};
+use super::words::{are, counted, from_to, grouped};
 use super::{found, Failure};
-use tuormik::image::mark_name;
-use tuormik::{read_maps, DiscRef, Error, Held, Maps, Refusal, BLANK, MOST_ENTRIES, MOST_SECTORS, PACKET, PACKET_BYTES, RECORDED, SECTOR};
+use tuormik::{read_maps, DiscRef, Error, Held, Maps, Refusal, BLANK, MOST_ENTRIES, MOST_SECTORS, PACKET, PACKET_BYTES, SECTOR};
 
 /// What a command asks of an open disc.
 #[derive(Clone, Copy)]
@@ -139,14 +138,6 @@ fn of_disc(disc: DiscRef, spares: &[u32], why: Refusal) -> String {
     }
 }
 
-fn are(n: usize) -> String {
-    if n == 1 {
-        "1 is".to_string()
-    } else {
-        format!("{} are", grouped(n))
-    }
-}
-
 fn shape_of(disc: DiscRef) -> String {
     let (bytes, sectors) = (disc.bytes.len(), disc.marks.len());
     if !bytes.is_multiple_of(SECTOR) {
@@ -188,7 +179,7 @@ fn of_call(open: View, asked: Asked, why: Refusal) -> String {
         Refusal::OtherKind => for_the_other_kind(&asked.words(), open.is_write_once()),
         Refusal::NumberOutside => outside_words(open, asked),
         Refusal::UnusedEntry => format!("block {} is unused: the disc's table has no sector for it", grouped(number)),
-        Refusal::NotRecorded => not_recorded_words(open, asked),
+        Refusal::BlankSector | Refusal::UnreadableSector => not_recorded_words(open, asked),
         Refusal::PassesAsIcb => {
             format!(
                 "the bytes for block {} would pass as a VAT ICB where they would stand, and be taken for the disc's own",
@@ -239,25 +230,22 @@ fn packet_words(first: u32) -> String {
     from_to(first as usize, first as usize + PACKET - 1, "block")
 }
 
+/// Lines 25 and 14: the first block to be read that is not recorded, for a save another of its packet.
 fn not_recorded_words(open: View, asked: Asked) -> String {
     let number = asked.number();
-    let place = |n: u32| open.block(n).and_then(|block| Some((block.place?.1, block.mark)));
-    if let (Asked::Read(_), Some((sector, mark))) = (asked, place(number)) {
-        return format!("block {} cannot be read: its sector, {}, is {}", grouped(number), grouped(sector), mark_name(mark));
+    if let (Asked::Read(_), Some(block)) = (asked, open.block(number)) {
+        return block.why_not_read();
     }
-    let first = number - number % PACKET as u32;
-    let others = (first..first + PACKET as u32).filter(|&n| n != number);
-    let lost: Vec<(u32, usize)> = others.filter_map(|n| place(n).filter(|p| p.1 != RECORDED).map(|p| (n, p.0))).collect();
-    match lost[..] {
-        [(other, sector), ..] => format!(
-            "block {} cannot be saved by itself: of the others of its packet, which are written with it, {} not recorded (block {}, sector {}{})",
-            grouped(number),
-            are(lost.len()),
-            grouped(other),
-            grouped(sector),
-            if lost.len() > 1 { ", is the first" } else { "" }
-        ),
-        [] => format!("block {} cannot be saved by itself", grouped(number)),
+    let others = open.packet(number - number % PACKET as u32).filter(|block| block.number != number);
+    let lacking: Vec<Block> = others.filter(|block| !block.is_readable()).collect();
+    let by_itself = format!("block {} cannot be saved by itself", grouped(number));
+    let Some(first) = lacking.first() else {
+        return by_itself;
+    };
+    let why = format!("{by_itself}: the others of its packet are written with it, and {}", first.why_not_read());
+    match lacking.len() {
+        1 => why,
+        n => format!("{why}; of the others {} not recorded: {}", are(n), Counts::from_iter(lacking).not_recorded()),
     }
 }
 

@@ -93,7 +93,7 @@ fn put_blocks(text: &mut String, image: &Image) -> Done {
 
 fn run_row(run: &Run) -> Vec<String> {
     let place = run.first.place.map_or("-".to_string(), |(_, sector)| from_to(sector, sector + run.count - 1, "sector"));
-    vec![from_to(run.first.number as usize, run.last(), "block"), place, run.first.state().to_string()]
+    vec![from_to(run.first.number as usize, run.last(), "block"), place, run.first.state.to_string()]
 }
 
 /// A table; cells of digits stand to the right.

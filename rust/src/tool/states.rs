@@ -1,7 +1,9 @@
-//! The blocks of an open disc: where each is, and whether it can be read.
+//! The blocks of an open disc: where each is, and in which state.
 
+use super::words::{grouped, parts};
+use std::fmt;
 use tuormik::image::mark_name;
-use tuormik::{DiscRef, Held, Open, OpenRef, Record, NONE, PACKET, RECORDED};
+use tuormik::{DiscRef, Held, Open, OpenRef, Record, BLANK, NONE, PACKET, RECORDED, UNREADABLE};
 
 /// An open disc, as its table and its record tell it.
 #[derive(Clone, Copy)]
@@ -23,31 +25,92 @@ impl<'a> From<&'a OpenRef<'_>> for View<'a> {
     }
 }
 
+/// The state of a block. A blank one was never recorded, and so is not unreadable (document 02, slip 5).
+#[derive(Clone, Copy, Debug, PartialEq, Eq)]
+pub enum State {
+    Recorded,
+    Unreadable,
+    Blank,
+    Unused,
+}
+
+impl State {
+    /// The state of a used block whose sector has a mark.
+    fn of_mark(mark: u8) -> State {
+        match mark {
+            RECORDED => State::Recorded,
+            UNREADABLE => State::Unreadable,
+            _ => State::Blank,
+        }
+    }
+}
+
+impl fmt::Display for State {
+    fn fmt(&self, f: &mut fmt::Formatter) -> fmt::Result {
+        f.write_str(match self {
+            State::Recorded => mark_name(RECORDED),
+            State::Unreadable => mark_name(UNREADABLE),
+            State::Blank => mark_name(BLANK),
+            State::Unused => "unused",
+        })
+    }
+}
+
 /// A block as the disc's table and marks tell it.
 #[derive(Clone, Copy, Debug, PartialEq, Eq)]
 pub struct Block {
     pub number: u32,
     /// Its logical block and its sector; none where its entry is unused.
     pub place: Option<(u32, usize)>,
-    pub mark: u8,
+    pub state: State,
 }
 
 impl Block {
     pub fn is_readable(&self) -> bool {
-        self.place.is_some() && self.mark == RECORDED
+        self.state == State::Recorded
     }
 
-    /// Used, and not to be read.
-    pub fn is_lost(&self) -> bool {
-        self.place.is_some() && self.mark != RECORDED
+    /// Why a block that has a sector is not read, as a sentence.
+    pub fn why_not_read(&self) -> String {
+        let sector = self.place.map_or(0, |(_, sector)| sector);
+        let why = if self.state == State::Blank { "was never recorded" } else { "cannot be read" };
+        format!("block {} {why}: its sector, {}, is {}", grouped(self.number), grouped(sector), self.state)
+    }
+}
+
+/// How many blocks are in each state.
+#[derive(Clone, Copy, Debug, Default, PartialEq, Eq)]
+pub struct Counts {
+    pub recorded: usize,
+    pub unreadable: usize,
+    pub blank: usize,
+    pub unused: usize,
+}
+
+impl Counts {
+    /// Those that have a sector.
+    pub fn used(self) -> usize {
+        self.recorded + self.unreadable + self.blank
     }
 
-    /// `recorded`, `unreadable`, `blank` or `unused`.
-    pub fn state(&self) -> &'static str {
-        match self.place {
-            Some(_) => mark_name(self.mark),
-            None => "unused",
+    /// Those that have a sector which is not recorded, in words; empty where there are none.
+    pub fn not_recorded(self) -> String {
+        parts(&[(self.unreadable, "unreadable"), (self.blank, "blank (never recorded)")])
+    }
+}
+
+impl FromIterator<Block> for Counts {
+    fn from_iter<T: IntoIterator<Item = Block>>(blocks: T) -> Counts {
+        let mut counts = Counts::default();
+        for block in blocks {
+            *match block.state {
+                State::Recorded => &mut counts.recorded,
+                State::Unreadable => &mut counts.unreadable,
+                State::Blank => &mut counts.blank,
+                State::Unused => &mut counts.unused,
+            } += 1;
         }
+        counts
     }
 }
 
@@ -84,6 +147,11 @@ impl<'a> View<'a> {
         self.spared_to(original).unwrap_or(self.disc.start as usize + original as usize)
     }
 
+    /// The blocks of the packet that begins at a logical block.
+    pub fn packet(self, first: u32) -> impl Iterator<Item = Block> + 'a {
+        (first..first.saturating_add(PACKET as u32)).filter_map(move |number| self.block(number))
+    }
+
     /// The block of a number; none from the number of blocks upward.
     pub fn block(self, number: u32) -> Option<Block> {
         if number >= self.count() {
@@ -96,8 +164,11 @@ impl<'a> View<'a> {
             let within = number % PACKET as u32;
             Some((number, self.packet_place(number - within) + within as usize))
         };
-        let mark = place.and_then(|(_, sector)| self.disc.marks.get(sector).copied()).unwrap_or_default();
-        Some(Block { number, place, mark })
+        let state = match place {
+            Some((_, sector)) => State::of_mark(self.disc.marks.get(sector).copied().unwrap_or(BLANK)),
+            None => State::Unused,
+        };
+        Some(Block { number, place, state })
     }
 
     /// All blocks, in order.
@@ -132,6 +203,6 @@ impl Run {
 
     fn goes_on_with(&self, block: &Block) -> bool {
         let step = |place: Option<(u32, usize)>| place.map(|(_, sector)| sector + self.count);
-        block.state() == self.first.state() && block.place.map(|(_, sector)| sector) == step(self.first.place)
+        block.state == self.first.state && block.place.map(|(_, sector)| sector) == step(self.first.place)
     }
 }

@@ -3,17 +3,17 @@
 use super::json::Json;
 use super::passed::Passed;
 use super::room::new_blocks;
-use super::states::View;
+use super::states::{Counts, View};
 use super::words::{counted, grouped, joined, parts};
 use super::{commits, found, refused, Failure};
 use tuormik::image::{mark_name, Image};
-use tuormik::{read_maps, Held, Maps, OpenRef, Refusal, BLANK, NONE, RECORDED, UNREADABLE};
+use tuormik::{read_maps, Held, Maps, OpenRef, Refusal, BLANK, RECORDED, UNREADABLE};
 
 /// The marks in the order in which they are told.
 const MARKS: [u8; 3] = [RECORDED, UNREADABLE, BLANK];
 
 /// How many marks of each sort there are.
-pub fn mark_counts(marks: &[u8]) -> [usize; 3] {
+fn mark_counts(marks: &[u8]) -> [usize; 3] {
     MARKS.map(|mark| marks.iter().filter(|&&m| m == mark).count())
 }
 
@@ -37,8 +37,8 @@ pub struct Summary {
 
 /// What an opening gave.
 pub enum Opened {
-    WriteOnce { entries: u32, used: usize, next: u32, last: u32, fits: usize, per_mille: u32, passed: Passed },
-    Rewritable { blocks: [usize; 3], entries: u32, used: usize, sequence: u32, stale: Vec<u32> },
+    WriteOnce { blocks: Counts, entries: u32, next: u32, last: u32, fits: usize, per_mille: u32, passed: Passed },
+    Rewritable { blocks: Counts, entries: u32, used: usize, sequence: u32, stale: Vec<u32> },
 }
 
 /// The tables of a rewritable disc.
@@ -138,12 +138,13 @@ impl Summary {
 impl Opened {
     fn new(open: &OpenRef) -> Result<Opened, Failure> {
         let view = View::from(open);
+        let blocks = view.blocks().collect();
         Ok(match view.record.held {
             Held::WriteOnce { entries, next, last } => {
                 let per_mille = open.fullness().map_err(|error| refused::by_call(open, refused::Asked::Fullness, error))?;
                 Opened::WriteOnce {
+                    blocks,
                     entries,
-                    used: open.table().iter().filter(|&&entry| entry != NONE).count(),
                     next,
                     last,
                     fits: new_blocks(entries as usize, next as usize, view.disc.length as usize),
@@ -152,8 +153,7 @@ impl Opened {
                 }
             }
             Held::Rewritable { entries, sequence } => {
-                let marks: Vec<u8> = view.blocks().map(|block| block.mark).collect();
-                Opened::Rewritable { blocks: mark_counts(&marks), entries, used: view.used_spares(), sequence, stale: Vec::new() }
+                Opened::Rewritable { blocks, entries, used: view.used_spares(), sequence, stale: Vec::new() }
             }
         })
     }
@@ -161,13 +161,13 @@ impl Opened {
     /// In a curator's words.
     fn words(&self) -> Vec<(&'static str, String)> {
         match self {
-            Opened::WriteOnce { entries, used, fits, per_mille, .. } => vec![
-                ("blocks", blocks_words(*entries as usize, *used)),
+            Opened::WriteOnce { blocks, entries, fits, per_mille, .. } => vec![
+                ("blocks", blocks_words(*blocks)),
                 ("room", room_words(*entries as usize, *fits)),
                 ("fullness", format!("{}.{} %", per_mille / 10, per_mille % 10)),
             ],
             Opened::Rewritable { blocks, entries, used, stale, .. } => {
-                let [recorded, unreadable, blank] = *blocks;
+                let Counts { recorded, unreadable, blank, .. } = *blocks;
                 let mut lines = vec![
                     ("blocks", format!("{} readable, {} unreadable, {} blank", grouped(recorded), grouped(unreadable), grouped(blank))),
                     ("spares", format!("{} used, {} free", grouped(*used), grouped(*entries as usize - used))),
@@ -183,10 +183,10 @@ impl Opened {
     /// In the letters of document 01.
     fn letters(&self, start: u32) -> Vec<(&'static str, String)> {
         match self {
-            Opened::WriteOnce { entries, used, next, last, passed, .. } => {
+            Opened::WriteOnce { blocks, entries, next, last, passed, .. } => {
                 let at = u64::from(start) + u64::from(*last);
                 let mut lines = vec![
-                    ("N", format!("{} ({} used)", grouped(*entries), grouped(*used))),
+                    ("N", format!("{} ({} used)", grouped(*entries), grouped(blocks.used()))),
                     ("NWA", grouped(*next)),
                     ("last ICB", format!("{} (sector {})", grouped(*last), grouped(at))),
                     ("passed over", grouped(passed.count)),
@@ -206,29 +206,30 @@ impl Opened {
 
     fn json(&self) -> Vec<(&'static str, Json)> {
         match self {
-            Opened::WriteOnce { entries, used, next, last, fits, per_mille, passed } => vec![
-                ("n", Json::number(*entries)),
-                ("used", Json::number(*used)),
-                ("new_blocks_that_fit", Json::number(*fits)),
-                ("fullness_per_mille", Json::number(*per_mille)),
-                ("nwa", Json::number(*next)),
-                ("last_icb", Json::number(*last)),
-                ("passed_over", Json::number(passed.count)),
-                ("possible_newer_vat", passed.possible.as_ref().map_or(Json::None, |possible| Json::number(possible.block))),
-            ],
+            Opened::WriteOnce { blocks, entries, next, last, fits, per_mille, passed } => {
+                let mut parts = vec![("n", Json::number(*entries)), ("used", Json::number(blocks.used()))];
+                parts.extend(blocks_json(*blocks));
+                parts.extend([
+                    ("new_blocks_that_fit", Json::number(*fits)),
+                    ("fullness_per_mille", Json::number(*per_mille)),
+                    ("nwa", Json::number(*next)),
+                    ("last_icb", Json::number(*last)),
+                    ("passed_over", Json::number(passed.count)),
+                    ("possible_newer_vat", passed.possible.as_ref().map_or(Json::None, |possible| Json::number(possible.block))),
+                ]);
+                parts
+            }
             Opened::Rewritable { blocks, entries, used, sequence, stale } => {
-                let [recorded, unreadable, blank] = blocks.map(Json::number);
-                vec![
-                    ("blocks_readable", recorded),
-                    ("blocks_unreadable", unreadable),
-                    ("blocks_blank", blank),
+                let mut parts = Vec::from(blocks_json(*blocks));
+                parts.extend([
                     ("r", Json::number(*entries)),
                     ("spares_used", Json::number(*used)),
                     ("spares_free", Json::number(*entries as usize - used)),
                     ("sequence", Json::number(*sequence)),
                     ("tables_not_current", Json::numbers(stale.iter().copied())),
                     ("passed_over", Json::number(0u32)),
-                ]
+                ]);
+                parts
             }
         }
     }
@@ -241,7 +242,7 @@ impl Opened {
         }
     }
 
-    /// What stands against calling a disc clean, beside blocks that cannot be read.
+    /// What stands against calling a disc clean, beside blocks that are unreadable or blank.
     pub fn faults(&self) -> Vec<String> {
         match self {
             Opened::WriteOnce { passed, .. } if passed.count == 0 => Vec::new(),
@@ -256,28 +257,35 @@ impl Opened {
     /// In a few words.
     pub fn gist(&self) -> String {
         match self {
-            Opened::WriteOnce { entries, used, per_mille, .. } => {
-                let unused = *entries as usize - used;
-                let also = if unused > 0 { format!(" and {} unused", grouped(unused)) } else { String::new() };
-                format!("write-once, {} used{also}, {}.{} % full", counted(*used, "block"), per_mille / 10, per_mille % 10)
+            Opened::WriteOnce { blocks, per_mille, .. } => {
+                let also = if blocks.unused > 0 { format!(" and {} unused", grouped(blocks.unused)) } else { String::new() };
+                format!("write-once, {} used{also}, {}.{} % full", counted(blocks.used(), "block"), per_mille / 10, per_mille % 10)
             }
             Opened::Rewritable { blocks, entries, used, .. } => {
-                format!(
-                    "rewritable, {}, {} of {}",
-                    counted(blocks.iter().sum(), "block"),
-                    grouped(*used),
-                    counted(*entries as usize, "spare")
-                ) + " used"
+                format!("rewritable, {}, {} of {}", counted(blocks.used(), "block"), grouped(*used), counted(*entries as usize, "spare"))
+                    + " used"
             }
         }
     }
 }
 
-fn blocks_words(entries: usize, used: usize) -> String {
-    match entries {
-        0 => "none yet".to_string(),
-        _ => parts(&[(used, "used"), (entries - used, "unused")]),
+/// The blocks of a write-once disc.
+fn blocks_words(blocks: Counts) -> String {
+    let counts = parts(&[(blocks.used(), "used"), (blocks.unused, "unused")]);
+    match blocks.not_recorded() {
+        _ if counts.is_empty() => "none yet".to_string(),
+        words if words.is_empty() => counts,
+        words => format!("{counts}; of those used {words}"),
     }
+}
+
+/// The blocks that have a sector, by their states.
+fn blocks_json(blocks: Counts) -> [(&'static str, Json); 3] {
+    [
+        ("blocks_readable", Json::number(blocks.recorded)),
+        ("blocks_unreadable", Json::number(blocks.unreadable)),
+        ("blocks_blank", Json::number(blocks.blank)),
+    ]
 }
 
 fn room_words(entries: usize, fits: usize) -> String {

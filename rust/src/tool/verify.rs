@@ -3,7 +3,7 @@
 use super::args::Args;
 use super::commands::{images, load};
 use super::progress::Progress;
-use super::states::{Run, View};
+use super::states::{Run, State, View};
 use super::summary::Summary;
 use super::words::{counted, from_to, grouped, parts};
 use super::{commits, Done, Failure};
@@ -72,32 +72,34 @@ pub fn verdict(image: &Image) -> Result<Verdict, Failure> {
     let opened = match summary.opened {
         Ok(opened) => opened,
         Err((words, why)) => {
-            return Ok(Verdict { gist: String::new(), faults: vec![format!("{words} (01, line {})", why.number())] });
+            return Ok(Verdict { gist: String::new(), faults: vec![format!("{words} ({})", why.place())] });
         }
     };
     let mut faults = opened.faults();
     let open = commits::open(image)?;
     commits::read_all(&open)?;
-    faults.extend(lost_words(&View::from(&open).runs()));
+    let runs = View::from(&open).runs();
+    faults.extend(state_words(&runs, State::Unreadable, ["cannot be read", "cannot be read"]));
+    faults.extend(state_words(&runs, State::Blank, ["was never recorded", "were never recorded"]));
     Ok(Verdict { gist: opened.gist(), faults })
 }
 
-/// The used blocks that cannot be read.
-fn lost_words(runs: &[Run]) -> Option<String> {
+/// The blocks that are in a state, if there are any, with what is to be said of one and of several.
+fn state_words(runs: &[Run], state: State, [one, several]: [&str; 2]) -> Option<String> {
     const MOST: usize = 4;
-    let lost: Vec<&Run> = runs.iter().filter(|run| run.first.is_lost()).collect();
-    let count: usize = lost.iter().map(|run| run.count).sum();
-    let mut words: Vec<String> = lost.iter().take(MOST).map(|run| run_words(run)).collect();
-    if lost.len() > MOST {
-        let told: usize = lost.iter().take(MOST).map(|run| run.count).sum();
+    let those: Vec<&Run> = runs.iter().filter(|run| run.first.state == state).collect();
+    let count: usize = those.iter().map(|run| run.count).sum();
+    let mut words: Vec<String> = those.iter().take(MOST).map(|run| run_words(run)).collect();
+    if those.len() > MOST {
+        let told: usize = those.iter().take(MOST).map(|run| run.count).sum();
         words.push(format!("{} more", grouped(count - told)));
     }
-    let cannot = format!("{} cannot be read: {}", counted(count, "block"), words.join(", "));
-    (count > 0).then_some(cannot)
+    let are = if count == 1 { one } else { several };
+    (count > 0).then(|| format!("{} {are}: {}", counted(count, "block"), words.join(", ")))
 }
 
 fn run_words(run: &Run) -> String {
     let sector = run.first.place.map_or(0, |(_, sector)| sector);
     let blocks = from_to(run.first.number as usize, run.last(), "block");
-    format!("{blocks} ({}, {})", from_to(sector, sector + run.count - 1, "sector"), run.first.state())
+    format!("{blocks} ({}, {})", from_to(sector, sector + run.count - 1, "sector"), run.first.state)
 }

@@ -26,6 +26,15 @@ pub fn joined(words: &[String]) -> String {
     }
 }
 
+/// `1 is`, `2,048 are`.
+pub fn are(n: usize) -> String {
+    if n == 1 {
+        "1 is".to_string()
+    } else {
+        format!("{} are", grouped(n))
+    }
+}
+
 /// Parts of a whole, those that are not 0, each with its words: `598 read, 1 unused`.
 pub fn parts(counts: &[(usize, &str)]) -> String {
     let there: Vec<String> = counts.iter().filter(|(n, _)| *n > 0).map(|(n, words)| format!("{} {words}", grouped(*n))).collect();

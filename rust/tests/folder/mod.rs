@@ -45,11 +45,12 @@ impl Folder {
         out
     }
 
-    /// Runs it and expects a refusal by a line of 01; gives the first line of the message.
+    /// Runs it and expects a refusal by a line of 01, or of 02 from 22 on; gives the first line of the message.
     pub fn refuses(&self, line: u32, words: &[&str]) -> String {
         let (status, _, err) = self.run(words);
         assert_eq!(status, 1, "{words:?}: {err}");
-        assert!(err.ends_with(&format!("(01, line {line})\n")), "{words:?}: {err}");
+        let document = if line < 22 { "01" } else { "02" };
+        assert!(err.ends_with(&format!("({document}, line {line})\n")), "{words:?}: {err}");
         let first = err.lines().next().and_then(|first| first.strip_prefix("tuormik: ")).expect("a message");
         first.to_string()
     }
