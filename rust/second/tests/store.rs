@@ -1,7 +1,8 @@
-//! Document 01's demand 3 on random lists: the plain store ("The plain store") is fed each call's arguments and cut and whether it was
-//! accepted, and after every list that does not end in a cut reading gives what the store holds.
+//! Document 01's demand 3 on random lists: the plain store ("The plain store"), which document 02, slip 5, gives blank as a fourth reading,
+//! is fed each call's arguments and cut and whether it was accepted, and after every list that does not end in a cut reading gives what the
+//! store holds.
 
-use tuormik::{BLANK, MOST_ENTRIES, NONE, PACKET, PACKET_BYTES, SECTOR};
+use tuormik::{BLANK, MOST_ENTRIES, NONE, PACKET, PACKET_BYTES, RECORDED, SECTOR, UNREADABLE};
 use tuormik_second::layer::{Layer, PLAIN, PROVED};
 
 const CUT: u32 = 255;
@@ -22,11 +23,34 @@ impl Random {
     }
 }
 
+/// What the store has of a block.
 #[derive(Clone, PartialEq, Debug)]
 enum Slot {
     Holds(Vec<u8>),
     Unused,
     Unreadable,
+    Blank,
+}
+
+impl Slot {
+    /// What a sector is.
+    fn of(mark: u8, bytes: &[u8]) -> Slot {
+        match mark {
+            BLANK => Slot::Blank,
+            RECORDED => Slot::Holds(bytes.to_vec()),
+            _ => Slot::Unreadable,
+        }
+    }
+
+    /// What reading it gives: its bytes, or a line.
+    fn seen(&self) -> Result<&[u8], u32> {
+        match self {
+            Slot::Holds(bytes) => Ok(bytes),
+            Slot::Unused => Err(13),
+            Slot::Blank => Err(25),
+            Slot::Unreadable => Err(14),
+        }
+    }
 }
 
 /// What a call of a list is.
@@ -88,6 +112,30 @@ fn data_sectors(n: usize) -> u32 {
 }
 
 impl Store {
+    /// A disc as it was first opened.
+    fn of(world: &World) -> Store {
+        let is_once = world.maps.len() == 70;
+        let sector = |at: u32| Slot::of(world.marks[at as usize], &world.disc[SECTOR * at as usize..][..SECTOR]);
+        let blocks: Vec<Slot> = if is_once {
+            let entries = &world.table[..world.record[1] as usize];
+            entries.iter().map(|&entry| if entry == NONE { Slot::Unused } else { sector(world.s + entry) }).collect()
+        } else {
+            (0..world.l).map(|b| sector(world.s + b)).collect()
+        };
+        Store { is_once, copy: blocks.clone(), blocks }
+    }
+
+    /// Whether a call saves a block that is there, of the right length, and so reads the others of its packet.
+    fn reads_others(&self, call: &Call) -> bool {
+        !self.is_once && call.kind == Kind::SaveBlock && (call.number as usize) < self.blocks.len() && call.bytes.len() == SECTOR
+    }
+
+    /// The line by which such a save is turned down: that of the first of the others of its packet that has no bytes.
+    fn save_line(&self, b: usize) -> Option<u32> {
+        let start = b - b % PACKET;
+        (start..start + PACKET).filter(|&i| i != b).find_map(|i| self.blocks[i].seen().err())
+    }
+
     /// A call that was accepted.
     fn take(&mut self, call: &Call, is_cut: bool) {
         let b = call.number as usize;
@@ -179,7 +227,7 @@ impl World {
     }
 }
 
-/// A new disc of one of the kinds, and its number of sparing tables.
+/// A new disc of one of the kinds, opened, with some blocks that are blank or unreadable.
 fn new_world(layer: &Layer, random: &mut Random) -> World {
     let is_once = random.below(2) == 0;
     let tables: &[u32] = if is_once { &[] } else { &[0, 32, 64][..1 + random.below(3) as usize] };
@@ -197,6 +245,22 @@ fn new_world(layer: &Layer, random: &mut Random) -> World {
     };
     let spares: &[u32] = &[96, 160, 128][..random.below(4) as usize];
     assert_eq!((layer.make)(&mut world.disc, &mut world.marks, &world.maps, s, l, spares), 0);
+    let is_as_made = random.below(4) == 0;
+    if is_once && !is_as_made {
+        // blocks 0 to 5 at logical blocks 1 to 6, of which one is freed
+        let block = |v| Call { kind: Kind::SaveVirtual, number: v, cut_at: 0, cut_effect: 0, bytes: vec![v as u8; SECTOR] };
+        let mut calls: Vec<Call> = (0..6).map(block).collect();
+        calls.push(Call { kind: Kind::FreeVirtual, number: random.below(6), bytes: Vec::new(), ..block(0) });
+        calls.push(Call { kind: Kind::Commit, bytes: Vec::new(), ..block(0) });
+        assert_eq!(world.run(layer, &calls), (0, vec![0; 8]));
+    }
+    let blocks = if is_once { s + 1..s + 7 } else { s..s + l };
+    for _ in 0..if is_as_made { 0 } else { random.below(5) } {
+        let at = blocks.start + random.below(blocks.len() as u32);
+        world.marks[at as usize] = [BLANK, UNREADABLE][random.below(2) as usize];
+    }
+    let World { disc, marks, maps, s, l, table, record } = &mut world;
+    assert_eq!((layer.open)(disc, marks, maps, *s, *l, table, record), 0);
     world
 }
 
@@ -236,15 +300,12 @@ fn draw(random: &mut Random, is_once: bool, known: usize, l: u32) -> Call {
     Call { kind, number, cut_at, cut_effect: random.below(4), bytes }
 }
 
-/// What the store holds is what is read: bytes, 13 where unused, 14 where unreadable, 12 from the number of blocks upward.
+/// What the store holds is what is read: bytes, 13 where unused, 25 where blank, 14 where unreadable, 12 from the number of blocks upward.
 fn holds(layer: &Layer, world: &World, store: &Store) {
     for (v, slot) in store.blocks.iter().enumerate() {
         let read = world.read(layer, v as u32);
-        match slot {
-            Slot::Holds(bytes) => assert!(read.as_ref() == Ok(bytes), "{}: block {v} reads otherwise", layer.name),
-            Slot::Unused => assert_eq!(read, Err(13), "{}: block {v}", layer.name),
-            Slot::Unreadable => assert_eq!(read, Err(14), "{}: block {v}", layer.name),
-        }
+        assert_eq!(read.as_ref().err(), slot.seen().as_ref().err(), "{}: block {v}", layer.name);
+        assert!(read.as_deref().ok() == slot.seen().ok(), "{}: block {v} reads otherwise", layer.name);
     }
     for v in [store.blocks.len() as u32, store.blocks.len() as u32 + 1, NONE] {
         assert_eq!(world.read(layer, v), Err(12), "{}: block {v}", layer.name);
@@ -254,15 +315,20 @@ fn holds(layer: &Layer, world: &World, store: &Store) {
 fn try_lists(layer: &Layer, seed: u64, discs: u32) {
     let mut random = Random(seed);
     let (mut compared, mut cut) = (0, 0);
+    // how often the lines 25 and 14 came up, in reading on discs of either kind and in saving a block
+    let mut met = [[0; 2]; 3];
+    let mut meet = |place: usize, line: u32| match line {
+        25 => met[place][0] += 1,
+        14 => met[place][1] += 1,
+        _ => {}
+    };
     for _ in 0..discs {
         let mut world = new_world(layer, &mut random);
-        let is_once = world.maps.len() == 70;
-        let blocks = if is_once { Vec::new() } else { vec![Slot::Holds(vec![0; SECTOR]); world.l as usize] };
-        let mut store = Store { is_once, copy: blocks.clone(), blocks };
+        let mut store = Store::of(&world);
         for _ in 0..8 {
             let mut calls: Vec<Call> = Vec::new();
             for _ in 0..random.below(14) {
-                calls.push(draw(&mut random, is_once, store.blocks.len() + calls.len() / 2, world.l));
+                calls.push(draw(&mut random, store.is_once, store.blocks.len() + calls.len() / 2, world.l));
             }
             let (opened, replies) = world.run(layer, &calls);
             assert_eq!(opened, 0, "{}: the list's opening is accepted", layer.name);
@@ -273,6 +339,11 @@ fn try_lists(layer: &Layer, seed: u64, discs: u32) {
                 // after a cut the next call is an opening
                 let call = if down { &open } else { call };
                 assert!(call.kind != Kind::Open || reply == 0, "{}: every opening is accepted", layer.name);
+                if store.reads_others(call) {
+                    let line = if reply == CUT { 0 } else { reply };
+                    assert_eq!(line, store.save_line(call.number as usize).unwrap_or(0), "{}: {}", layer.name, call.number);
+                    meet(2, line);
+                }
                 if reply == 0 || reply == CUT {
                     store.take(call, reply == CUT);
                 }
@@ -282,11 +353,13 @@ fn try_lists(layer: &Layer, seed: u64, discs: u32) {
                 cut += 1;
             } else {
                 holds(layer, &world, &store);
+                store.blocks.iter().filter_map(|slot| slot.seen().err()).for_each(|line| meet(usize::from(store.is_once), line));
                 compared += 1;
             }
         }
     }
     assert!(compared > 0 && cut > 0);
+    assert!(met.as_flattened().iter().all(|&times| times > 0), "{met:?}");
 }
 
 #[test]

@@ -339,7 +339,7 @@ fn spare_it(mut open: Open, b: u32, given: Option<Vec<u8>>, zeros: bool, cut: Cu
     let spared = format!("spared the packet of block {}: it is now at sector {}", grouped(b), grouped(View::from(&open).packet_place(b)));
     Ok(match blocks.not_recorded() {
         words if words.is_empty() => spared,
-        words => format!("{spared}; zeros stand for {words}"),
+        words => format!("{spared}; blocks that became zeros: {words}"),
     })
 }
 
