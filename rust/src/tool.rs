@@ -138,9 +138,9 @@ const ENTRIES: [Entry; 15] = [
         line: "what kind of disc this is, and how full",
         help: "tuormik info IMAGE.. [--json]
 
-Opens the disc of each image and tells its kind, how many blocks are used, how many more fit and how full it is, then in the letters of
-document 01 S, L, N, NWA, the last VAT ICB, how many sectors were passed over, and what they are; of a rewritable disc R, the sequence,
-and the spares.
+Opens the disc of each image and tells its kind, how many blocks are used, and of these unreadable or blank (never recorded), how many more
+fit and how full it is, then in the letters of document 01 S, L, N, NWA, the last VAT ICB, how many sectors were passed over, and what they
+are; of a rewritable disc R, the sequence, and the spares.
   --json               a JSON list with an object an image, its numbers without commas
 ",
         run: info::info,
@@ -304,7 +304,8 @@ before.
         help: "tuormik map IMAGE PICTURE
 
 Draws the sectors of the disc, row by row: blank (never recorded), recorded, live (a block of the current table), unreadable, VAT ICBs,
-sparing tables, spares, and a line around the partition. Where the disc is turned down it is drawn from its marks alone. PICTURE ends in .svg or .ppm.
+sparing tables, spares, and a line around the partition. Where the disc is turned down it is drawn from its marks alone. PICTURE ends in
+.svg or .ppm.
 ",
         run: commands::map,
     },
