@@ -160,14 +160,7 @@ fn stopped(why: Refusal) -> Examined
 {
     Examined {
         verdict: Verdict::Stop(why),
-        volume: Volume {
-            span: Span {
-                start: 0,
-                length: 0,
-            },
-            kind: Kind::WriteOnce { partition: 0 },
-            tables: [0; 4],
-        },
+        volume: maps::no_volume(),
     }
 }
 

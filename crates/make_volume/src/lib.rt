@@ -117,12 +117,7 @@ fn unmade(why: Refusal, volume: Volume) -> Judged
 {
     Judged {
         verdict: Verdict::Stop(why),
-        layout: Layout {
-            volume,
-            sectors: 0,
-            count: 0,
-            size: 0,
-        },
+        layout: sparing_current::layout_of(volume, 0, 0, 0),
         at: sparing_copies::nowhere(),
     }
 }

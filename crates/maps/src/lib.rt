@@ -104,20 +104,27 @@ pub struct MapsRead {
     pub volume: Volume,
 }
 
+// What stands for the volume of a list that is turned down.
+pub fn no_volume() -> Volume
+    ensures { λ r. ⌜ r ≡ noVolume ⌝ }
+{
+    Volume {
+        span: Span {
+            start: 0,
+            length: 0,
+        },
+        kind: Kind::WriteOnce { partition: 0 },
+        tables: [0; 4],
+    }
+}
+
 // A reading that is turned down.
 fn refused(why: Refusal) -> MapsRead
     ensures { λ r. ⌜ r ≡ answered (Verdict.Stop why) noVolume ⌝ }
 {
     MapsRead {
         verdict: Verdict::Stop(why),
-        volume: Volume {
-            span: Span {
-                start: 0,
-                length: 0,
-            },
-            kind: Kind::WriteOnce { partition: 0 },
-            tables: [0; 4],
-        },
+        volume: no_volume(),
     }
 }
 

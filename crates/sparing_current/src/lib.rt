@@ -62,12 +62,7 @@ fn turned_down(why: Refusal, volume: Volume) -> Looked
 {
     Looked {
         verdict: Verdict::Stop(why),
-        layout: Layout {
-            volume,
-            sectors: 0,
-            count: 0,
-            size: 0,
-        },
+        layout: layout_of(volume, 0, 0, 0),
         at: sparing_copies::nowhere(),
         sequence: 0,
         entries: 0,
