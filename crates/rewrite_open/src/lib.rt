@@ -7,10 +7,8 @@ use model::Given;
 use model::Opened;
 use model::Record;
 use model::SECTOR;
-use refusal::Refusal;
 use refusal::Verdict;
 ghost use mathlib.Core.Path.{_≡_};
-ghost use Prim.Native.Nat.{_+_, _*_};
 ghost use Rattle.model.specs.Disc.{disc as discOf};
 ghost use Rattle.model.specs.Examine.{setting};
 ghost use Rattle.rewrite_open.specs.Calls.{openingRewritable, openedRewritable, readingBlock, readBlockBytes};
@@ -67,16 +65,12 @@ pub fn read_block(
 {
     let b = LogicalAddress(b);
     let lent = examine::are_lent(table, out, SECTOR);
-    let judged = sparing_current::judge(disc, marks, maps, s, l, table, lent, held);
-    let verdict = judged.verdict;
+    let placed = sparing_place::place_block(disc, marks, maps, s, l, table, lent, held, b);
+    let verdict = placed.verdict;
     if let Verdict::Stop(why) = verdict {
         return Given::Refused(why);
     }
-    let span = judged.layout.volume.span;
-    if span.length <= b.0 {
-        return Given::Refused(Refusal::NumberOutside);
-    }
-    let first = sparing_current::packet_place(table, held, span.start, b);
+    let first = placed.first;
     let at = address::up_from(first, b.0 % PACKET);
     if let Verdict::Stop(why) = disc_read::judge_sector(marks, at) {
         return Given::Refused(why);

@@ -1,18 +1,16 @@
 -- Laws of a save of a block and of a packet: its lent lengths, its own lines, and what it may rely on once nothing stops it. Assumes nothing.
-use Prim.Native.Nat.{ℕ, _+_, _-_, _*_, _%_, _≤_, _<_}
+use Prim.Native.Nat.{ℕ, _+_, _-_, _*_, _%_, _≤_}
 use mathlib.Core.Bool.{Bool, true, _&&_}
-use mathlib.Core.Path.{_≡_, refl, sym, ap, _∙_}
-use mathlib.Core.List.{List}
+use mathlib.Core.Path.{_≡_, sym, ap, _∙_}
+use mathlib.Core.List.{List, [], _∷_}
 use native.Mathlib.Omega.{arith}
-use borrow.Author.Tests.{ltb-true, leb-true, eqb-true, eq-eqb, ne-eqb, lt-ltb, le-ltb}
+use borrow.Author.Tests.{eqb-true}
 use lib.ListN.{length}
-use lib.Dec.{eqb, ltb}
+use lib.Dec.{eqb}
 use Rattle.refusal.specs.declared.Refusal.{Refusal}
-use Rattle.refusal.specs.declared.Refusal.the-variants.{NumberOutside}
 use Rattle.refusal.specs.declared.Verdict.{Verdict}
 use Rattle.refusal.specs.declared.Verdict.the-variants.{Go, Stop}
 use Rattle.refusal.specs.Tests.{first}
-use Rattle.refusal.proofs.Laws.{goes, stops, passed}
 use Rattle.model.specs.declared.Cut.{Cut}
 use Rattle.model.specs.declared.Record.{Record}
 use Rattle.model.specs.Disc.{Disc, firstMark, markTests}
@@ -21,13 +19,14 @@ use Rattle.model.specs.Sparing.{packetOf}
 use Rattle.model.specs.Examine.{Setting, lentTable}
 use Rattle.model.specs.Rewrite.{rewritableVerdict, placeOf, otherMark, blockTest, saveBlockTests, blockLent, packetWrites, replaced, saveBlockPlan, packetTests, packetLent, savePacketPlan}
 use Rattle.model.specs.Plan.{carry}
-use Rattle.model.proofs.Basics.{and-true, and-false, and-false-left, both}
+use Rattle.model.proofs.Basics.{and-true}
 use Rattle.model.proofs.Marks.{others-below, others-above}
 use Rattle.model.proofs.Verdicts.{unless-go}
 use Rattle.model.proofs.SectorsRuns.{length-upward}
 use Rattle.model.proofs.SparingLaws.{packet-own}
 use Rattle.sparing_current.proofs.Held.{place-on}
-use Rattle.rewrite_save.proofs.Laws.{going-all}
+use Rattle.sparing_place.proofs.Laws.{going-all, found, place-stops, place-goes}
+use Rattle.sparing_place.proofs.Packets.{packet-bytes, packet-tells}
 
 -- ---- the lent lengths
 
@@ -36,48 +35,39 @@ pub block-lent : (t block : List ℕ) {x : Bool} → x ≡ (lentTable t && eqb (
 unfolding blockLent
 block-lent t block h = h
 
--- of a packet
-pub packet-lent : (t packet : List ℕ) {x : Bool} → x ≡ (lentTable t && eqb (length packet) 65536) → x ≡ packetLent t packet
-unfolding packetLent
-packet-lent t packet h = h
-
--- the table is long enough
-pub table-lent : (t : List ℕ) (b : Bool) {x : Bool} → x ≡ (lentTable t && b) → x ≡ true → 4096 ≤ length t
-unfolding lentTable
-table-lent t b h q = leb-true 4096 (length t) (and-true (lentTable t) b (sym h ∙ q) .0)
-
 -- a block's bytes
 pub block-bytes : (t block : List ℕ) → blockLent t block ≡ true → length block ≡ 2048
 unfolding blockLent
 block-bytes t block h = eqb-true (length block) 2048 (and-true (lentTable t) (eqb (length block) 2048) h .1)
 
--- a packet's bytes
-pub packet-bytes : (t packet : List ℕ) → packetLent t packet ≡ true → length packet ≡ 65536
-unfolding packetLent
-packet-bytes t packet h = eqb-true (length packet) 65536 (and-true (lentTable t) (eqb (length packet) 65536) h .1)
+-- ---- lines 25 and 14 of a block, after what `place_block` said, w; x is what the test of the lent lengths did
 
--- ---- lines 12, 25 and 14 of a block
+module _ (e : Setting) (d : Disc) (t : List ℕ) (held : Record) (b : ℕ) (block : List ℕ) {x : Bool} {w : Verdict} (is : x ≡ blockLent t block) (says : w ≡ rewritableVerdict e d t x held (blockTest e b ∷ [])) where
+  -- the verdict of the save
+  abbrev verdict : Verdict
+  verdict = rewritableVerdict e d t (blockLent t block) held (saveBlockTests e d b)
 
-module _ (e : Setting) (d : Disc) (b : ℕ) where
-  -- there is no block b
-  pub block-outside : e .span ≤ b → Stop NumberOutside ≡ first (saveBlockTests e d b)
-  unfolding saveBlockTests blockTest
-  block-outside h = stops _ (le-ltb b (e .span) h)
+  -- it stops the save
+  pub block-stops : {why : Refusal} → w ≡ Stop why → Stop why ≡ verdict
+  unfolding saveBlockTests
+  block-stops h = sym (place-stops e d t (blockLent t block) held b is says _ h)
 
-  -- there is one, its packet is at p, and x is the verdict on the sectors before it
-  module _ (low : b < e .span) {p : ℕ} (at : p ≡ placeOf e d (packetOf b)) {x : Verdict} (below : x ≡ first (markTests (firstMark d p (b % 32)))) where
+  -- it lets it go on, the packet is at p, and y is the verdict on the sectors before the block
+  module _ (go : w ≡ Go) {p : ℕ} (at : p ≡ placeOf e d (packetOf b)) {y : Verdict} (below : y ≡ first (markTests (firstMark d p (b % 32)))) where
     -- the lines of all others
-    others : first (markTests (otherMark d p (b % 32))) ≡ first (saveBlockTests e d b)
-    unfolding saveBlockTests blockTest
-    others = goes _ (lt-ltb b (e .span) low) (ap (λ (q : ℕ). first (markTests (otherMark d q (b % 32)))) at)
+    others : first (markTests (otherMark d p (b % 32))) ≡ verdict
+    unfolding saveBlockTests
+    others =
+        ap (λ (q : ℕ). first (markTests (otherMark d q (b % 32)))) at
+        ∙ sym (place-goes e d t (blockLent t block) held b is says _ go)
 
     -- one before it is not recorded
-    pub block-before : {why : Refusal} → x ≡ Stop why → Stop why ≡ first (saveBlockTests e d b)
+    pub block-before : {why : Refusal} → y ≡ Stop why → Stop why ≡ verdict
     block-before h = sym h ∙ below ∙ sym (others-below d p (b % 32) (sym below ∙ h)) ∙ others
 
-    -- all those are, and y is the verdict on the sectors after it
-    module _ (all : x ≡ Go) {q : ℕ} (behind : q ≡ p + (b % 32 + 1)) {y : Verdict} (above : y ≡ first (markTests (firstMark d q (31 - b % 32)))) where
-      pub block-after : y ≡ first (saveBlockTests e d b)
+    -- all those are, and z is the verdict on the sectors after it
+    module _ (all : y ≡ Go) {q : ℕ} (behind : q ≡ p + (b % 32 + 1)) {z : Verdict} (above : z ≡ first (markTests (firstMark d q (31 - b % 32)))) where
+      pub block-after : z ≡ verdict
       block-after =
           let k : q ≡ p + b % 32 + 1 = omega (arith, behind) in
           above
@@ -96,16 +86,10 @@ pub record SavesBlock (e : Setting) (d : Disc) (t : List ℕ) (held : Record) (b
 
 -- from its verdict
 pub saves-block : (e : Setting) (d : Disc) (t : List ℕ) (held : Record) (b : ℕ) (block : List ℕ) {v : Verdict} → v ≡ rewritableVerdict e d t (blockLent t block) held (saveBlockTests e d b) → v ≡ Go → SavesBlock e d t held b block
-unfolding saveBlockTests blockTest
+unfolding saveBlockTests
 saves-block e d t held b block f g =
-    let a = going-all e d t (blockLent t block) held (saveBlockTests e d b) (sym f ∙ g) in
-    let low : b < e .span = ltb-true b (e .span) (passed (saveBlockTests e d b) (a .1) .0) in
-    record {
-      on = place-on e d t _ held (a .0) b low;
-      most = a .0 .few;
-      shape = a .0 .shape;
-      whole = block-bytes t block (a .0 .lengths);
-    }
+    let h = found e d t (blockLent t block) held b _ (sym f ∙ g) in
+    record { on = h .on; most = h .most; shape = h .shape; whole = block-bytes t block (h .told .lengths) }
 
 -- its plan
 pub block-plan : (e : Setting) (d : Disc) (t : List ℕ) (held : Record) (b : ℕ) (block : List ℕ) {v : Verdict} → v ≡ rewritableVerdict e d t (blockLent t block) held (saveBlockTests e d b) → v ≡ Go → saveBlockPlan e d t held b block ≡ carry (packetWrites (placeOf e d (packetOf b)) (replaced d (placeOf e d (packetOf b)) (b % 32) block)) t held
@@ -121,31 +105,6 @@ packet-struck c p bytes h q = ap (struck c) (length-upward 32 p bytes 0) ∙ sym
 pub block-written : (c : Cut) (e : Setting) (d : Disc) (b : ℕ) (block : List ℕ) {p : ℕ} {d′ : Disc} → p ≡ placeOf e d (packetOf b) → d′ ≡ writes 1 c (packetWrites p (replaced d p (b % 32) block)) d → d′ ≡ writes 1 c (packetWrites (placeOf e d (packetOf b)) (replaced d (placeOf e d (packetOf b)) (b % 32) block)) d
 block-written c e d b block q w =
     w ∙ ap (λ (k : ℕ). writes 1 c (packetWrites k (replaced d k (b % 32) block)) d) q
-
--- ---- line 12 of a packet
-
-module _ (e : Setting) (b : ℕ) where
-  -- b is not a packet's start
-  pub packet-off : (b % 32 ≡ 0 → ⊥) → Stop NumberOutside ≡ first (packetTests e b)
-  unfolding packetTests
-  packet-off h = stops _ (and-false-left _ (ne-eqb (b % 32) 0 h))
-
-  -- there is no block b
-  pub packet-outside : e .span ≤ b → Stop NumberOutside ≡ first (packetTests e b)
-  unfolding packetTests
-  packet-outside h = stops _ (and-false (eqb (b % 32) 0) (le-ltb b (e .span) h))
-
-  -- it is a packet's start
-  pub packet-fits : b % 32 ≡ 0 → b < e .span → Go ≡ first (packetTests e b)
-  unfolding packetTests
-  packet-fits h l = goes _ (both (eq-eqb (b % 32) 0 h) (lt-ltb b (e .span) l)) refl
-
-  -- what the line tells
-  pub packet-tells : first (packetTests e b) ≡ Go → (b % 32 ≡ 0) × (b < e .span)
-  unfolding packetTests
-  packet-tells h =
-      let p = and-true (eqb (b % 32) 0) (ltb b (e .span)) (passed (packetTests e b) h .0) in
-      (eqb-true (b % 32) 0 (p .0), ltb-true b (e .span) (p .1))
 
 -- ---- what a save of a packet may rely on
 

@@ -2,7 +2,6 @@
 // examines what it gets and refuses with the first line of document 01 that applies; a refusal leaves every
 // lent byte as it came. No call has a requires.
 use address::LogicalAddress;
-use address::PhysicalAddress;
 use maps::PACKET;
 use model::Cut;
 use model::PACKET_BYTES;
@@ -11,27 +10,10 @@ use model::Reply;
 use model::SECTOR;
 use refusal::Refusal;
 use refusal::Verdict;
-ghost use mathlib.Core.Path.{_≡_};
-ghost use Rattle.refusal.specs.declared.Verdict;
+use sparing_place::Placed;
 ghost use Rattle.model.specs.Disc.{disc as discOf};
 ghost use Rattle.model.specs.Lent.{lent, SavesBlock, SavesPacket};
 ghost use Rattle.rewrite_save.specs.Placed.{JudgesBlock, JudgesPacket};
-
-// What a save is judged to be: a verdict, and where it says Go the first sector of its packet.
-struct Placed {
-    verdict: Verdict,
-    first: PhysicalAddress,
-}
-
-// A save that is turned down.
-fn stopped(why: Refusal) -> Placed
-    ensures { λ r. ⌜ r .verdict ≡ Verdict.Stop why ⌝ }
-{
-    Placed {
-        verdict: Verdict::Stop(why),
-        first: sparing_copies::nowhere(),
-    }
-}
 
 // ---- saving a block
 
@@ -51,28 +33,21 @@ fn judge_block(
         (now (table .entry)) held (b .0) (now (block .entry)) r ⌝ }
 {
     let lent = examine::are_lent(table, block, SECTOR);
-    let judged = sparing_current::judge(disc, marks, maps, s, l, table, lent, held);
-    let verdict = judged.verdict;
-    if let Verdict::Stop(why) = verdict {
-        return stopped(why);
+    let placed = sparing_place::place_block(disc, marks, maps, s, l, table, lent, held, b);
+    let verdict = placed.verdict;
+    if let Verdict::Stop(_) = verdict {
+        return placed;
     }
-    let span = judged.layout.volume.span;
-    if span.length <= b.0 {
-        return stopped(Refusal::NumberOutside);
-    }
-    let first = sparing_current::packet_place(table, held, span.start, b);
+    let first = placed.first;
     let i = b.0 % PACKET;
     if let Verdict::Stop(why) = disc_read::judge_run(marks, first, i as usize) {
-        return stopped(why);
+        return sparing_place::stopped(why);
     }
     let after = address::up_from(first, i + 1);
     if let Verdict::Stop(why) = disc_read::judge_run(marks, after, (31 - i) as usize) {
-        return stopped(why);
+        return sparing_place::stopped(why);
     }
-    Placed {
-        verdict: Verdict::Go,
-        first,
-    }
+    placed
 }
 
 // Saves a block as block b: its packet is read, and written again with this block replaced.
@@ -123,23 +98,15 @@ fn judge_packet(
         (now (table .entry)) held (b .0) (now (packet .entry)) r ⌝ }
 {
     let lent = examine::are_lent(table, packet, PACKET_BYTES);
-    let judged = sparing_current::judge(disc, marks, maps, s, l, table, lent, held);
-    let verdict = judged.verdict;
-    if let Verdict::Stop(why) = verdict {
-        return stopped(why);
+    let placed = sparing_place::place_block(disc, marks, maps, s, l, table, lent, held, b);
+    let verdict = placed.verdict;
+    if let Verdict::Stop(_) = verdict {
+        return placed;
     }
     if b.0 % PACKET != 0 {
-        return stopped(Refusal::NumberOutside);
+        return sparing_place::stopped(Refusal::NumberOutside);
     }
-    let span = judged.layout.volume.span;
-    if span.length <= b.0 {
-        return stopped(Refusal::NumberOutside);
-    }
-    let first = sparing_current::packet_place(table, held, span.start, b);
-    Placed {
-        verdict: Verdict::Go,
-        first,
-    }
+    placed
 }
 
 // Saves a packet: its 32 sectors are written, wherever it is read.

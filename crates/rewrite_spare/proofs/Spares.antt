@@ -40,8 +40,8 @@ use Rattle.sparing_current.specs.Held.{countHeld, sequenceHeld, entriesLent}
 use Rattle.rewrite_spare.specs.Parts.{SparingJudgedAs, sparingWrites}
 use Rattle.sparing_current.proofs.Held.{count-held, sequence-held, room-held, entries-lent}
 use Rattle.sparing_current.proofs.Judging.{Laid, laid}
-use Rattle.rewrite_save.proofs.Laws.{going-all}
-use Rattle.rewrite_save.proofs.Saves.{packet-bytes, packet-off, packet-outside, packet-fits, packet-tells}
+use Rattle.sparing_place.proofs.Laws.{going-all}
+use Rattle.sparing_place.proofs.Packets.{packet-bytes, packet-off, packet-outside, packet-fits, packet-tells}
 
 -- ---- the free entry of lowest index
 

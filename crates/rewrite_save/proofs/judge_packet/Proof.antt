@@ -1,17 +1,12 @@
 -- `rewrite_save::judge_packet` meets its contract: each return by the law of its line. Assumes nothing.
-use Prim.Native.Nat.{_<_}
-use mathlib.Core.Path.{_≡_, ap, _∙_}
-use native.Mathlib.Omega.{arith}
+use mathlib.Core.Path.{sym, ap, _∙_}
 use borrow.Author.Needs.{needs}
 use Rattle.model.specs.Disc.{Disc, disc}
 use Rattle.model.specs.Examine.{Setting, setting}
-use Rattle.model.specs.Rewrite.{placeOf, packetLent}
+use Rattle.model.specs.Rewrite.{placeOf}
 use Rattle.model.proofs.SparingLaws.{packet-own}
-use Rattle.sparing_current.proofs.Laws.{Common, going}
-use Rattle.sparing_current.proofs.Held.{room-held, sum-small}
-use Rattle.sparing_current.proofs.Judging.{span-start, span-length}
-use Rattle.rewrite_save.proofs.Laws.{stops-call, goes-call, placed-stop, place-laid}
-use Rattle.rewrite_save.proofs.Saves.{packet-lent, table-lent, packet-off, packet-outside, packet-fits}
+use Rattle.sparing_place.proofs.Laws.{table-lent, placed-stop}
+use Rattle.sparing_place.proofs.Packets.{packet-lent, packet-stops, packet-amiss, packet-goes}
 use Rattle.rewrite_save.proofs.judge_packet.Statement.{statement}
 use Rattle.rewrite_save.proofs.judge_packet.Tie as tie
 
@@ -22,92 +17,46 @@ settingOf z = setting (z .args .maps .now) (z .args .s) (z .args .l)
 abbrev discOf : tie.Start → Disc
 discOf z = disc (z .args .disc .now) (z .args .marks .now)
 
--- what the common tests tell where they let it go on
-abbrev Telling : tie.Start → Type 0
-Telling z = Common (settingOf z) (discOf z) (z .args .table .now) (packetLent (z .args .table .now) (z .args .packet .now)) (z .args .held)
-
-told : (c : tie.After-enum-told) → Telling (c .before .before .before .before .before .before .before .before .before)
-told c =
-    let z = c .before .before .before .before .before .before .before .before .before in
-    going (settingOf z) (discOf z) (z .args .table .now) (packetLent (z .args .table .now) (z .args .packet .now)) (z .args .held) (packet-lent _ _ (c .before .before .before .are-lent .ensures)) (c .before .before .judge .ensures .verdict) (c .enum-told .given .1)
-
--- S and L of the volume are those of the call
-spanned : (c : tie.After-enum-told) → let z = c .before .before .before .before .before .before .before .before .before in let x = c .before .before .judge .result .layout in (x .volume .span .start ≡ z .args .s) × (x .volume .span .length ≡ z .args .l)
-spanned c =
-    let z = c .before .before .before .before .before .before .before .before .before in
-    let x = c .before .before .judge .result .layout in
-    let q = c .before .before .judge .ensures .layout (c .enum-told .given .1) in
-    (span-start (settingOf z) (discOf z) x q, span-length (settingOf z) (discOf z) x q)
-
--- the packet begins at a block of the partition
-within : (c : tie.Else2) → let z = c .before .before .before .before .before .before .before .before .before .before .before .before .before .before .before in z .args .b .0 < z .args .l
-within c = omega (arith, spanned (c .before .before .before .before .before .before) .1, c .if2 .left)
-
 are-lent-requires : tie.Need-are-lent-requires
 are-lent-requires c κs = search needs
 
-judge-requires : tie.Need-judge-requires
-judge-requires c κs = λ h. table-lent (c .before .before .before .before .before .before .args .table .now) _ (c .are-lent .ensures) h
-
-enum-known-verdict : tie.Need-enum-known-verdict
-enum-known-verdict c = search needs
-
-stopped-requires : tie.Need-stopped-requires
-stopped-requires c κs = search needs
-
-returns : tie.Need-returns
-returns c =
-    let z = c .before .before .before .before .before .before .before .before .before .before .before in
-    placed-stop _ (c .stopped .ensures)
-    (stops-call (settingOf z) (discOf z) (z .args .table .now) _ (z .args .held) _ (packet-lent _ (z .args .packet .now) (c .before .before .before .before .before .are-lent .ensures)) (c .before .before .before .before .judge .ensures .verdict) (c .before .before .verdict .given .1))
+place-block-requires : tie.Need-place-block-requires
+place-block-requires c κs = λ h. table-lent (c .before .before .before .before .before .before .args .table .now) _ (c .are-lent .ensures) h
 
 enum-told : tie.Need-enum-told
 enum-told c = search needs
 
-stopped-requires-2 : tie.Need-stopped-requires-2
-stopped-requires-2 c κs = search needs
+returns : tie.Need-returns
+returns k =
+    let z = k .before .before .before .before .before .before .before .before .before in
+    let h = k .enum-told .given .1 in
+    placed-stop _ h (sym (packet-stops (settingOf z) (discOf z) (z .args .table .now) _ (z .args .held) (z .args .b .0) (packet-lent _ (z .args .packet .now) (k .before .before .before .are-lent .ensures)) (k .before .before .place-block .ensures .verdict) h))
+
+enum-told-2 : tie.Need-enum-told-2
+enum-told-2 c = search needs
+
+stopped-requires : tie.Need-stopped-requires
+stopped-requires c κs = search needs
 
 returns-2 : tie.Need-returns-2
 returns-2 c =
-    let z = c .before .before .before .before .before .before .before .before .before .before .before .before in
-    placed-stop _ (c .stopped2 .ensures)
-    (goes-call (settingOf z) (discOf z) (z .args .table .now) _ (z .args .held) _ (packet-lent _ (z .args .packet .now) (c .before .before .before .before .before .before .are-lent .ensures)) (c .before .before .before .before .before .judge .ensures .verdict) (c .before .before .before .enum-told .given .1)
-    (packet-off (settingOf z) (z .args .b .0) (c .before .if1 .taken)))
-
-stopped-requires-3 : tie.Need-stopped-requires-3
-stopped-requires-3 c κs = search needs
+    let k = c .before .before .before in
+    let z = k .before .before .before .before .before .before .before .before .before in
+    placed-stop _ (c .stopped .ensures)
+    (sym (packet-amiss (settingOf z) (discOf z) (z .args .table .now) _ (z .args .held) (z .args .b .0) (packet-lent _ (z .args .packet .now) (k .before .before .before .are-lent .ensures)) (k .before .before .place-block .ensures .verdict) (k .enum-told2 .given .1) (c .before .if1 .taken)))
 
 returns-3 : tie.Need-returns-3
 returns-3 c =
-    let z = c .before .before .before .before .before .before .before .before .before .before .before .before .before .before .before .before in
-    placed-stop _ (c .stopped3 .ensures)
-    (goes-call (settingOf z) (discOf z) (z .args .table .now) _ (z .args .held) _ (packet-lent _ (z .args .packet .now) (c .before .before .before .before .before .before .before .before .before .before .are-lent .ensures)) (c .before .before .before .before .before .before .before .before .before .judge .ensures .verdict) (c .before .before .before .before .before .before .before .enum-told .given .1)
-    (packet-outside (settingOf z) (z .args .b .0) (omega (arith, spanned (c .before .before .before .before .before .before .before) .1, c .before .if2 .taken))))
-
-packet-place-requires : tie.Need-packet-place-requires
-packet-place-requires c κs =
-    let z = c .before .before .before .before .before .before .before .before .before .before .before .before .before .before .before in
-    let k = c .before .before .before .before .before .before in
-    let h = told k in (
-      room-held (settingOf z) (discOf z) (z .args .table .now) _ (z .args .held) h,
-      omega (arith, spanned k .0, sum-small (settingOf z) (discOf z) (z .args .table .now) _ (z .args .held) h (z .args .b .0) (within c)),
-    )
-
-returns-4 : tie.Need-returns-4
-returns-4 c =
-    let z = c .before .before .before .before .before .before .before .before .before .before .before .before .before .before .before .before in
-    let k = c .before .before .before .before .before .before .before in
+    let k = c .before .before in
+    let z = k .before .before .before .before .before .before .before .before .before in
+    let go = k .enum-told2 .given .1 in
     record {
-      verdict =
-          goes-call (settingOf z) (discOf z) (z .args .table .now) _ (z .args .held) _ (packet-lent _ (z .args .packet .now) (c .before .before .before .before .before .before .before .before .before .before .are-lent .ensures)) (c .before .before .before .before .before .before .before .before .before .judge .ensures .verdict) (c .before .before .before .before .before .before .before .enum-told .given .1)
-          (packet-fits (settingOf z) (z .args .b .0) (c .before .before .before .before .before .if1 .left) (within (c .before)));
+      verdict = go ∙ sym (packet-goes (settingOf z) (discOf z) (z .args .table .now) _ (z .args .held) (z .args .b .0) (packet-lent _ (z .args .packet .now) (k .before .before .before .are-lent .ensures)) (k .before .before .place-block .ensures .verdict) go (c .if1 .left));
       place =
-          λ _. c .packet-place .ensures
-          ∙ place-laid (settingOf z) (discOf z) (z .args .table .now) _ (z .args .held) (k .before .before .judge .result .layout) (told k) (k .before .before .judge .ensures .layout (k .enum-told .given .1)) (z .args .b .0)
-          ∙ ap (placeOf (settingOf z) (discOf z)) (packet-own (z .args .b .0) (c .before .before .before .before .before .if1 .left));
+          λ _. k .before .before .place-block .ensures .place go ∙ ap (placeOf (settingOf z) (discOf z)) (packet-own (z .args .b .0) (c .if1 .left));
     }
 
 pub judge-packet-spec : {M : Type 1} → statement M
 judge-packet-spec =
     tie.close
-    (tie.spec are-lent-requires judge-requires enum-known-verdict stopped-requires returns enum-told stopped-requires-2 returns-2 stopped-requires-3 returns-3 packet-place-requires returns-4)
+    (tie.spec are-lent-requires place-block-requires enum-told returns enum-told-2 stopped-requires returns-2 returns-3)

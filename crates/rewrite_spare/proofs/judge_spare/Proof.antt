@@ -8,8 +8,8 @@ use Rattle.sparing_current.proofs.Laws.{Common, going}
 use Rattle.refusal.proofs.Laws.{stop-go}
 use Rattle.sparing_current.proofs.Held.{sequence-held, room-held, entries-lent}
 use Rattle.sparing_current.proofs.Judging.{span-length, judged-stop}
-use Rattle.rewrite_save.proofs.Laws.{stops-call, goes-call}
-use Rattle.rewrite_save.proofs.Saves.{packet-lent, table-lent}
+use Rattle.sparing_place.proofs.Laws.{table-lent, stops-call, goes-call}
+use Rattle.sparing_place.proofs.Packets.{packet-lent}
 use Rattle.rewrite_spare.proofs.judge_spare.Statement.{statement}
 use Rattle.rewrite_spare.proofs.judge_spare.Tie as tie
 
