@@ -1,5 +1,6 @@
--- The claim `BlankStays` speaks of some disc: that of specs/Blank.antt. That opening accepts it and finds a blank block is computed, the CRC of its
--- ICB included; what the calls answer follows from the laws of RunSteps.antt, and what is read from demand 3 and the claim. Assumes nothing.
+-- The claims of specs/Blank.antt speak of some packets, and `BlankStays` of some disc. That opening accepts the disc and finds a blank block is
+-- computed, the CRC of its ICB included; what the calls answer follows from the laws of RunSteps.antt, and what is read from demand 3 and the
+-- claim. Assumes nothing.
 use Prim.Native.Nat.{ℕ}
 use mathlib.Core.Bool.{true, false}
 use mathlib.Core.Path.{_≡_, refl, ap, _∙_, subst}
@@ -19,19 +20,20 @@ use Rattle.maps.specs.Kinds.{virtualName, typeOne, typeTwo, isWriteOnce, volume
 use Rattle.maps.specs.Written.{typeOneMap, typeTwoMap, mapsOf}
 use Rattle.model.specs.declared.Record.{Record}
 use Rattle.model.specs.declared.Opened.{Opened}
-use Rattle.model.specs.Disc.{sector, mark, recorded, nwa, known, shapely, inside}
+use Rattle.model.specs.Disc.{sector, mark, recorded, recordedRun, firstMark, nwa, known, shapely, inside}
 use Rattle.model.specs.Writes.{landing, landed, write, writes, struck, noCut}
 use Rattle.model.specs.Vat.{vatName, none, fileFits, countOf, entriesOf, previousOf, belowOrNone, allBelow, tagFits, form, fileLength, attributes, allocation, entryFits, allocationFits, fileOf, tableFits, passes, vatIcb, vatFile, scan}
 use Rattle.model.specs.VatWritten.{fileBytes, dataSectors, writtenFile, filled, writtenAllocation, writtenForm, writtenEntry, tagWith, writtenTag, writtenIcb}
 use Rattle.model.specs.Examine.{volume, isOnce, writeOnce, shapeTests, placeTests, examined, lentTable}
 use Rattle.model.specs.Once.{nextOn, entriesHeld, nextHeld, isFound, foundAt, newest, newestFile, openOnceTests, foundRecord, passedOver, countAfter, roomToSave, saveTests}
+use Rattle.model.specs.Rewrite.{otherMark}
 use Rattle.model.specs.Both.{openVerdict, recordOn, passedOn, openedBy, opening}
 use Rattle.model.specs.Calls.{State, answers, answerOfOpening, isOpened, isCut, accepted, Proper, endsCut, final}
 use Rattle.model.specs.Store.{Slot, holds, blank, store, slotAt, entrySlot, entrySlots, blocksOn, start, shapeOf, cutIn, writesIn, wasCut, put, taken, next, bytes, turned, seenAs, look}
 use Rattle.model.specs.Demand.{afterOpening, followed, seen, Demand3}
 use Rattle.model.specs.Consequences.{Follows, saves, leaves, BlankStays}
 use Rattle.model.specs.Run.{lent, ones}
-use Rattle.model.specs.Blank.{four, named, others, othersGiven, BlankMet}
+use Rattle.model.specs.Blank.{FirstMet, four, named, others, othersGiven, BlankMet}
 use Rattle.model.proofs.OnceRead.{Live}
 use Rattle.model.proofs.OnceOpen.{first-live}
 use Rattle.model.proofs.OnceDemand.{accepted-goes}
@@ -39,6 +41,11 @@ use Rattle.model.proofs.Demand.{demand-3}
 use Rattle.model.proofs.RunSteps.{nextAfter, Between, told, told-none, isOpening, orderly, orderly-proper, standing, saved, committed, opened-again}
 use Rattle.model.proofs.Run.{bytesOnly, bytes-below, handed}
 use Rattle.model.proofs.BlankStays.{blank-stays}
+
+-- the closed packets are computed
+pub first-met : FirstMet
+unfolding firstMark otherMark recordedRun recorded mark
+first-met = record { unreadable = refl; blank = refl; above = refl; below = refl; own = refl }
 
 -- what is computed of the disc: opening finds the VAT, its ICB in block 1, and passes over no sector; its one entry names a blank block
 record Computed : Type 0 where

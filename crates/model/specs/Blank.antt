@@ -41,6 +41,19 @@ FirstOfOthers =
     → recorded d (p + i) ≡ false
     → otherMark d p k ≡ mark d (p + i)
 
+-- a disc of one packet that begins with these marks, and whose other sectors are recorded
+abbrev pub beginsWith : ℕ → ℕ → ℕ → Disc
+beginsWith a b c = disc [] (a ∷ b ∷ c ∷ replicate 29 1)
+
+-- closed packets: an unreadable sector before a blank one, and a blank one before an unreadable one; and where block 0 or block 1 is saved, its
+-- own sector is passed over
+pub record FirstMet : Type 0 where
+  pub unreadable : firstMark (beginsWith 1 2 0) 0 32 ≡ 2
+  pub blank : firstMark (beginsWith 1 0 2) 0 32 ≡ 0
+  pub above : otherMark (beginsWith 2 0 2) 0 0 ≡ 0
+  pub below : otherMark (beginsWith 2 0 0) 0 1 ≡ 2
+  pub own : otherMark (beginsWith 1 0 1) 0 1 ≡ 1
+
 -- ---- a disc whose VAT names a blank sector
 
 -- the map list of write-once partition 0; S is 0 and L is 4
