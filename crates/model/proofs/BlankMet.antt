@@ -18,10 +18,11 @@ use Rattle.tag.specs.Crc.{bitStep, bitsOf, bitsFrom, byteStep, crcFrom}
 use Rattle.maps.specs.Walk.{before as beforeRest, firstLength, firstWhole, walkUpTo, walk}
 use Rattle.maps.specs.Kinds.{virtualName, typeOne, typeTwo, isWriteOnce, volumeWith, volumeOf, tablesApart, tablesIn, tablesOf, kindTests, judged, answered, volumeIn, readMaps}
 use Rattle.maps.specs.Written.{typeOneMap, typeTwoMap, mapsOf}
+use Rattle.model.specs.declared.Effect.{Effect}
 use Rattle.model.specs.declared.Record.{Record}
 use Rattle.model.specs.declared.Opened.{Opened}
 use Rattle.model.specs.Disc.{sector, mark, recorded, recordedRun, firstMark, nwa, known, shapely, inside}
-use Rattle.model.specs.Writes.{landing, landed, write, writes, struck, noCut}
+use Rattle.model.specs.Writes.{onEffect, landing, landed, write, writes, struck, noCut}
 use Rattle.model.specs.Vat.{vatName, none, fileFits, countOf, entriesOf, previousOf, belowOrNone, allBelow, tagFits, form, fileLength, attributes, allocation, entryFits, allocationFits, fileOf, tableFits, passes, vatIcb, vatFile, scan}
 use Rattle.model.specs.VatWritten.{fileBytes, dataSectors, writtenFile, filled, writtenAllocation, writtenForm, writtenEntry, tagWith, writtenTag, writtenIcb}
 use Rattle.model.specs.Examine.{volume, isOnce, writeOnce, shapeTests, placeTests, examined, lentTable}
@@ -32,13 +33,13 @@ use Rattle.model.specs.Calls.{State, answers, answerOfOpening, isOpened,
 use Rattle.model.specs.Store.{Slot, holds, blank, store, slotAt, entrySlot, entrySlots, blocksOn, start, shapeOf, cutIn, writesIn, wasCut, put, taken, next, bytes, turned, seenAs, look}
 use Rattle.model.specs.Demand.{afterOpening, followed, seen, Demand3}
 use Rattle.model.specs.Consequences.{Follows, saves, leaves, BlankStays}
-use Rattle.model.specs.Run.{lent, ones}
-use Rattle.model.specs.Blank.{FirstMet, four, named, others, othersGiven, BlankMet}
+use Rattle.model.specs.Run.{lent, ones, failing}
+use Rattle.model.specs.Blank.{FirstMet, six, named, others, othersGiven, BlankMet}
 use Rattle.model.proofs.OnceRead.{Live}
 use Rattle.model.proofs.OnceOpen.{first-live}
 use Rattle.model.proofs.OnceDemand.{accepted-goes}
 use Rattle.model.proofs.Demand.{demand-3}
-use Rattle.model.proofs.RunSteps.{nextAfter, Between, told, told-none, isOpening, orderly, orderly-proper, standing, saved, committed, opened-again}
+use Rattle.model.proofs.RunSteps.{nextAfter, Between, told, told-none, isOpening, orderly, orderly-proper, standing, saved, save-cut, committed, opened-again}
 use Rattle.model.proofs.Run.{bytesOnly, bytes-below, handed}
 use Rattle.model.proofs.BlankStays.{blank-stays}
 
@@ -49,49 +50,51 @@ first-met = record { unreadable = refl; blank = refl; above = refl; below = refl
 
 -- what is computed of the disc: opening finds the VAT, its ICB in block 1, and passes over no sector; its one entry names a blank block
 record Computed : Type 0 where
-  once : writeOnce four ≡ true
-  maps : readMaps (four .maps) .verdict ≡ Go
-  opens : opening four named lent ≡ Opened.Open (Record.WriteOnce 1 2 1) 0
+  once : writeOnce six ≡ true
+  maps : readMaps (six .maps) .verdict ≡ Go
+  opens : opening six named lent ≡ Opened.Open (Record.WriteOnce 1 2 1) 0
   whole : bytesOnly (named .bytes) ≡ true
-  begins : start four named ≡ store (blank ∷ []) (blank ∷ [])
+  begins : start six named ≡ store (blank ∷ []) (blank ∷ [])
 
 computed : Computed
-unfolding bytesOnly four named lent writeOnce isOnce volume beforeRest firstLength firstWhole walkUpTo walk virtualName typeOne typeTwo isWriteOnce volumeWith volumeOf tablesApart tablesIn tablesOf kindTests judged answered volumeIn readMaps typeOneMap typeTwoMap mapsOf need part splice same join value digits field words quads identifier regid hasRegid total checksumOf bitStep bitsOf bitsFrom byteStep crcFrom sector mark recorded nwa known shapely inside landing landed write writes noCut vatName none fileFits countOf entriesOf previousOf belowOrNone allBelow tagFits form fileLength attributes allocation entryFits allocationFits fileOf tableFits passes vatIcb vatFile scan fileBytes dataSectors writtenFile filled writtenAllocation writtenForm writtenEntry tagWith writtenTag writtenIcb shapeTests placeTests examined lentTable nextOn isFound foundAt newest newestFile openOnceTests foundRecord passedOver openVerdict recordOn passedOn openedBy opening start blocksOn entrySlots entrySlot slotAt
+unfolding bytesOnly six named lent writeOnce isOnce volume beforeRest firstLength firstWhole walkUpTo walk virtualName typeOne typeTwo isWriteOnce volumeWith volumeOf tablesApart tablesIn tablesOf kindTests judged answered volumeIn readMaps typeOneMap typeTwoMap mapsOf need part splice same join value digits field words quads identifier regid hasRegid total checksumOf bitStep bitsOf bitsFrom byteStep crcFrom sector mark recorded nwa known shapely inside landing landed write writes noCut vatName none fileFits countOf entriesOf previousOf belowOrNone allBelow tagFits form fileLength attributes allocation entryFits allocationFits fileOf tableFits passes vatIcb vatFile scan fileBytes dataSectors writtenFile filled writtenAllocation writtenForm writtenEntry tagWith writtenTag writtenIcb shapeTests placeTests examined lentTable nextOn isFound foundAt newest newestFile openOnceTests foundRecord passedOver openVerdict recordOn passedOn openedBy opening start blocksOn entrySlots entrySlot slotAt
 computed = record { once = refl; maps = refl; opens = refl; whole = refl; begins = refl }
 
 abbrev st : State
-st = afterOpening four named lent
+st = afterOpening six named lent
 
-accepts : isOpened (answerOfOpening (opening four named lent)) ≡ true
+accepts : isOpened (answerOfOpening (opening six named lent)) ≡ true
 unfolding isOpened answerOfOpening
 accepts = ap (λ x. isOpened (answerOfOpening x)) (computed .opens)
 
-goes : openVerdict four named lent ≡ Go
-goes = accepted-goes four named lent accepts
+goes : openVerdict six named lent ≡ Go
+goes = accepted-goes six named lent accepts
 
-at-first : Between four st (store (blank ∷ []) (blank ∷ [])) 1 2 1
+at-first : Between six st (store (blank ∷ []) (blank ∷ [])) 1 2 1
 unfolding afterOpening
 at-first =
     record {
       once = computed .once;
       maps = computed .maps;
-      live = subst (Live four st) (computed .begins) (first-live four (computed .once) (computed .maps) named lent goes);
-      held = handed four named lent _ _ goes (computed .opens);
+      live = subst (Live six st) (computed .begins) (first-live six (computed .once) (computed .maps) named lent goes);
+      held = handed six named lent _ _ goes (computed .opens);
     }
 
 -- the blocks of the plain store, its copy, N, NWA and the last ICB
 abbrev Now : State → List Slot → List Slot → ℕ → ℕ → ℕ → Type 0
-Now x blocks copy n w a = Between four x (store blocks copy) n w a
+Now x blocks copy n w a = Between six x (store blocks copy) n w a
 
 -- call by call
-answer-list : answers four st others ≡ othersGiven
-unfolding four ones others othersGiven noCut struck landing nextAfter countAfter roomToSave saveTests entriesHeld nextHeld passes tagFits field part value need fileBytes dataSectors put
+answer-list : answers six st others ≡ othersGiven
+unfolding six ones others othersGiven noCut struck landing onEffect nextAfter countAfter roomToSave saveTests entriesHeld nextHeld passes tagFits field part value need fileBytes dataSectors put
 answer-list =
-    told _ (saved at-first 1 ones noCut refl refl refl) λ (b : Now _ (blank ∷ holds ones ∷ []) (blank ∷ []) 2 3 1).
-    told _ (committed b refl (omega arith) noCut refl) λ (b : Now _ (blank ∷ holds ones ∷ []) (blank ∷ holds ones ∷ []) 2 4 3).
-    told _ (opened-again (standing b)) λ b. told-none four _
+    told _ (save-cut at-first 0 ones (failing Effect.Unreadable) refl refl refl (omega arith) refl) λ d.
+    told _ (opened-again d) λ (b : Now _ (blank ∷ []) (blank ∷ []) 1 3 1).
+    told _ (saved b 1 ones noCut refl refl refl) λ (b : Now _ (blank ∷ holds ones ∷ []) (blank ∷ []) 2 4 1).
+    told _ (committed b refl (omega arith) noCut refl) λ (b : Now _ (blank ∷ holds ones ∷ []) (blank ∷ holds ones ∷ []) 2 5 4).
+    told _ (opened-again (standing b)) λ b. told-none six _
 
-follows : Follows four named lent others
+follows : Follows six named lent others
 unfolding orderly isOpening isCut others othersGiven
 follows =
     record {
@@ -100,36 +103,36 @@ follows =
       proper = rw answer-list (orderly-proper false others othersGiven refl);
     }
 
-left : leaves 0 others (answers four st others) ≡ true
-unfolding leaves saves accepted others othersGiven
+left : leaves 0 others (answers six st others) ≡ true
+unfolding leaves saves accepted isCut others othersGiven
 left = rw answer-list
 
 -- neither the empty list nor this one ends in a cut
-none-cut : endsCut false (answers four st []) ≡ false
+none-cut : endsCut false (answers six st []) ≡ false
 unfolding endsCut answers
 none-cut = refl
 
-ends : endsCut false (answers four st others) ≡ false
+ends : endsCut false (answers six st others) ≡ false
 unfolding endsCut isCut othersGiven
 ends = rw answer-list
 
 -- number 0 before them
-first : (out : List ℕ) → length out ≡ 2048 → seen four st 0 out ≡ turned BlankSector
+first : (out : List ℕ) → length out ≡ 2048 → seen six st 0 out ≡ turned BlankSector
 unfolding Demand3 Proper final answers followed look seenAs
 first out long =
-    demand-3 four named lent (follows .low) accepts [] tt .reads none-cut 0 out long ∙ ap (λ σ. look σ 0) (computed .begins)
+    demand-3 six named lent (follows .low) accepts [] tt .reads none-cut 0 out long ∙ ap (λ σ. look σ 0) (computed .begins)
 
 -- the plain store after them
 played : (k : ℕ) → followed (record { once = true; tables = k }) (store (blank ∷ []) (blank ∷ [])) others othersGiven ≡ store (blank ∷ holds ones ∷ []) (blank ∷ holds ones ∷ [])
 unfolding followed next taken wasCut cutIn writesIn struck noCut put accepted others othersGiven fileBytes dataSectors
 played k = refl
 
-store-after : followed (shapeOf four) (start four named) others (answers four st others) ≡ store (blank ∷ holds ones ∷ []) (blank ∷ holds ones ∷ [])
+store-after : followed (shapeOf six) (start six named) others (answers six st others) ≡ store (blank ∷ holds ones ∷ []) (blank ∷ holds ones ∷ [])
 unfolding shapeOf
 store-after =
-    ap (λ x. followed (shapeOf four) (start four named) others x) answer-list
-    ∙ ap (λ x. followed (shapeOf four) x others othersGiven) (computed .begins)
-    ∙ ap (λ x. followed (record { once = x; tables = shapeOf four .tables }) (store (blank ∷ []) (blank ∷ [])) others othersGiven) (computed .once)
+    ap (λ x. followed (shapeOf six) (start six named) others x) answer-list
+    ∙ ap (λ x. followed (shapeOf six) x others othersGiven) (computed .begins)
+    ∙ ap (λ x. followed (record { once = x; tables = shapeOf six .tables }) (store (blank ∷ []) (blank ∷ [])) others othersGiven) (computed .once)
     ∙ played _
 
 pub blank-met : BlankMet
@@ -140,6 +143,6 @@ blank-met =
       answered = answer-list;
       left = left;
       first = first;
-      after = λ out long. blank-stays four named lent [] others (computed .once) follows none-cut ends 0 out long (first out long) left;
-      other = λ out long. demand-3 four named lent (follows .low) accepts others (follows .proper) .reads ends 1 out long ∙ ap (λ σ. look σ 1) store-after;
+      after = λ out long. blank-stays six named lent [] others (computed .once) follows none-cut ends 0 out long (first out long) left;
+      other = λ out long. demand-3 six named lent (follows .low) accepts others (follows .proper) .reads ends 1 out long ∙ ap (λ σ. look σ 1) store-after;
     }

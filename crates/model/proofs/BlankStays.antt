@@ -3,27 +3,28 @@
 use Prim.Native.Nat.{ℕ, zero, suc, _+_, _-_, _<_}
 use mathlib.Core.Bool.{true, false, not, _&&_}
 use mathlib.Core.Logic.{_≢_}
-use mathlib.Core.Path.{_≡_, refl, sym, ap, _∙_}
-use mathlib.Core.List.{List, [], _∷_, _++_}
+use mathlib.Core.Path.{_≡_, refl, sym, ap, ap₂, _∙_, subst}
+use mathlib.Core.List.{List, [], _∷_, _++_, append-assoc, append-nil}
 use native.Mathlib.Omega.{arith}
 use lib.Dec.{eqb, ltb}
 use lib.ListN.{length, getD, set}
 use lib.Seq.{getD-set-other}
 use borrow.Author.Tests.{eqb-true, eq-eqb, lt-ltb, not-true}
 use Rattle.refusal.specs.declared.Refusal.the-variants.{BlankSector}
-use Rattle.model.specs.Disc.{mark, recorded, recordedRun, firstMark}
+use Rattle.model.specs.Disc.{Disc, mark, recorded, recordedRun, firstMark}
 use Rattle.model.specs.Examine.{Setting, writeOnce}
 use Rattle.model.specs.Rewrite.{otherMark}
-use Rattle.model.specs.Calls.{Call, saveVirtual, freeVirtual, commit, saveBlock, savePacket, sparePacket, openDisc, State, step, answers, final, accepted}
+use Rattle.model.specs.Calls.{Call, saveVirtual, freeVirtual, commit, saveBlock, savePacket, sparePacket, openDisc, State, step, answers, final, accepted, isCut}
 use Rattle.model.specs.Store.{Slot, holds, unused, unreadable, blank, Store, Shape, store, start, shapeOf, writesIn, wasCut, wholeAt, put, taken, next, turned, seenAs, look}
 use Rattle.model.specs.Demand.{afterOpening, followed}
-use Rattle.model.specs.Consequences.{storeAfter, saves, leaves, BlankStays}
+use Rattle.model.specs.Consequences.{Follows, storeAfter, saves, leaves, BlankStays}
 use Rattle.model.specs.Blank.{FirstOfRun, FirstOfOthers}
 use Rattle.model.proofs.Basics.{by-bool, by-lt, and-true, both, differ}
 use Rattle.model.proofs.Marks.{first-mark}
 use Rattle.model.proofs.SectorsRuns.{recordedRun-all}
-use Rattle.model.proofs.ConsequencesLists.{followed-append}
-use Rattle.model.proofs.Consequences.{first-part, reads, block-told, packet-told, spare-told}
+use Rattle.model.proofs.Steps.{Told}
+use Rattle.model.proofs.ConsequencesLists.{final-append}
+use Rattle.model.proofs.Consequences.{first-part, reads, store-one, told-at, block-told, packet-told, spare-told}
 
 -- ---- the first that is not recorded
 
@@ -130,6 +131,10 @@ module _ (e : Setting) (one : writeOnce e ≡ true) where
   abbrev h : Shape
   h = shapeOf e
 
+  -- a call saves or frees number u: it is accepted and not cut
+  abbrev Done : State → Store → Call → ℕ → Type 0
+  Done st σ c u = (accepted (step e st c .answer) ≡ true) × (wasCut h σ c ≡ false) × (saves u c ≡ true)
+
   -- ---- what a call on a write-once disc makes of the plain store: nothing, a commit, an opening, a block saved or one freed
 
   module _ (P : Store → Type 0) (st : State) (σ : Store) where
@@ -138,8 +143,8 @@ module _ (e : Setting) (one : writeOnce e ≡ true) where
     none-taken c f k = by-bool (accepted (step e st c .answer)) (λ a. differ one (f a)) (λ a. rw a k)
 
     once-next : (c : Call) → P σ → P (store (σ .blocks) (σ .blocks)) → P (store (σ .copy) (σ .copy))
-        → ((u : ℕ) (b : List ℕ) → accepted (step e st c .answer) && saves u c ≡ true → P (store (put (σ .blocks) u (holds b)) (σ .copy)))
-        → ((u : ℕ) → accepted (step e st c .answer) && saves u c ≡ true → P (store (set (σ .blocks) u unused) (σ .copy)))
+        → ((u : ℕ) (b : List ℕ) → Done st σ c u → P (store (put (σ .blocks) u (holds b)) (σ .copy)))
+        → ((u : ℕ) → Done st σ c u → P (store (set (σ .blocks) u unused) (σ .copy)))
         → P (next h σ c (accepted (step e st c .answer)))
     unfolding next taken saves shapeOf
     once-next (saveVirtual u b c) same committed opened saved freed =
@@ -147,14 +152,14 @@ module _ (e : Setting) (one : writeOnce e ≡ true) where
         (λ a.
         by-bool (wasCut h σ (saveVirtual u b c))
         (λ w. rw (a, w) same)
-        (λ w. rw (a, w) (saved u b (both a (eq-eqb u u refl)))))
+        (λ w. rw (a, w) (saved u b (a, w, eq-eqb u u refl))))
         (λ a. rw a same)
     once-next (freeVirtual u) same committed opened saved freed =
         by-bool (accepted (step e st (freeVirtual u) .answer))
         (λ a.
         by-bool (wasCut h σ (freeVirtual u))
         (λ w. rw (a, w) same)
-        (λ w. rw (a, w) (freed u (both a (eq-eqb u u refl)))))
+        (λ w. rw (a, w) (freed u (a, w, eq-eqb u u refl))))
         (λ a. rw a same)
     once-next (commit c) same committed opened saved freed =
         by-bool (accepted (step e st (commit c) .answer))
@@ -194,19 +199,32 @@ module _ (e : Setting) (one : writeOnce e ≡ true) where
         (λ u a q. k (set-blank (σ .blocks) u v unused unused-differs q)))
 
     -- a call that does not save or free it is one of another number
-    other-number : (st : State) (c : Call) (u : ℕ) → not (accepted (step e st c .answer) && saves v c) ≡ true → accepted (step e st c .answer) && saves u c ≡ true → v ≢ u
-    other-number st c u n a q = differ (rw (← q) at a) (not-true _ n)
+    other-number : (st : State) (σ : Store) (c : Call) (u : ℕ) → Told h σ c (step e st c .answer)
+        → not (accepted (step e st c .answer) && (not (isCut (step e st c .answer)) && saves v c)) ≡ true → Done st σ c u → v ≢ u
+    other-number st σ c u told n m q =
+        let uncut : isCut (step e st c .answer) ≡ false = told ∙ ap₂ _&&_ (m .0) (m .1) in
+        differ (both (m .0) (both (ap not uncut) (ap (λ (x : ℕ). saves x c) q ∙ m .2))) (not-true _ n)
 
-    both-list : (cs : List Call) (st : State) (σ : Store) → Both σ → leaves v cs (answers e st cs) ≡ true → Both (followed h σ cs (answers e st cs))
-    unfolding followed answers leaves
-    both-list [] st σ k q = k
-    both-list (c ∷ cs) st σ k q =
+    both-list : (d : Disc) (t : List ℕ) (cs later : List Call) → Follows e d t (cs ++ later) → Both (storeAfter e d t cs)
+        → leaves v later (answers e (final e (afterOpening e d t) cs) later) ≡ true → Both (storeAfter e d t (cs ++ later))
+    unfolding answers final leaves
+    both-list d t cs [] f k q = subst (λ (l : List Call). Both (storeAfter e d t l)) (sym (append-nil cs)) k
+    both-list d t cs (c ∷ later) f k q =
+        let st = final e (afterOpening e d t) cs in
+        let σ : Store = storeAfter e d t cs in
         let p = and-true _ _ q in
-        both-list cs (step e st c .state) _
+        let other : (u : ℕ) → Done st σ c u → v ≢ u = λ u. other-number st σ c u (told-at e d t cs c later f) (p .0) in
+        let after : Both (storeAfter e d t (cs ++ (c ∷ []))) =
+        subst Both (sym (store-one e d t cs c))
         (once-next Both st σ c k (k .0, k .0) (k .1, k .1)
-        (λ u b a. (put-kept (σ .blocks) u v (holds b) (other-number st c u (p .0) a) (k .0), k .1))
-        (λ u a. (getD-set-other (σ .blocks) u v unused unused (other-number st c u (p .0) a) ∙ k .0, k .1)))
-        (p .1)
+        (λ u b m. (put-kept (σ .blocks) u v (holds b) (other u m) (k .0), k .1))
+        (λ u m. (getD-set-other (σ .blocks) u v unused unused (other u m) ∙ k .0, k .1))) in
+        let w : (cs ++ (c ∷ [])) ++ later ≡ cs ++ (c ∷ later) = append-assoc cs (c ∷ []) later in
+        subst (λ (l : List Call). Both (storeAfter e d t l)) w
+        (both-list d t (cs ++ (c ∷ [])) later
+        (subst (Follows e d t) (sym w) f)
+        after
+        (ap (λ (x : State). leaves v later (answers e x later)) (final-append e cs (c ∷ []) (afterOpening e d t)) ∙ p .1))
 
 pub blank-stays : BlankStays
 unfolding BlankStays start
@@ -216,5 +234,4 @@ blank-stays e d t cs later one f ends ends-all v out long shows left =
     let is : getD (σ .blocks) v unused ≡ blank = look-blank σ v (sym (reads e d t cs (first-part e d t cs later f) ends v out long) ∙ shows) in
     let back = back-list e one v cs st (start e d) (λ q. q) is in
     reads e d t (cs ++ later) f ends-all v out long
-    ∙ ap (λ (τ : Store). look τ v) (followed-append e (shapeOf e) cs later st (start e d))
-    ∙ blank-look _ v (both-list e one v later (final e st cs) σ (is, back) left .0)
+    ∙ blank-look _ v (both-list e one v d t cs later f (is, back) left .0)

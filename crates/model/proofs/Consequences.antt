@@ -75,7 +75,7 @@ module _ (e : Setting) (d : Disc) (t : List ℕ) where
   reads cs f q v out long = demand-3 e d t (f .low) (f .opens) cs (f .proper) .reads q v out long
 
   -- the plain store after one call more, and after an opening besides
-  store-one : (cs : List Call) (c : Call) → storeAfter e d t (cs ++ (c ∷ [])) ≡ next (shapeOf e) (storeAfter e d t cs) c (accepted (answerAfter e d t cs c))
+  pub store-one : (cs : List Call) (c : Call) → storeAfter e d t (cs ++ (c ∷ [])) ≡ next (shapeOf e) (storeAfter e d t cs) c (accepted (answerAfter e d t cs c))
   unfolding followed answers
   store-one cs c = followed-append e (shapeOf e) cs (c ∷ []) start-state (start e d)
 
@@ -84,7 +84,7 @@ module _ (e : Setting) (d : Disc) (t : List ℕ) where
   ends-one cs c = ends-append e cs (c ∷ []) start-state false
 
   -- the answer says that the call was cut exactly if the plain store knows it
-  told-at : (cs : List Call) (c : Call) (ds : List Call) → Follows e d t (cs ++ (c ∷ ds)) → Told (shapeOf e) (storeAfter e d t cs) c (answerAfter e d t cs c)
+  pub told-at : (cs : List Call) (c : Call) (ds : List Call) → Follows e d t (cs ++ (c ∷ ds)) → Told (shapeOf e) (storeAfter e d t cs) c (answerAfter e d t cs c)
   unfolding CutExactly
   told-at cs c ds f =
       let h : length cs < length (cs ++ (c ∷ ds)) = omega (arith, length-append cs (c ∷ ds)) in

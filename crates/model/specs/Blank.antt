@@ -9,6 +9,7 @@ use lib.ListN.{length, replicate}
 use Rattle.refusal.specs.declared.Refusal.the-variants.{BlankSector}
 use Rattle.maps.specs.declared.Kind.the-variants.{WriteOnce}
 use Rattle.maps.specs.Written.{mapsOf}
+use Rattle.model.specs.declared.Effect.{Effect}
 use Rattle.model.specs.declared.Record.{Record}
 use Rattle.model.specs.Disc.{Disc, disc, mark, recorded, firstMark}
 use Rattle.model.specs.Writes.{write, noCut}
@@ -16,11 +17,11 @@ use Rattle.model.specs.Vat.{none}
 use Rattle.model.specs.VatWritten.{writtenIcb}
 use Rattle.model.specs.Examine.{Setting, setting}
 use Rattle.model.specs.Rewrite.{otherMark}
-use Rattle.model.specs.Calls.{Call, saveVirtual, commit, openDisc, Answer, done, opened, answers, final}
+use Rattle.model.specs.Calls.{Call, saveVirtual, commit, openDisc, Answer, done, cut, opened, answers, final}
 use Rattle.model.specs.Store.{bytes, turned}
 use Rattle.model.specs.Demand.{afterOpening, seen}
 use Rattle.model.specs.Consequences.{Follows, leaves}
-use Rattle.model.specs.Run.{lent, ones}
+use Rattle.model.specs.Run.{lent, ones, failing}
 
 -- ---- "the first sector to be read that is not recorded"
 
@@ -56,28 +57,33 @@ pub record FirstMet : Type 0 where
 
 -- ---- a disc whose VAT names a blank sector
 
--- the map list of write-once partition 0; S is 0 and L is 4
-unfoldable pub four : Setting
-four = setting (mapsOf (WriteOnce 0) []) 0 4
+-- the map list of write-once partition 0; S is 0 and L is 6
+unfoldable pub six : Setting
+six = setting (mapsOf (WriteOnce 0) []) 0 6
 
--- four sectors, the second of which has a VAT ICB with one entry: block 0, which is blank
+-- six sectors, the second of which has a VAT ICB with one entry: block 0, which is blank
 unfoldable pub named : Disc
-named = write 1 noCut 1 (writtenIcb 1 (0 ∷ []) none) (disc (replicate (2048 * 4) 0) (replicate 4 0))
+named = write 1 noCut 1 (writtenIcb 1 (0 ∷ []) none) (disc (replicate (2048 * 6) 0) (replicate 6 0))
 
--- another number saved and committed, and the disc opened again
+-- that block saved, which is cut, and the disc opened; then another number saved and committed, and the disc opened again
 unfoldable pub others : List Call
-others = saveVirtual 1 ones noCut ∷ commit noCut ∷ openDisc ∷ []
+others = saveVirtual 0 ones (failing Effect.Unreadable) ∷ openDisc ∷ saveVirtual 1 ones noCut ∷ commit noCut ∷ openDisc ∷ []
 
 -- what they answer
 unfoldable pub othersGiven : List Answer
 othersGiven =
-    done (Record.WriteOnce 2 3 1) ∷ done (Record.WriteOnce 2 4 3) ∷ opened (Record.WriteOnce 2 4 3) 0 ∷ []
+    cut
+    ∷ opened (Record.WriteOnce 1 3 1) 1
+    ∷ done (Record.WriteOnce 2 4 1)
+    ∷ done (Record.WriteOnce 2 5 4)
+    ∷ opened (Record.WriteOnce 2 5 4) 0
+    ∷ []
 
 -- what `BlankStays` asks for is met there, and so number 0 reads 25 before these calls and after them, where number 1 has its bytes
 pub record BlankMet : Type 0 where
-  pub follows : Follows four named lent others
-  pub answered : answers four (afterOpening four named lent) others ≡ othersGiven
-  pub left : leaves 0 others (answers four (afterOpening four named lent) others) ≡ true
-  pub first : (out : List ℕ) → length out ≡ 2048 → seen four (afterOpening four named lent) 0 out ≡ turned BlankSector
-  pub after : (out : List ℕ) → length out ≡ 2048 → seen four (final four (afterOpening four named lent) others) 0 out ≡ turned BlankSector
-  pub other : (out : List ℕ) → length out ≡ 2048 → seen four (final four (afterOpening four named lent) others) 1 out ≡ bytes ones
+  pub follows : Follows six named lent others
+  pub answered : answers six (afterOpening six named lent) others ≡ othersGiven
+  pub left : leaves 0 others (answers six (afterOpening six named lent) others) ≡ true
+  pub first : (out : List ℕ) → length out ≡ 2048 → seen six (afterOpening six named lent) 0 out ≡ turned BlankSector
+  pub after : (out : List ℕ) → length out ≡ 2048 → seen six (final six (afterOpening six named lent) others) 0 out ≡ turned BlankSector
+  pub other : (out : List ℕ) → length out ≡ 2048 → seen six (final six (afterOpening six named lent) others) 1 out ≡ bytes ones

@@ -121,14 +121,14 @@ saves v (savePacket b x c) = false
 saves v (sparePacket b x c) = false
 saves v openDisc = false
 
--- no call of a list that was accepted does
+-- no call of a list that was accepted and not cut does
 unfoldable pub leaves : ℕ → List Call → List Answer → Bool
 leaves v [] al = true
 leaves v (c ∷ cs) [] = true
-leaves v (c ∷ cs) (a ∷ al) = not (accepted a && saves v c) && leaves v cs al
+leaves v (c ∷ cs) (a ∷ al) = not (accepted a && (not (isCut a) && saves v c)) && leaves v cs al
 
--- a number that reads 25 on a write-once disc, after whatever list, does so after every list until it is saved or freed: no cut, no commit and no
--- opening records its sector
+-- a number that reads 25 on a write-once disc, after whatever list, does so after every list until it is saved or freed: no commit, no opening and
+-- no save that was cut, of this number or another, makes it read otherwise
 unfoldable pub BlankStays : Type 0
 BlankStays =
     (e : Setting) (d : Disc) (t : List ℕ) (cs later : List Call) → writeOnce e ≡ true → Follows e d t (cs ++ later)

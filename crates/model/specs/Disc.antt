@@ -41,8 +41,8 @@ unfoldable pub firstMark : Disc → ℕ → ℕ → ℕ
 firstMark d p zero = 1
 firstMark d p (suc n) = cond (recorded d p) (firstMark d (p + 1) n) (mark d p)
 
--- lines 25 and 14 (02, slip 5, "Blank or broken"): what the mark of the first sector to be read that is not recorded is told as, 25 where it is
--- blank and 14 where it is unreadable; 1 where all are recorded
+-- lines 25 and 14 (02, slip 5, "Blank or broken"), where m is the mark of the first sector to be read that is not recorded, and 1 if all are: 25
+-- where that sector is blank, 14 where it is unreadable
 unfoldable pub markTests : ℕ → List Test
 markTests m = test (not (eqb m 0)) BlankSector ∷ test (eqb m 1) UnreadableSector ∷ []
 

@@ -1,6 +1,6 @@
 // The calls on a write-once disc that write no sector: opening, reading, freeing and fullness (document 01,
 // "Calls and their sector writes"). Each examines what it gets and refuses with the first
-// line of document 01 that applies; a refusal leaves every lent byte as it came. No call has a requires.
+// line of documents 01 and 02 that applies; a refusal leaves every lent byte as it came. No call has a requires.
 use address::NONE;
 use address::ToLogical;
 use address::VirtualAddress;
