@@ -35,12 +35,14 @@ use Rattle.model.specs.Demand.{afterOpening, followed, seen, Demand3}
 use Rattle.model.specs.Consequences.{Follows, saves, leaves, BlankStays}
 use Rattle.model.specs.Run.{lent, ones, failing}
 use Rattle.model.specs.Blank.{FirstMet, six, named, others, othersGiven, BlankMet}
+use Rattle.model.proofs.Verdicts.{opened-tells}
+use Rattle.model.proofs.Once.{nextAfter}
 use Rattle.model.proofs.OnceRead.{Live}
 use Rattle.model.proofs.OnceOpen.{first-live}
 use Rattle.model.proofs.OnceDemand.{accepted-goes}
 use Rattle.model.proofs.Demand.{demand-3}
-use Rattle.model.proofs.RunSteps.{nextAfter, Between, told, told-none, isOpening, orderly, orderly-proper, standing, saved, save-cut, committed, opened-again}
-use Rattle.model.proofs.Run.{bytesOnly, bytes-below, handed}
+use Rattle.model.proofs.RunSteps.{Between, told, told-none, isOpening, orderly, orderly-proper, standing, saved, save-cut, committed, opened-again}
+use Rattle.model.proofs.Run.{bytesOnly, bytes-below}
 use Rattle.model.proofs.BlankStays.{blank-stays}
 
 -- the closed packets are computed
@@ -77,7 +79,7 @@ at-first =
       once = computed .once;
       maps = computed .maps;
       live = subst (Live six st) (computed .begins) (first-live six (computed .once) (computed .maps) named lent goes);
-      held = handed six named lent _ _ goes (computed .opens);
+      held = opened-tells six named lent _ _ (computed .opens) .held;
     }
 
 -- the blocks of the plain store, its copy, N, NWA and the last ICB

@@ -1,10 +1,12 @@
--- Two lists of calls, one after the other: the answers, the plain store and the cuts of both. Assumes nothing.
-use mathlib.Core.Bool.{Bool}
-use mathlib.Core.Path.{_≡_, refl}
+-- Two lists of calls, one after the other: the answers, the plain store and the cuts of both; and a call of a list by its place. Assumes nothing.
+use Prim.Native.Nat.{ℕ, zero, suc, _<_}
+use mathlib.Core.Bool.{Bool, true}
+use mathlib.Core.Path.{_≡_, refl, ap}
 use mathlib.Core.List.{List, [], _∷_, _++_}
-use lib.ListN.{length, getD}
+use native.Mathlib.Omega.{arith}
+use lib.ListN.{length, getD, take}
 use Rattle.model.specs.Examine.{Setting}
-use Rattle.model.specs.Calls.{Call, cut, State, step, answers, final, accepted, isCut, Proper, endsCut}
+use Rattle.model.specs.Calls.{Call, openDisc, cut, State, step, answers, final, accepted, isCut, Proper, endsCut}
 use Rattle.model.specs.Store.{Store, Shape, next}
 use Rattle.model.specs.Demand.{followed}
 
@@ -49,3 +51,34 @@ module _ (e : Setting) where
   unfolding Proper endsCut answers final
   proper-join [] ds st down p q = q
   proper-join (x ∷ cs) ds st down p q = (p .0, proper-join cs ds (step e st x .state) (isCut (step e st x .answer)) (p .1) q)
+
+  -- ---- a call of a list by its place
+
+  -- its answer, from what the calls before it leave
+  pub answer-place : (cs : List Call) (st : State) (i : ℕ) → i < length cs → getD (answers e st cs) i cut ≡ step e (final e st (take i cs)) (getD cs i openDisc) .answer
+  unfolding answers final
+  answer-place [] st i l = absurd (omega arith)
+  answer-place (c ∷ cs) st zero l = refl
+  answer-place (c ∷ cs) st (suc i) l = answer-place cs (step e st c .state) i (omega arith)
+
+  -- after a cut it is an opening
+  pub proper-place : (cs : List Call) (st : State) (down : Bool) → Proper down cs (answers e st cs) → (i : ℕ) → i < length cs
+      → endsCut down (answers e st (take i cs)) ≡ true → getD cs i openDisc ≡ openDisc
+  unfolding Proper endsCut answers
+  proper-place [] st down p i l = absurd (omega arith)
+  proper-place (c ∷ cs) st down p zero l = p .0
+  proper-place (c ∷ cs) st down p (suc i) l = proper-place cs (step e st c .state) (isCut (step e st c .answer)) (p .1) i (omega arith)
+
+  -- the answers of the first i calls
+  pub answers-take : (cs : List Call) (st : State) (i : ℕ) → answers e st (take i cs) ≡ take i (answers e st cs)
+  unfolding answers
+  answers-take [] st zero = refl
+  answers-take [] st (suc i) = refl
+  answers-take (c ∷ cs) st zero = refl
+  answers-take (c ∷ cs) st (suc i) = ap (step e st c .answer ∷_) (answers-take cs (step e st c .state) i)
+
+  -- as many answers as calls
+  pub answers-count : (cs : List Call) (st : State) → length (answers e st cs) ≡ length cs
+  unfolding answers
+  answers-count [] st = refl
+  answers-count (c ∷ cs) st = ap suc (answers-count cs (step e st c .state))

@@ -32,10 +32,10 @@ whole-lands n c h q =
     let p = and-true (eqb n (c .at)) _ w in
     landing-at n c (sym (eqb-true _ _ (p .0))) h ∙ whole-effect (c .effect) (p .1))
 
-unreadable-differs : Landing.Unreadable ≡ Landing.Done → ⊥
+pub unreadable-differs : Landing.Unreadable ≡ Landing.Done → ⊥
 unreadable-differs q = let z : _≡_ {A = ℕ} 0 1 = cc in omega arith
 
-old-differs : Landing.Old ≡ Landing.Done → ⊥
+pub old-differs : Landing.Old ≡ Landing.Done → ⊥
 old-differs q = let z : _≡_ {A = ℕ} 0 1 = cc in omega arith
 
 untouched-differs : Landing.Untouched ≡ Landing.Done → ⊥

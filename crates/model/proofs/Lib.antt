@@ -16,6 +16,8 @@ pub mod OnceSave
 pub mod OnceOpen
 pub mod OnceCommit
 pub mod OnceDemand
+pub mod OnceRises
+pub mod Wait
 pub mod SparingLists
 pub mod SparingEntries
 pub mod SparingWritten
@@ -48,5 +50,6 @@ pub mod BlankStays
 pub mod RunSteps
 pub mod Run
 pub mod BlankMet
+pub mod WaitReached
 pub mod ReadBack
 pub mod ReadBackMet

@@ -1,6 +1,7 @@
 -- The invariant of a write-once disc: what a cut leaves, and what holds between calls; and that a sector write keeps it. Assumes nothing.
-use Prim.Native.Nat.{ℕ, zero, suc, _+_, _*_, _≤_, _<_}
+use Prim.Native.Nat.{ℕ, zero, suc, _+_, _-_, _*_, _≤_, _<_}
 use mathlib.Core.Bool.{Bool, true, false, _&&_}
+use mathlib.Core.Logic.{_≢_}
 use mathlib.Core.Path.{_≡_, refl, sym, ap, _∙_}
 use mathlib.Core.List.{List}
 use native.Mathlib.Omega.{arith}
@@ -8,7 +9,7 @@ use lib.ListN.{length}
 use Rattle.fields.specs.Bytes.{part}
 use Rattle.model.specs.declared.Cut.{Cut}
 use Rattle.model.specs.declared.Landing.{Landing}
-use Rattle.model.specs.Disc.{Disc, mark, recorded, shapely, inside}
+use Rattle.model.specs.Disc.{Disc, mark, recorded, nwa, shapely, inside}
 use Rattle.model.specs.Writes.{landing, landed, write, writes, upward}
 use Rattle.model.specs.Vat.{tagFits, passes, vatIcb, vatFile, countOf, entriesOf}
 use Rattle.model.specs.Store.{Slot, entrySlots}
@@ -16,7 +17,7 @@ use Rattle.model.proofs.Basics.{by-lt, by-eq, and-false-left}
 use Rattle.fields.proofs.Laws.{length-part}
 use Rattle.model.proofs.Agree.{Agree, agree-less, agree-trans, passes-agree, icb-agree, file-of-agree}
 use Rattle.model.proofs.Scan.{Newest, entries-below, icb-recorded, not-recorded, slots-agree}
-use Rattle.model.proofs.Sectors.{Made, shapely-made, inside-fits, landed-shapely, landed-inside, sector-other, mark-other, sector-done, mark-unreadable}
+use Rattle.model.proofs.Sectors.{Made, shapely-made, inside-fits, landed-shapely, landed-inside, sector-other, mark-other, sector-done, mark-done, mark-unreadable, nwa-blank, nwa-is}
 
 -- the partition's blocks from i on are blank
 pub record BlankFrom (s l : ℕ) (d : Disc) (i : ℕ) : Type 0 where
@@ -46,9 +47,37 @@ agree-landed lg s i b d e h m =
 pub below-blank : {s l : ℕ} {d : Disc} {a : ℕ} (i : ℕ) → vatIcb d s a ≡ true → a < l → BlankFrom s l d i → a < i
 below-blank {s} {l} {d} {a} i g h z = by-lt a i (λ q. q) (λ q. omega (arith, z .blank a q h, icb-recorded d s a g))
 
+-- the blocks from NWA on are blank
+pub blank-next : (s l i : ℕ) (d : Disc) → nwa d s l ≡ i → BlankFrom s l d i
+blank-next s l i d n = record { blank = λ k h q. nwa-blank d s l k (omega arith) q }
+
 -- the rest stays blank
 pub blank-landed : (lg : Landing) (s l i : ℕ) (b : List ℕ) (d : Disc) → BlankFrom s l d i → BlankFrom s l (landed lg (s + i) b d) (i + 1)
 blank-landed lg s l i b d z = record { blank = λ k h q. mark-other lg (s + i) b d (s + k) (omega arith) ∙ z .blank k (omega arith) q }
+
+-- NWA is one past a write to the first blank block that leaves a mark,
+pub next-marked : (lg : Landing) (s l i : ℕ) (b : List ℕ) (d : Disc) → BlankFrom s l d i → i < l → mark (landed lg (s + i) b d) (s + i) ≢ 0 → nwa (landed lg (s + i) b d) s l ≡ i + 1
+next-marked lg s l i b d z h marked =
+    nwa-is _ s l (i + 1) (omega arith) (blank-landed lg s l i b d z .blank)
+    (λ _ q. let w : s + (i + 1 - 1) ≡ s + i = omega arith in marked (ap (mark _) (sym w) ∙ q))
+
+-- as one that is done does
+pub next-done : (s l i : ℕ) (b : List ℕ) (d : Disc) → BlankFrom s l d i → i < l → s + i < length (d .marks) → nwa (landed Landing.Done (s + i) b d) s l ≡ i + 1
+next-done s l i b d z h on = next-marked Landing.Done s l i b d z h (λ q. omega (arith, mark-done (s + i) b d on))
+
+-- NWA after a write at NWA i, however it landed
+unfoldable pub nextAfter : ℕ → Landing → ℕ
+nextAfter i Landing.Done = i + 1
+nextAfter i Landing.Old = i
+nextAfter i Landing.Unreadable = i + 1
+nextAfter i Landing.Untouched = i
+
+pub next-landed : (lg : Landing) (s l i : ℕ) (b : List ℕ) (d : Disc) → nwa d s l ≡ i → i < l → s + i < length (d .marks) → nwa (landed lg (s + i) b d) s l ≡ nextAfter i lg
+unfolding nextAfter landed
+next-landed Landing.Done s l i b d n h on = next-done s l i b d (blank-next s l i d n) h on
+next-landed Landing.Old s l i b d n h on = n
+next-landed Landing.Unreadable s l i b d n h on = next-marked Landing.Unreadable s l i b d (blank-next s l i d n) h (λ q. omega (arith, mark-unreadable (s + i) b d on))
+next-landed Landing.Untouched s l i b d n h on = n
 
 -- the sector just written is no ICB: it was not recorded, or its bytes do not pass
 pub here-none : (lg : Landing) (s i : ℕ) (b : List ℕ) (d : Disc) → length b ≡ 2048 → s + i < length (d .marks) → Made d

@@ -14,7 +14,7 @@ use Rattle.fields.proofs.Laws.{part-all}
 use Rattle.model.specs.declared.Cut.{Cut}
 use Rattle.model.specs.declared.Landing.{Landing}
 use Rattle.model.specs.declared.Record.{Record}
-use Rattle.model.specs.Disc.{Disc, mark, recordedRun, joined, nwa}
+use Rattle.model.specs.Disc.{Disc, recordedRun, joined, nwa}
 use Rattle.model.specs.Writes.{Write, landing, landed, writes, upward, struck}
 use Rattle.model.specs.Vat.{allBelow, belowOrNone, passes, vatIcb, vatFile, entriesOf, previousOf, fileOf}
 use Rattle.model.specs.VatWritten.{dataSectors, writtenFile, writtenData, writtenIcb}
@@ -23,13 +23,13 @@ use Rattle.model.specs.Once.{nextOn, entriesHeld, nextHeld, lastHeld, on
 use Rattle.model.specs.Calls.{commit, State, step}
 use Rattle.model.specs.Store.{Slot, entrySlots, Store, store, Shape, cutIn, writesIn, wasCut, wholeAt, taken}
 use Rattle.model.specs.Consequences.{laysIcb}
-use Rattle.model.proofs.Basics.{cond-elim, by-lt, and-true, both, or-cases, or-right}
+use Rattle.model.proofs.Basics.{cond-elim, by-bool, by-lt, and-true, both, differ, or-cases, or-left, or-right}
 use Rattle.model.proofs.Agree.{Agree, agree-less, agree-trans}
 use Rattle.model.proofs.Scan.{below-mono, not-recorded, slots-agree}
-use Rattle.model.proofs.Sectors.{Made, shapely-made, shapely-most, inside-fits, landed-shapely, landed-inside, sector-done, mark-done, recorded-done, writes-append, writes-one, landing-uncut, landing-done-before, nwa-is}
+use Rattle.model.proofs.Sectors.{Made, shapely-made, shapely-most, inside-fits, landed-shapely, landed-inside, sector-done, recorded-done, writes-append, writes-one, landing-uncut, landing-done-before}
 use Rattle.model.proofs.SectorsRuns.{joined-agree, recordedRun-agree, length-upward, upward-joined, upward-recordedRun}
 use Rattle.model.proofs.WrittenVat.{length-data, length-icb, file-count, file-entries, file-previous, icb-file, icb-passes, data-never}
-use Rattle.model.proofs.Once.{Kept, BlankFrom, Ran, on-disc, agree-landed, blank-landed, kept-write, kept-run}
+use Rattle.model.proofs.Once.{Kept, BlankFrom, Ran, on-disc, agree-landed, blank-landed, next-done, kept-write, kept-run}
 use Rattle.model.proofs.OnceRead.{onceHeld, Live, live-blank, live-last, live-length}
 use Rattle.model.proofs.Cuts.{whole-lands, broken-lands, choice-same}
 use Rattle.model.proofs.OnceSave.{OnceOk, once-tells}
@@ -166,11 +166,7 @@ module _ (s l : ℕ) (d : Disc) (c : Cut) (t : List ℕ) (i₀ last : ℕ) {a : 
     whole-agree = rw is-whole agree₀
 
     pub whole-next : k + 1 ≡ nwa d₂ s l
-    whole-next =
-        rw is-whole
-        (sym (nwa-is d₃ s l (k + 1) (omega arith) (blank₃ .blank)
-        (λ _ q. let w : s + (k + 1 - 1) ≡ s + k = omega arith in
-        omega (arith, ap (mark d₃) (sym w) ∙ q, mark-done (s + k) icb d₁ on-k))))
+    whole-next = rw is-whole (sym (next-done s l k icb d₁ (ran .blank) (omega arith) on-k))
 
     -- the new ICB names the one before it
     pub whole-previous : previousOf (vatFile d₂ s k) ≡ last
@@ -268,12 +264,15 @@ module _ (e : Setting) (h : Shape) (st : State) (σ : Store) (i : Live e st σ) 
   number : length ws ≡ D′ + 1
   number = commit-number e t′ (st .held) (sym count)
 
+  pub commit-fits : nextHeld (st .held) + length ws ≤ e .span
+  commit-fits = omega (arith, number, space)
+
   told : writesIn h σ (commit c) ≡ D′ + 1
   unfolding writesIn
   told = ap (λ (n : ℕ). dataSectors n + 1) (live-length e st σ i ∙ sym count)
 
   -- the plain store counts the writes of a commit
-  commit-count : writesIn h σ (commit c) ≡ length ws
+  pub commit-count : writesIn h σ (commit c) ≡ length ws
   commit-count = told ∙ sym number
 
   whole-commit : landing (1 + D′) c ≡ Landing.Done → Kept (e .start) (e .span) (writes 1 c ws (st .disc)) (nextHeld (st .held) + D′) (σ .blocks)
@@ -304,6 +303,30 @@ module _ (e : Setting) (h : Shape) (st : State) (σ : Store) (i : Live e st σ) 
   laid-previous q =
       rw is-disc
       (whole-previous (e .start) (e .span) (st .disc) c t′ (nextHeld (st .held)) (lastHeld (st .held)) (i .kept) (live-blank e st σ i) few′ (i .fresh) (live-last e st σ i) space (laid q))
+
+  -- and NWA is one past it
+  pub laid-next : laysIcb h σ (commit c) ≡ true → nextOn e (writes 1 c ws (st .disc)) ≡ nextHeld (st .held) + D′ + 1
+  unfolding nextOn
+  laid-next q =
+      rw is-disc
+      (sym (whole-next (e .start) (e .span) (st .disc) c t′ (nextHeld (st .held)) (lastHeld (st .held)) (i .kept) (live-blank e st σ i) few′ (i .fresh) (live-last e st σ i) space (laid q)))
+
+  -- one whose ICB is not whole
+  not-laid : laysIcb h σ (commit c) ≡ false → landing (1 + D′) c ≢ Landing.Done
+  unfolding laysIcb wasCut cutIn struck
+  not-laid q =
+      let m : 1 + D′ ≡ writesIn h σ (commit c) = omega (arith, told) in
+      rw m
+      (by-bool (wasCut h σ (commit c))
+      (λ w.
+      by-bool (wholeAt (writesIn h σ (commit c)) c)
+      (λ x. differ (or-right (not (wasCut h σ (commit c))) x) q)
+      (λ x. broken-lands _ c (omega (arith, told)) (leb-true _ _ (and-true (leb 1 (c .at)) _ w .0)) x))
+      (λ w. let x : not (wasCut h σ (commit c)) ≡ true = rw w in differ (or-left (wholeAt (writesIn h σ (commit c)) c) x) q))
+
+  -- leaves the VAT before it the topmost
+  pub left-kept : laysIcb h σ (commit c) ≡ false → Kept (e .start) (e .span) (writes 1 c ws (st .disc)) (lastHeld (st .held)) (σ .copy)
+  left-kept q = torn-commit (not-laid q)
 
   -- the last write of a cut commit, its ICB, decides
   commit-choice : taken h σ (commit c) true ≡ cond (wholeAt (1 + D′) c) (store (σ .blocks) (σ .blocks)) σ

@@ -18,7 +18,7 @@ use Rattle.model.specs.Both.{opening, openedBy, openVerdict}
 use Rattle.model.specs.Calls.{Call, saveVirtual, freeVirtual, commit, saveBlock, savePacket, sparePacket, openDisc, cut, State, step, answers, final, answerOfOpening, isOpened, Proper, endsCut}
 use Rattle.model.specs.Store.{Store, Shape, shapeOf, start, cutIn}
 use Rattle.model.specs.Demand.{afterOpening, followed, Kept}
-use Rattle.model.proofs.Verdicts.{by-verdict, then-go, examined-tells}
+use Rattle.model.proofs.Verdicts.{open-maps, by-verdict, then-go}
 use Rattle.model.proofs.Once as once-kept
 use Rattle.model.proofs.OnceRead.{Live, live-length, read-once}
 use Rattle.model.proofs.OnceSave.{OnceOk, sound-save, sound-free, told-save, told-free}
@@ -32,7 +32,7 @@ unfolding opening openedBy answerOfOpening isOpened
 accepted-goes e d t h = by-verdict (openVerdict e d t) (λ q. q) (λ why q. absurd (false≢true (rw q at h)))
 
 -- a call for rewritable discs never goes on
-other-kind : {P : Type 0} (e : Setting) (d : Disc) (t : List ℕ) (lent : Bool) (r : Record) (own : List Test) → writeOnce e ≡ true → rewritableVerdict e d t lent r own ≡ Go → P
+pub other-kind : {P : Type 0} (e : Setting) (d : Disc) (t : List ℕ) (lent : Bool) (r : Record) (own : List Test) → writeOnce e ≡ true → rewritableVerdict e d t lent r own ≡ Go → P
 unfolding rewritableVerdict
 other-kind e d t lent r own one g =
     let p = then-go (examined e d lent) _ g in
@@ -57,7 +57,7 @@ module _ (e : Setting) (one : writeOnce e ≡ true) (maps-go : readMaps (e .maps
   sound-live st σ (sparePacket b x c) i = sound-plan (OnceOk e) h σ (sparePacket b x c) c st _ _ _ _ i λ g. other-kind e _ _ _ _ _ one g
   sound-live st σ openDisc i = reopened e one maps-go h shape-once st σ (lastHeld (st .held)) (i .kept) (i .lent) .sound
 
-  sound-any : (down : Bool) (st : State) (σ : Store) (c : Call) → OnceOk e down st σ → (down ≡ true → c ≡ openDisc) → Sound (OnceOk e) h σ c (step e st c)
+  pub sound-any : (down : Bool) (st : State) (σ : Store) (c : Call) → OnceOk e down st σ → (down ≡ true → c ≡ openDisc) → Sound (OnceOk e) h σ c (step e st c)
   unfolding OnceOk
   sound-any true st σ c o q =
       subst (λ (x : Call). Sound (OnceOk e) h σ x (step e st x)) (sym (q refl)) (reopened e one maps-go h shape-once st σ (o .0) (o .1) (o .2) .sound)
@@ -90,22 +90,22 @@ module _ (e : Setting) (one : writeOnce e ≡ true) (maps-go : readMaps (e .maps
   once-lists d t g cs p =
       let i : OnceOk e false (afterOpening e d t) (start e d) = first-live e one maps-go d t g in
       record {
-        opens = list-opens (OnceOk e) h e sound-any opens-any cs (afterOpening e d t) (start e d) i p;
+        opens = list-opens (OnceOk e) h e sound-any cs (afterOpening e d t) (start e d) i p opens-any;
         reads = λ q v out long.
-            read-once e one maps-go _ _ (list-ends (OnceOk e) h e sound-any opens-any cs (afterOpening e d t) (start e d) i p q) v out long;
+            read-once e one maps-go _ _ (list-ends (OnceOk e) h e sound-any cs (afterOpening e d t) (start e d) i p q) v out long;
       }
 
   once-answers : (d : Disc) (t : List ℕ) → openVerdict e d t ≡ Go → (cs : List Call) → Proper false cs (answers e (afterOpening e d t) cs)
       → (i : ℕ) → i < length cs
       → Told h (followed h (start e d) (take i cs) (answers e (afterOpening e d t) (take i cs))) (getD cs i openDisc) (getD (answers e (afterOpening e d t) cs) i cut)
   unfolding OnceOk
-  once-answers d t g cs p = list-told (OnceOk e) h e sound-any told-any cs (afterOpening e d t) (start e d) (first-live e one maps-go d t g) p
+  once-answers d t g cs p = list-told (OnceOk e) h e sound-any cs (afterOpening e d t) (start e d) (first-live e one maps-go d t g) p told-any
 
   once-ends : (d : Disc) (t : List ℕ) → openVerdict e d t ≡ Go → (cs : List Call) → Proper false cs (answers e (afterOpening e d t) cs)
       → endsCut false (answers e (afterOpening e d t) cs) ≡ false
       → Live e (final e (afterOpening e d t) cs) (followed h (start e d) cs (answers e (afterOpening e d t) cs))
   unfolding OnceOk
-  once-ends d t g cs p q = list-ends (OnceOk e) h e sound-any opens-any cs (afterOpening e d t) (start e d) (first-live e one maps-go d t g) p q
+  once-ends d t g cs p q = list-ends (OnceOk e) h e sound-any cs (afterOpening e d t) (start e d) (first-live e one maps-go d t g) p q
 
 -- on a write-once disc that opening accepts
 pub once-demand : (e : Setting) (d : Disc) (t : List ℕ) → writeOnce e ≡ true → isOpened (answerOfOpening (opening e d t)) ≡ true
@@ -113,7 +113,7 @@ pub once-demand : (e : Setting) (d : Disc) (t : List ℕ) → writeOnce e ≡ tr
 unfolding openVerdict
 once-demand e d t one a cs p =
     let g = accepted-goes e d t a in
-    let m = examined-tells e d _ (then-go (examined e d _) _ g .0) .maps in
+    let m = open-maps e d t g in
     once-lists e one m d t g cs p
 
 -- and the answer of each call says that it was cut exactly if the plain store knows it
@@ -123,7 +123,7 @@ pub once-told : (e : Setting) (d : Disc) (t : List ℕ) → writeOnce e ≡ true
 unfolding openVerdict
 once-told e d t one a cs p =
     let g = accepted-goes e d t a in
-    let m = examined-tells e d _ (then-go (examined e d _) _ g .0) .maps in
+    let m = open-maps e d t g in
     once-answers e one m d t g cs p
 
 -- what holds between calls holds after a list that does not end in a cut
@@ -133,7 +133,7 @@ pub once-live : (e : Setting) (d : Disc) (t : List ℕ) → writeOnce e ≡ true
 unfolding openVerdict
 once-live e d t one a cs p =
     let g = accepted-goes e d t a in
-    let m = examined-tells e d _ (then-go (examined e d _) _ g .0) .maps in
+    let m = open-maps e d t g in
     once-ends e one m d t g cs p
 
 -- the plain store has N blocks after it

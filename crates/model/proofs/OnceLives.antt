@@ -15,13 +15,13 @@ use Rattle.maps.specs.Kinds.{readMaps}
 use Rattle.model.specs.declared.Landing.{Landing}
 use Rattle.model.specs.declared.Record.{Record}
 use Rattle.model.specs.declared.Opened.{Opened}
-use Rattle.model.specs.Disc.{Disc, sector, mark, recordedRun, joined, shapely, inside, nwa}
+use Rattle.model.specs.Disc.{Disc, sector, recordedRun, joined, shapely, inside, nwa}
 use Rattle.model.specs.Writes.{landed, writes, struck, noCut}
 use Rattle.model.specs.Vat.{none, allBelow, passes, vatIcb, vatFile, countOf, entriesOf, fileOf, icbAt}
 use Rattle.model.specs.VatWritten.{fileBytes, dataSectors, writtenFile, writtenData, writtenIcb}
 use Rattle.model.specs.Plan.{unless, replyOf, discAfter, tableAfter}
 use Rattle.model.specs.Examine.{Setting, writeOnce, examined, lentTable}
-use Rattle.model.specs.Once.{nextOn, entriesHeld, nextHeld, lastHeld, onceVerdict, foundAt, newest, newestFile, foundRecord, passedOver, filledFrom, countAfter, roomToSave, saveTests, saveLent, savePlan, roomToCommit, commitTests, icbBlock, commitWrites, commitPlan}
+use Rattle.model.specs.Once.{nextOn, entriesHeld, nextHeld, lastHeld, onceVerdict, foundAt, newest, newestFile, foundRecord, filledFrom, countAfter, roomToSave, saveTests, saveLent, savePlan, roomToCommit, commitTests, icbBlock, commitWrites, commitPlan}
 use Rattle.model.specs.Both.{recordOn, numbersOn, passedOn, openedBy, filledBy, opening, openedTable, makeTests, makeVerdict, makeWrites, madeBy, made}
 use Rattle.model.specs.Calls.{saveVirtual, commit, openDisc, done, opened, State, Result, answerOf, heldAfter, carried, answerOfOpening, heldAfterOpening, step, answers, final, accepted, isCut}
 use Rattle.model.specs.Store.{Slot, holds, entrySlots, Store, store, Shape, shapeOf, put, cutIn, writesIn, wasCut, taken, next, seenAs, bytes, look}
@@ -30,13 +30,13 @@ use Rattle.model.specs.Lives.{OnceMadeOpens, firstBlock, OnceLives}
 use Rattle.model.proofs.Basics.{both}
 use Rattle.model.proofs.Verdicts.{Examined, examined-tells, then-go, go-then}
 use Rattle.model.proofs.Scan.{below-none, length-slots, not-recorded}
-use Rattle.model.proofs.Sectors.{shapely-made, inside-fits, landed-shapely, landed-inside, sector-done, mark-done, recorded-done, writes-one, landing-none, nwa-blank, nwa-is}
+use Rattle.model.proofs.Sectors.{shapely-made, inside-fits, landed-shapely, landed-inside, sector-done, recorded-done, writes-one, landing-none}
 use Rattle.model.proofs.WrittenVatFile.{file-count, file-entries}
 use Rattle.model.proofs.WrittenVatIcb.{length-icb, icb-file, icb-passes}
-use Rattle.model.proofs.Once.{Kept, BlankFrom, on-disc, blank-landed}
+use Rattle.model.proofs.Once.{Kept, BlankFrom, on-disc, blank-next, blank-landed, next-done}
 use Rattle.model.proofs.OnceRead.{onceHeld, Live, live-held, examined-once, read-once}
 use Rattle.model.proofs.OnceSave.{OnceOk, sound-save}
-use Rattle.model.proofs.OnceOpen.{length-entries, kept-newest, open-goes, reopened}
+use Rattle.model.proofs.OnceOpen.{length-entries, kept-newest, passed-kept, open-goes, reopened}
 use Rattle.model.proofs.OnceCommit.{sound-commit}
 
 -- ---- what making leaves
@@ -107,10 +107,7 @@ module _ (s l : ℕ) (d : Disc) (shape : shapely d ≡ true) (within : inside d 
 
   -- and has NWA 1
   empty-next : nwa d′ s l ≡ 1
-  empty-next =
-      nwa-is d′ s l 1 room (blank′ .blank)
-      (λ _ q. let w : s + (1 - 1) ≡ s + 0 = omega arith in
-      omega (arith, ap (mark d′) (sym w) ∙ q, mark-done (s + 0) icb d on))
+  empty-next = next-done s l 0 icb d blank (omega (arith, room)) on
 
 -- ---- opening a disc that keeps a VAT at a, whose NWA is n
 
@@ -137,8 +134,8 @@ module _ (e : Setting) (once : writeOnce e ≡ true) (maps-go : readMaps (e .map
     kept-record = rw (once, count, top, place)
 
     kept-passed : passedOn e d ≡ n - 1 - a
-    unfolding passedOn passedOver
-    kept-passed = rw (once, top, place)
+    unfolding passedOn
+    kept-passed = rw (once, ← top) (passed-kept e once maps-go d a κ)
 
     kept-opening : (t : List ℕ) → 4096 ≤ length t → opening e d t ≡ Opened.Open (Record.WriteOnce (length bs) n a) (n - 1 - a)
     unfolding opening openedBy
@@ -163,7 +160,7 @@ module _ (e : Setting) (d : Disc) (spares : List ℕ) (once : writeOnce e ≡ tr
 
   was-blank : BlankFrom (e .start) (e .span) d 0
   unfolding nextOn
-  was-blank = record { blank = λ k h q. nwa-blank d (e .start) (e .span) k (omega (arith, told .empty)) q }
+  was-blank = blank-next (e .start) (e .span) 0 d (told .empty)
 
   -- is the old one with the ICB of an empty VAT in the first block
   made-is : made e d spares ≡ landed Landing.Done (e .start + 0) (writtenIcb 0 [] none) d

@@ -1,5 +1,5 @@
 -- Opening a write-once disc: it is accepted wherever a VAT is kept, and gives back its blocks. Assumes nothing.
-use Prim.Native.Nat.{ℕ, zero, suc, _+_, _≤_, _<_}
+use Prim.Native.Nat.{ℕ, zero, suc, _+_, _-_, _≤_, _<_}
 use mathlib.Core.Bool.{true, false≢true}
 use mathlib.Core.Path.{_≡_, refl, ap, _∙_}
 use mathlib.Core.List.{List}
@@ -17,7 +17,7 @@ use Rattle.model.specs.Disc.{Disc, nwa}
 use Rattle.model.specs.Writes.{struck, noCut}
 use Rattle.model.specs.Vat.{Found, icbAt, nowhere, vatFile, countOf, entriesOf}
 use Rattle.model.specs.Examine.{Setting, writeOnce, examined, lentTable}
-use Rattle.model.specs.Once.{nextOn, entriesHeld, nextHeld, lastHeld, isFound, foundAt, newest, newestFile, openOnceTests, foundRecord, filledFrom}
+use Rattle.model.specs.Once.{nextOn, entriesHeld, nextHeld, lastHeld, isFound, foundAt, newest, newestFile, openOnceTests, foundRecord, passedOver, filledFrom}
 use Rattle.model.specs.Both.{openVerdict, recordOn, numbersOn, openedBy, filledBy, opening, openedTable}
 use Rattle.model.specs.Calls.{openDisc, State, Result, step, answerOfOpening, heldAfterOpening, accepted, isCut, isOpened}
 use Rattle.model.specs.Store.{Slot, entrySlots, Store, Shape, blocksOn, start, cutIn, writesIn, wasCut, taken, next}
@@ -58,7 +58,7 @@ unfolding foundAt
 found-place f a e = ap foundAt e
 
 -- a VAT that is kept stands below NWA
-kept-below : (e : Setting) (d : Disc) (a : ℕ) {bs : List Slot} → Kept (e .start) (e .span) d a bs → a < nextOn e d
+pub kept-below : (e : Setting) (d : Disc) (a : ℕ) {bs : List Slot} → Kept (e .start) (e .span) d a bs → a < nextOn e d
 unfolding nextOn
 kept-below e d a κ =
     nwa-above d (e .start) (e .span) a (κ .newest .below) (λ q. omega (arith, icb-recorded d (e .start) a (κ .newest .here)))
@@ -96,6 +96,11 @@ module _ (e : Setting) (once : writeOnce e ≡ true) (maps-go : readMaps (e .map
         below = kept-below e d a κ;
         above = λ j u v. κ .newest .above j u (omega (arith, nwa-most d (e .start) (e .span)));
       })
+
+  -- and passes over what lies between it and NWA
+  pub passed-kept : (d : Disc) (a : ℕ) {bs : List Slot} → Kept (e .start) (e .span) d a bs → passedOver e d ≡ nextOn e d - 1 - a
+  unfolding passedOver foundAt
+  passed-kept d a κ = rw (kept-newest d a κ)
 
   -- opening goes on
   pub open-goes : (d : Disc) (t : List ℕ) (a : ℕ) {bs : List Slot} → Kept (e .start) (e .span) d a bs → 4096 ≤ length t → openVerdict e d t ≡ Go

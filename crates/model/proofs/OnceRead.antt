@@ -26,8 +26,8 @@ use Rattle.model.proofs.Basics.{by-bool, by-lt, both}
 use Rattle.model.proofs.Verdicts.{examined-go, go-then}
 use Rattle.model.proofs.Marks.{sector-shown}
 use Rattle.model.proofs.Scan.{icb-recorded, length-slots, slot-none}
-use Rattle.model.proofs.Sectors.{nwa-above, nwa-blank}
-use Rattle.model.proofs.Once.{Kept, BlankFrom}
+use Rattle.model.proofs.Sectors.{nwa-above}
+use Rattle.model.proofs.Once.{Kept, BlankFrom, blank-next}
 
 -- a record of a write-once disc
 unfoldable pub onceHeld : Record → Bool
@@ -55,7 +55,7 @@ held-once e d t (Record.Rewritable n sequence) h = let z : _≡_ {A = ℕ} 0 1 =
 -- the blocks from NWA on are blank, and the last ICB is below it
 pub live-blank : (e : Setting) (st : State) (σ : Store) → Live e st σ → BlankFrom (e .start) (e .span) (st .disc) (nextHeld (st .held))
 unfolding nextOn
-live-blank e st σ i = record { blank = λ k h q. nwa-blank (st .disc) (e .start) (e .span) k (omega (arith, i .top)) q }
+live-blank e st σ i = blank-next (e .start) (e .span) (nextHeld (st .held)) (st .disc) (sym (i .top))
 
 pub live-last : (e : Setting) (st : State) (σ : Store) → Live e st σ → lastHeld (st .held) < nextHeld (st .held)
 unfolding nextOn

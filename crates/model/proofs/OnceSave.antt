@@ -16,7 +16,7 @@ use Rattle.refusal.proofs.Laws.{All, passed}
 use Rattle.model.specs.declared.Cut.{Cut}
 use Rattle.model.specs.declared.Landing.{Landing}
 use Rattle.model.specs.declared.Record.{Record}
-use Rattle.model.specs.Disc.{Disc, mark}
+use Rattle.model.specs.Disc.{Disc}
 use Rattle.model.specs.Writes.{landing, landed, write, writes, struck, noCut}
 use Rattle.model.specs.Vat.{none, allBelow, passes}
 use Rattle.model.specs.VatWritten.{dataSectors}
@@ -28,8 +28,8 @@ use Rattle.model.proofs.Basics.{by-eq, and-true}
 use Rattle.model.proofs.Verdicts.{Examined, examined-tells, then-go}
 use Rattle.model.proofs.Agree.{Agree}
 use Rattle.model.proofs.Scan.{below-mono, below-set, below-snoc, below-own, below-none, slots-agree, slot-none, slots-set, slots-snoc}
-use Rattle.model.proofs.Sectors.{Made, shapely-made, shapely-most, sector-done, mark-done, recorded-done, landing-uncut, nwa-is}
-use Rattle.model.proofs.Once.{Kept, on-disc, agree-landed, blank-landed, kept-write}
+use Rattle.model.proofs.Sectors.{Made, shapely-made, shapely-most, sector-done, recorded-done, landing-uncut}
+use Rattle.model.proofs.Once.{Kept, on-disc, agree-landed, next-done, kept-write}
 use Rattle.model.proofs.OnceRead.{onceHeld, Live, live-blank, live-length}
 use Rattle.model.proofs.Steps.{Told, told-plan, Sound, sound-plan, sound-carried}
 
@@ -68,14 +68,14 @@ table-set n v x t h = rw (ne-eqb v n (λ q. omega arith)) (take-set-lt n t v x h
 module _ (e : Setting) (h : Shape) (st : State) (σ : Store) (i : Live e st σ) where
   -- ---- save v
   module _ (v : ℕ) (b : List ℕ) (c : Cut) (g : onceVerdict e (st .disc) (st .table) (saveLent (st .table) b) (st .held) (saveTests e (st .disc) (st .held) v b) ≡ Go) where
-    record Facts : Type 0 where
+    pub record Facts : Type 0 where
       long : length b ≡ 2048
       most : v ≤ N st
       small : v < 4096
       plain : passes (st .disc) (e .start) (W st) b ≡ false
-      room : W st + 1 + dataSectors (countAfter (N st) v) + 1 ≤ e .span
+      pub room : W st + 1 + dataSectors (countAfter (N st) v) + 1 ≤ e .span
 
-    facts : Facts
+    pub facts : Facts
     unfolding saveTests roomToSave saveLent
     facts =
         let p = once-tells e (st .disc) (st .table) _ (st .held) (saveTests e (st .disc) (st .held) v b) g in
@@ -89,7 +89,7 @@ module _ (e : Setting) (h : Shape) (st : State) (σ : Store) (i : Live e st σ) 
           room = leb-true _ _ (p .1 .1 .1 .0);
         }
 
-    kept-saved : Kept (e .start) (e .span) (writes 1 c (record { place = e .start + W st; bytes = b } ∷ []) (st .disc)) (lastHeld (st .held)) (σ .copy)
+    pub kept-saved : Kept (e .start) (e .span) (writes 1 c (record { place = e .start + W st; bytes = b } ∷ []) (st .disc)) (lastHeld (st .held)) (σ .copy)
     unfolding writes write
     kept-saved =
         kept-write (landing 1 c) (e .start) (e .span) (W st) b (st .disc) (i .kept) (omega (arith, facts .room)) (live-blank e st σ i) (facts .long) (λ _. facts .plain)
@@ -112,10 +112,7 @@ module _ (e : Setting) (h : Shape) (st : State) (σ : Store) (i : Live e st σ) 
       next-nwa : W st + 1 ≡ nextOn e d′
       unfolding nextOn d′
       next-nwa =
-          sym (nwa-is d′ (e .start) (e .span) (W st + 1) (omega (arith, facts .room))
-          (blank-landed Landing.Done (e .start) (e .span) (W st) b (st .disc) (live-blank e st σ i) .blank)
-          (λ _ q. let w : e .start + (W st + 1 - 1) ≡ e .start + W st = omega arith in
-          omega (arith, ap (mark d′) (sym w) ∙ q, mark-done (e .start + W st) b (st .disc) on)))
+          sym (next-done (e .start) (e .span) (W st) b (st .disc) (live-blank e st σ i) (omega (arith, facts .room)) on)
 
       agree : Agree (e .start) (W st) d′ (st .disc)
       unfolding d′

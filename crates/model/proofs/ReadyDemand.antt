@@ -19,7 +19,7 @@ use Rattle.model.specs.Both.{opening, openVerdict}
 use Rattle.model.specs.Calls.{Call, saveVirtual, freeVirtual, commit, saveBlock, savePacket, sparePacket, openDisc, cut, State, step, answers, answerOfOpening, isOpened, Proper, endsCut}
 use Rattle.model.specs.Store.{Store, Shape, shapeOf, start, cutIn}
 use Rattle.model.specs.Demand.{Below, afterOpening, followed, Kept}
-use Rattle.model.proofs.Verdicts.{then-go, examined-tells}
+use Rattle.model.proofs.Verdicts.{open-maps, then-go}
 use Rattle.model.proofs.Ground.{Ground}
 use Rattle.model.proofs.Ready.{LiveAgain, read-again}
 use Rattle.model.proofs.ReadyOpen.{AgainOk, reopened-again, first-ground, first-again}
@@ -87,22 +87,22 @@ module _ (e : Setting) (again : writeOnce e ≡ false) (maps-go : readMaps (e .m
   unfolding AgainOk
   again-lists d t i cs p =
       record {
-        opens = list-opens (AgainOk e g) h e sound-any opens-any cs (afterOpening e d t) (start e d) i p;
+        opens = list-opens (AgainOk e g) h e sound-any cs (afterOpening e d t) (start e d) i p opens-any;
         reads = λ q v out long.
-            let o = list-ends (AgainOk e g) h e sound-any opens-any cs (afterOpening e d t) (start e d) i p q in
+            let o = list-ends (AgainOk e g) h e sound-any cs (afterOpening e d t) (start e d) i p q in
             read-again e g again γ maps-go _ (o .0) (o .1) _ (o .2) v out long;
       }
 
   again-answers : (d : Disc) (t : List ℕ) → AgainOk e g false (afterOpening e d t) (start e d) → (cs : List Call) → Proper false cs (answers e (afterOpening e d t) cs)
       → (i : ℕ) → i < length cs
       → Told h (followed h (start e d) (take i cs) (answers e (afterOpening e d t) (take i cs))) (getD cs i openDisc) (getD (answers e (afterOpening e d t) cs) i cut)
-  again-answers d t o cs p = list-told (AgainOk e g) h e sound-any told-any cs (afterOpening e d t) (start e d) o p
+  again-answers d t o cs p = list-told (AgainOk e g) h e sound-any cs (afterOpening e d t) (start e d) o p told-any
 
   again-count : (d : Disc) (t : List ℕ) → AgainOk e g false (afterOpening e d t) (start e d) → (cs : List Call) → Proper false cs (answers e (afterOpening e d t) cs)
       → endsCut false (answers e (afterOpening e d t) cs) ≡ false → length (followed h (start e d) cs (answers e (afterOpening e d t) cs) .blocks) ≡ e .span
   unfolding AgainOk
   again-count d t i cs p q =
-      let o = list-ends (AgainOk e g) h e sound-any opens-any cs (afterOpening e d t) (start e d) i p q in
+      let o = list-ends (AgainOk e g) h e sound-any cs (afterOpening e d t) (start e d) i p q in
       o .2 .ready .count ∙ sym (γ .span-is)
 
 -- on a rewritable disc that opening accepts
@@ -111,7 +111,7 @@ pub again-demand : (e : Setting) (d : Disc) (t : List ℕ) → Below 256 (d .byt
 unfolding openVerdict AgainOk shapeOf geometry
 again-demand e d t low again a cs p =
     let go = accepted-goes e d t a in
-    let m = examined-tells e d _ (then-go (examined e d _) _ go .0) .maps in
+    let m = open-maps e d t go in
     again-lists e again m (geometry e d) (first-ground e again d t low go) refl d t (first-again e again d t low go) cs p
 
 -- the answer of each call says that it was cut exactly if the plain store knows it
@@ -121,7 +121,7 @@ pub again-told : (e : Setting) (d : Disc) (t : List ℕ) → Below 256 (d .bytes
 unfolding openVerdict AgainOk shapeOf geometry
 again-told e d t low again a cs p =
     let go = accepted-goes e d t a in
-    let m = examined-tells e d _ (then-go (examined e d _) _ go .0) .maps in
+    let m = open-maps e d t go in
     again-answers e again m (geometry e d) (first-ground e again d t low go) refl d t (first-again e again d t low go) cs p
 
 -- the plain store has L blocks, in whole packets, after a list that does not end in a cut
@@ -131,6 +131,6 @@ pub again-blocks : (e : Setting) (d : Disc) (t : List ℕ) → Below 256 (d .byt
 unfolding openVerdict AgainOk shapeOf geometry
 again-blocks e d t low again a cs p q =
     let go = accepted-goes e d t a in
-    let m = examined-tells e d _ (then-go (examined e d _) _ go .0) .maps in
+    let m = open-maps e d t go in
     let γ = first-ground e again d t low go in
     (again-count e again m (geometry e d) γ refl d t (first-again e again d t low go) cs p q, γ .span-32)

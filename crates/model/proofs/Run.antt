@@ -2,7 +2,6 @@
 -- call from the laws of RunSteps.antt; what is read follows from demand 3. Assumes nothing.
 use Prim.Native.Nat.{ℕ, zero, suc}
 use mathlib.Core.Bool.{Bool, true, false, _&&_}
-use mathlib.Core.Logic.{_≢_}
 use mathlib.Core.Path.{_≡_, refl, ap, _∙_, subst}
 use mathlib.Core.List.{List, [], _∷_}
 use native.Mathlib.Omega.{arith}
@@ -21,14 +20,13 @@ use Rattle.maps.specs.Walk.{before as beforeRest, firstLength, firstWhole, walk
 use Rattle.maps.specs.Kinds.{virtualName, typeOne, typeTwo, isWriteOnce, volumeWith, volumeOf, tablesApart, tablesIn, tablesOf, kindTests, judged, answered, volumeIn, readMaps}
 use Rattle.maps.specs.Written.{typeOneMap, typeTwoMap, mapsOf}
 use Rattle.model.specs.declared.Effect.{Effect}
-use Rattle.model.specs.declared.Landing.{Landing}
 use Rattle.model.specs.declared.Record.{Record}
 use Rattle.model.specs.declared.Opened.{Opened}
-use Rattle.model.specs.Disc.{Disc, sector, mark, recorded, nwa, known, shapely, inside}
+use Rattle.model.specs.Disc.{sector, mark, recorded, nwa, known, shapely, inside}
 use Rattle.model.specs.Writes.{onEffect, landing, landed, write, writes, struck, noCut}
 use Rattle.model.specs.Vat.{vatName, none, fileFits, countOf, entriesOf, previousOf, belowOrNone, allBelow, tagFits, form, fileLength, attributes, allocation, entryFits, allocationFits, fileOf, tableFits, passes, vatIcb, vatFile, scan}
 use Rattle.model.specs.VatWritten.{fileBytes, dataSectors, writtenFile, filled, writtenAllocation, writtenForm, writtenEntry, tagWith, writtenTag, writtenIcb}
-use Rattle.model.specs.Examine.{Setting, volume, isOnce, writeOnce, shapeTests, placeTests, examined, lentTable}
+use Rattle.model.specs.Examine.{volume, isOnce, writeOnce, shapeTests, placeTests, examined, lentTable}
 use Rattle.model.specs.Once.{nextOn, entriesHeld, nextHeld, isFound, foundAt, newest, newestFile, openOnceTests, foundRecord, passedOver, countAfter, roomToSave, saveTests}
 use Rattle.model.specs.Both.{openVerdict, recordOn, passedOn, openedBy, opening, makeTests, makeVerdict, makeWrites, madeBy, made}
 use Rattle.model.specs.Calls.{State, answers, answerOfOpening, isOpened, isCut, accepted, endsCut, Proper}
@@ -36,11 +34,14 @@ use Rattle.model.specs.Store.{Slot, holds, unused, store, blocksOn, star
 use Rattle.model.specs.Demand.{Below, afterOpening, followed, seen, Kept, Demand3}
 use Rattle.model.specs.Run.{twelve, blank, fresh, lent, ones, twos, failing, calls, given, before, after, Run}
 use Rattle.model.proofs.Basics.{and-true}
+use Rattle.model.proofs.Verdicts.{opened-tells}
+use Rattle.model.proofs.Once.{nextAfter}
+use Rattle.model.proofs.Cuts.{old-differs, unreadable-differs}
 use Rattle.model.proofs.OnceRead.{Live, live-length}
 use Rattle.model.proofs.OnceOpen.{first-live}
 use Rattle.model.proofs.OnceDemand.{accepted-goes}
 use Rattle.model.proofs.Demand.{demand-3}
-use Rattle.model.proofs.RunSteps.{nextAfter, Between, told, told-none, isOpening, orderly, orderly-proper, standing, saved, save-refused, save-cut, freed, committed, commit-torn, commit-whole, opened-again}
+use Rattle.model.proofs.RunSteps.{Between, told, told-none, isOpening, orderly, orderly-proper, standing, saved, save-refused, save-cut, freed, committed, commit-torn, commit-whole, opened-again}
 
 -- ---- the disc
 
@@ -57,24 +58,19 @@ bytes-below (x ∷ l) q (suc i) h = bytes-below l (and-true (ltb x 256) (bytesOn
 
 -- what is computed of the disc: the map list is that of a write-once volume; opening finds the empty VAT that making wrote, its ICB in
 -- block 0, and passes over no sector; every byte is one
-record Computed : Type 0 where
-  once : writeOnce twelve ≡ true
-  maps : readMaps (twelve .maps) .verdict ≡ Go
-  opens : opening twelve fresh lent ≡ Opened.Open (Record.WriteOnce 0 1 0) 0
-  whole : bytesOnly (fresh .bytes) ≡ true
+pub record Computed : Type 0 where
+  pub once : writeOnce twelve ≡ true
+  pub maps : readMaps (twelve .maps) .verdict ≡ Go
+  pub opens : opening twelve fresh lent ≡ Opened.Open (Record.WriteOnce 0 1 0) 0
+  pub whole : bytesOnly (fresh .bytes) ≡ true
 
-computed : Computed
+pub computed : Computed
 unfolding bytesOnly twelve blank fresh lent writeOnce isOnce volume beforeRest firstLength firstWhole walkUpTo walk virtualName typeOne typeTwo isWriteOnce volumeWith volumeOf tablesApart tablesIn tablesOf kindTests judged answered volumeIn readMaps typeOneMap typeTwoMap mapsOf need part splice same join value digits field words quads identifier regid hasRegid total checksumOf bitStep bitsOf bitsFrom byteStep crcFrom sector mark recorded nwa known shapely inside landing landed write writes noCut vatName none fileFits countOf entriesOf previousOf belowOrNone allBelow tagFits form fileLength attributes allocation entryFits allocationFits fileOf tableFits passes vatIcb vatFile scan fileBytes dataSectors writtenFile filled writtenAllocation writtenForm writtenEntry tagWith writtenTag writtenIcb shapeTests placeTests examined lentTable nextOn isFound foundAt newest newestFile openOnceTests foundRecord passedOver openVerdict recordOn passedOn openedBy opening makeTests makeVerdict makeWrites madeBy made
 computed = record { once = refl; maps = refl; opens = refl; whole = refl }
 
 -- ---- what the calls answer
 
--- the record that opening hands back is the one on the disc
-pub handed : (e : Setting) (d : Disc) (t : List ℕ) (r : Record) (p : ℕ) → openVerdict e d t ≡ Go → opening e d t ≡ Opened.Open r p → recordOn e d ≡ r
-unfolding opening openedBy
-handed e d t r p g q = let w : Opened.Open (recordOn e d) (passedOn e d) ≡ Opened.Open r p = rw g at q in cc
-
-accepts : isOpened (answerOfOpening (opening twelve fresh lent)) ≡ true
+pub accepts : isOpened (answerOfOpening (opening twelve fresh lent)) ≡ true
 unfolding isOpened answerOfOpening
 accepts = ap (λ x. isOpened (answerOfOpening x)) (computed .opens)
 
@@ -92,23 +88,17 @@ begun = first-live twelve (computed .once) (computed .maps) fresh lent goes
 
 held-first : before .held ≡ Record.WriteOnce 0 1 0
 unfolding before afterOpening
-held-first = handed twelve fresh lent _ _ goes (computed .opens)
+held-first = opened-tells twelve fresh lent _ _ (computed .opens) .held
 
 -- the plain store begins with no block
-empty : start twelve fresh ≡ store [] []
+pub empty : start twelve fresh ≡ store [] []
 unfolding start entriesHeld
 empty =
     let none-there : blocksOn twelve fresh ≡ [] = no-element (blocksOn twelve fresh) (live-length twelve before (start twelve fresh) begun ∙ ap entriesHeld held-first) in
     ap (λ l. store l l) none-there
 
-at-first : Between twelve before (store [] []) 0 1 0
+pub at-first : Between twelve before (store [] []) 0 1 0
 at-first = record { once = computed .once; maps = computed .maps; live = subst (Live twelve before) empty begun; held = held-first }
-
-old-differs : Landing.Old ≢ Landing.Done
-old-differs q = let z : _≡_ {A = ℕ} 0 1 = cc in omega arith
-
-unreadable-differs : Landing.Unreadable ≢ Landing.Done
-unreadable-differs q = let z : _≡_ {A = ℕ} 0 1 = cc in omega arith
 
 -- the blocks of the plain store, its copy, N, NWA and the last ICB
 abbrev Now : State → List Slot → List Slot → ℕ → ℕ → ℕ → Type 0

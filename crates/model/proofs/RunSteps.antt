@@ -20,7 +20,6 @@ use Rattle.model.specs.declared.Cut.{Cut}
 use Rattle.model.specs.declared.Landing.{Landing}
 use Rattle.model.specs.declared.Record.{Record}
 use Rattle.model.specs.declared.Opened.{Opened}
-use Rattle.model.specs.Disc.{mark}
 use Rattle.model.specs.Writes.{landing, landed, write, writes, upward, struck, noCut}
 use Rattle.model.specs.Vat.{none, passes, tagFits, vatFile, countOf, allBelow}
 use Rattle.model.specs.VatWritten.{dataSectors, writtenIcb}
@@ -33,20 +32,12 @@ use Rattle.model.specs.Store.{holds, unused, entrySlot, entrySlots, Stor
 use Rattle.model.proofs.Basics.{and-true, both, and-false-left, by-bool}
 use Rattle.model.proofs.Verdicts.{go-then}
 use Rattle.model.proofs.Scan.{length-slots}
-use Rattle.model.proofs.Sectors.{mark-done, mark-unreadable, nwa-is}
 use Rattle.model.proofs.WrittenVat.{length-icb}
-use Rattle.model.proofs.Once.{Kept, BlankFrom, on-disc, blank-landed, kept-write}
+use Rattle.model.proofs.Once.{Kept, BlankFrom, on-disc, nextAfter, next-landed, kept-write}
 use Rattle.model.proofs.OnceRead.{Live, live-held, live-blank, live-last, live-block, live-length, examined-once}
 use Rattle.model.proofs.OnceSave.{OnceOk, sound-save, sound-free}
 use Rattle.model.proofs.OnceOpen.{length-entries, kept-newest, open-goes, reopened}
 use Rattle.model.proofs.OnceCommit.{commit-one, sound-commit, whole-kept}
-
--- NWA after a write at NWA w, however it landed
-unfoldable pub nextAfter : ℕ → Landing → ℕ
-nextAfter w Landing.Done = w + 1
-nextAfter w Landing.Old = w
-nextAfter w Landing.Unreadable = w + 1
-nextAfter w Landing.Untouched = w
 
 -- between calls: the record is N, NWA w and the last ICB a, and the plain store is σ
 pub record Between (e : Setting) (st : State) (σ : Store) (n w a : ℕ) : Type 0 where
@@ -187,20 +178,10 @@ module _ {e : Setting} {st : State} {σ : Store} {n w a : ℕ} (t : Between e st
       let is = save-step v b c long (Stop why) stop in
       record { says = ap (λ x. x .answer) is; leaves = subst (λ x. Between e x σ n w a) (sym (ap (λ x. x .state) is)) t }
 
-  -- a write that leaves a mark moves NWA up by one
-  top-up : (l : Landing) (b : List ℕ) → w < e .span → mark (landed l (e .start + w) b (st .disc)) (e .start + w) ≢ 0 → nextOn e (landed l (e .start + w) b (st .disc)) ≡ w + 1
-  unfolding nextOn
-  top-up l b h marked =
-      nwa-is _ (e .start) (e .span) (w + 1) (omega arith) (blank-landed l (e .start) (e .span) w b (st .disc) blank .blank)
-      (λ _ q. let u : e .start + (w + 1 - 1) ≡ e .start + w = omega arith in marked (ap (mark _) (sym u) ∙ q))
-
   -- NWA after a write there, however it landed
   top-after : (l : Landing) (b : List ℕ) → w < e .span → nextOn e (landed l (e .start + w) b (st .disc)) ≡ nextAfter w l
-  unfolding nextAfter landed
-  top-after Landing.Done b h = top-up Landing.Done b h (λ q. omega (arith, mark-done (e .start + w) b (st .disc) (on h)))
-  top-after Landing.Old b h = sym top
-  top-after Landing.Unreadable b h = top-up Landing.Unreadable b h (λ q. omega (arith, mark-unreadable (e .start + w) b (st .disc) (on h)))
-  top-after Landing.Untouched b h = sym top
+  unfolding nextOn
+  top-after l b h = next-landed l (e .start) (e .span) w b (st .disc) (sym top) h (on h)
 
   -- what a cut of one write leaves, where the write does not make a new VAT
   cut-short : (call : Call) (c : Cut) (b table : List ℕ) (r : Record) → step e st call ≡ carried (onePlan Go (e .start + w) b table r) c st → struck c 1 ≡ true

@@ -1,11 +1,12 @@
--- From one call to a whole list: if an invariant holds from call to call beside the plain store, demand 3 holds of every list. For both kinds.
--- And from one call to a whole list, that the answer of a call says that it was cut exactly if the plain store knows it. Assumes nothing.
+-- From one call to a whole list: what holds from call to call beside the plain store and the count holds before each call of a list and after the
+-- last. From it every opening of a list is accepted, and the answer of each call says that it was cut exactly if the plain store knows it. For both
+-- kinds. Assumes nothing.
 use Prim.Native.Nat.{ℕ, zero, suc, _<_}
 use mathlib.Core.Bool.{Bool, true, false, _&&_}
-use mathlib.Core.Path.{_≡_, refl, sym, ap, subst}
+use mathlib.Core.Path.{_≡_, refl, subst}
 use mathlib.Core.List.{List, [], _∷_}
-use native.Mathlib.Omega.{arith}
 use lib.ListN.{length, getD, take}
+use lib.Seq.{take-length}
 use Rattle.refusal.specs.declared.Refusal.{Refusal}
 use Rattle.refusal.specs.declared.Verdict.{Verdict}
 use Rattle.refusal.specs.declared.Verdict.the-variants.{Go}
@@ -18,8 +19,10 @@ use Rattle.model.specs.Both.{openVerdict, openedBy, opening}
 use Rattle.model.specs.Calls.{Call, openDisc, Answer, cut, State, Result, answerOf, heldAfter, carried, answerOfOpening, step, answers, final, accepted, isCut, isOpened, Proper, endsCut}
 use Rattle.model.specs.Store.{Store, Shape, cutIn, writesIn, wasCut, taken, next}
 use Rattle.model.specs.Demand.{followed}
+use Rattle.model.specs.Wait.{Count, count, counting, counted}
 use Rattle.model.proofs.Basics.{by-bool}
 use Rattle.model.proofs.Verdicts.{by-verdict}
+use Rattle.model.proofs.ConsequencesLists.{answer-place, proper-place}
 
 -- ---- whether a call was cut
 
@@ -87,61 +90,47 @@ module _ (Ok : Bool → State → Store → Type 0) (h : Shape) where
       (λ q. rw q (f q))
       (λ why q. rw q (sound-refused σ c why k st i))
 
-  -- the list of calls
-  module _ (e : Setting)
-      (sound : (down : Bool) (st : State) (σ : Store) (c : Call) → Ok down st σ → (down ≡ true → c ≡ openDisc) → Sound σ c (step e st c))
-      (opens : (down : Bool) (st : State) (σ : Store) → Ok down st σ → isOpened (step e st openDisc .answer) ≡ true) where
-    -- every opening is accepted, along a list
-    abbrev Opens : List Call → List Answer → Type 0
-    Opens [] al = Unit {0}
-    Opens (c ∷ cs) [] = Unit {0}
-    Opens (c ∷ cs) (a ∷ al) = (c ≡ openDisc → isOpened a ≡ true) × Opens cs al
+-- ---- lists of calls
 
-    all-calls : (cs : List Call) (down : Bool) (st : State) (σ : Store) → Ok down st σ → Proper down cs (answers e st cs)
-        → Opens cs (answers e st cs) × Ok (endsCut down (answers e st cs)) (final e st cs) (followed h σ cs (answers e st cs))
-    unfolding Proper answers final followed endsCut
-    all-calls [] down st σ o p = (tt, o)
-    all-calls (c ∷ cs) down st σ o p =
-        let r = step e st c in
-        let i : Sound σ c r = sound down st σ c o (p .0) in
-        let t = all-calls cs (isCut (r .answer)) (r .state) (next h σ c (accepted (r .answer))) i (p .1) in
-        ((λ q. subst (λ (x : Call). isOpened (step e st x .answer) ≡ true) (sym q) (opens down st σ o), t .0), t .1)
+-- an invariant of the state, the plain store and the count; `down` says whether the last call was cut
+module _ (Ok : Bool → State → Store → Count → Type 0) (h : Shape) (e : Setting)
+    (sound :
+    (down : Bool) (st : State) (σ : Store) (k : Count) (c : Call) → Ok down st σ k → (down ≡ true → c ≡ openDisc)
+    → Ok (isCut (step e st c .answer)) (step e st c .state) (next h σ c (accepted (step e st c .answer))) (counting h σ k c (accepted (step e st c .answer)))) where
+  -- what holds before a list holds after its first i calls
+  pub list-holds : (cs : List Call) (down : Bool) (st : State) (σ : Store) (k : Count) → Ok down st σ k → Proper down cs (answers e st cs) → (i : ℕ)
+      → Ok (endsCut down (answers e st (take i cs))) (final e st (take i cs))
+      (followed h σ (take i cs) (answers e st (take i cs)))
+      (counted h σ k (take i cs) (answers e st (take i cs)))
+  unfolding Proper answers final followed endsCut counted
+  list-holds [] down st σ k o p zero = o
+  list-holds [] down st σ k o p (suc i) = o
+  list-holds (c ∷ cs) down st σ k o p zero = o
+  list-holds (c ∷ cs) down st σ k o p (suc i) =
+      let r = step e st c in
+      list-holds cs (isCut (r .answer)) (r .state) (next h σ c (accepted (r .answer))) (counting h σ k c (accepted (r .answer))) (sound down st σ k c o (p .0)) (p .1) i
 
-    length-answers : (cs : List Call) (st : State) → length (answers e st cs) ≡ length cs
-    unfolding answers
-    length-answers [] st = refl
-    length-answers (c ∷ cs) st = ap suc (length-answers cs (step e st c .state))
+-- one that asks nothing of the count
+module _ (Ok : Bool → State → Store → Type 0) (h : Shape) (e : Setting)
+    (sound : (down : Bool) (st : State) (σ : Store) (c : Call) → Ok down st σ → (down ≡ true → c ≡ openDisc) → Sound Ok h σ c (step e st c))
+    (cs : List Call) (st : State) (σ : Store) (first : Ok false st σ) (proper : Proper false cs (answers e st cs)) where
+  -- holds after the first i calls
+  abbrev Holds : List Call → Type 0
+  Holds l = Ok (endsCut false (answers e st l)) (final e st l) (followed h σ l (answers e st l))
 
-    opens-at : (cs : List Call) (al : List Answer) → length al ≡ length cs → Opens cs al → (i : ℕ) → i < length cs → getD cs i openDisc ≡ openDisc → isOpened (getD al i cut) ≡ true
-    opens-at [] al q o i l w = absurd (omega arith)
-    opens-at (c ∷ cs) [] q o i l w = absurd (omega arith)
-    opens-at (c ∷ cs) (a ∷ al) q o zero l w = o .0 w
-    opens-at (c ∷ cs) (a ∷ al) q o (suc i) l w = opens-at cs al (omega arith) (o .1) i (omega arith) w
+  holds : (i : ℕ) → Holds (take i cs)
+  holds = list-holds (λ down x τ k. Ok down x τ) h e (λ down x τ k. sound down x τ) cs false st σ (count 0 0) first proper
 
-    -- every opening in a list is accepted, by its place
-    pub list-opens : (cs : List Call) (st : State) (σ : Store) → Ok false st σ → Proper false cs (answers e st cs)
-        → (i : ℕ) → i < length cs → getD cs i openDisc ≡ openDisc → isOpened (getD (answers e st cs) i cut) ≡ true
-    list-opens cs st σ o p = opens-at cs (answers e st cs) (length-answers cs st) (all-calls cs false st σ o p .0)
+  -- every opening in the list is accepted, by its place
+  pub list-opens : ((down : Bool) (x : State) (τ : Store) → Ok down x τ → isOpened (step e x openDisc .answer) ≡ true)
+      → (i : ℕ) → i < length cs → getD cs i openDisc ≡ openDisc → isOpened (getD (answers e st cs) i cut) ≡ true
+  list-opens opens i l q = rw (answer-place e cs st i l, q) (opens _ _ _ (holds i))
 
-    -- and after a list that does not end in a cut the invariant holds
-    pub list-ends : (cs : List Call) (st : State) (σ : Store) → Ok false st σ → Proper false cs (answers e st cs)
-        → endsCut false (answers e st cs) ≡ false → Ok false (final e st cs) (followed h σ cs (answers e st cs))
-    list-ends cs st σ o p q = rw q at (all-calls cs false st σ o p .1)
+  -- after a list that does not end in a cut the invariant holds
+  pub list-ends : endsCut false (answers e st cs) ≡ false → Ok false (final e st cs) (followed h σ cs (answers e st cs))
+  list-ends q = rw q at (subst Holds (take-length cs) (holds (length cs)))
 
-  -- whether each call of a list was cut
-  module _ (e : Setting)
-      (sound : (down : Bool) (st : State) (σ : Store) (c : Call) → Ok down st σ → (down ≡ true → c ≡ openDisc) → Sound σ c (step e st c))
-      (told : (down : Bool) (st : State) (σ : Store) (c : Call) → Ok down st σ → (down ≡ true → c ≡ openDisc) → Told h σ c (step e st c .answer)) where
-    told-from : (cs : List Call) (down : Bool) (st : State) (σ : Store) → Ok down st σ → Proper down cs (answers e st cs)
-        → (i : ℕ) → i < length cs → Told h (followed h σ (take i cs) (answers e st (take i cs))) (getD cs i openDisc) (getD (answers e st cs) i cut)
-    unfolding Proper answers followed
-    told-from [] down st σ o p i l = absurd (omega arith)
-    told-from (c ∷ cs) down st σ o p zero l = told down st σ c o (p .0)
-    told-from (c ∷ cs) down st σ o p (suc i) l =
-        let r = step e st c in
-        told-from cs (isCut (r .answer)) (r .state) (next h σ c (accepted (r .answer))) (sound down st σ c o (p .0)) (p .1) i (omega arith)
-
-    -- the answer of each says so exactly if the plain store knows it
-    pub list-told : (cs : List Call) (st : State) (σ : Store) → Ok false st σ → Proper false cs (answers e st cs)
-        → (i : ℕ) → i < length cs → Told h (followed h σ (take i cs) (answers e st (take i cs))) (getD cs i openDisc) (getD (answers e st cs) i cut)
-    list-told cs st σ o p = told-from cs false st σ o p
+  -- the answer of each call says that it was cut exactly if the plain store knows it
+  pub list-told : ((down : Bool) (x : State) (τ : Store) (c : Call) → Ok down x τ → (down ≡ true → c ≡ openDisc) → Told h τ c (step e x c .answer))
+      → (i : ℕ) → i < length cs → Told h (followed h σ (take i cs) (answers e st (take i cs))) (getD cs i openDisc) (getD (answers e st cs) i cut)
+  list-told told i l = rw (answer-place e cs st i l) (told _ _ _ _ (holds i) (proper-place e cs st false proper i l))

@@ -13,6 +13,9 @@ use Rattle.maps.specs.Kinds.{readMaps}
 use Rattle.model.specs.Disc.{Disc, shapely, inside}
 use Rattle.model.specs.Examine.{Setting, writeOnce, geometry, aligned, shapeTests, placeTests, examined}
 use Rattle.model.specs.Plan.{Plan, refuse, unless}
+use Rattle.model.specs.declared.Record.{Record}
+use Rattle.model.specs.declared.Opened.{Opened}
+use Rattle.model.specs.Both.{openVerdict, recordOn, passedOn, openedBy, opening}
 
 -- by cases of a verdict
 pub by-verdict {ℓ} : {P : Type ℓ} (v : Verdict) → (v ≡ Go → P) → ((why : Refusal) → v ≡ Stop why → P) → P
@@ -67,3 +70,23 @@ unless-stop p e = rw e
 pub unless-go : {v : Verdict} (p : Plan) → v ≡ Go → unless v p ≡ p
 unfolding unless
 unless-go p e = rw e
+
+-- ---- an opening
+
+-- one that goes on has examined the map list
+pub open-maps : (e : Setting) (d : Disc) (t : List ℕ) → openVerdict e d t ≡ Go → readMaps (e .maps) .verdict ≡ Go
+unfolding openVerdict
+open-maps e d t g = examined-tells e d _ (then-go (examined e d _) _ g .0) .maps
+
+-- one that answers the record r and that it passed over n sectors
+pub record OpenedTells (e : Setting) (d : Disc) (t : List ℕ) (r : Record) (n : ℕ) : Type 0 where
+  pub goes : openVerdict e d t ≡ Go
+  pub held : recordOn e d ≡ r
+  pub passed : passedOn e d ≡ n
+
+pub opened-tells : (e : Setting) (d : Disc) (t : List ℕ) (r : Record) (n : ℕ) → opening e d t ≡ Opened.Open r n → OpenedTells e d t r n
+unfolding opening openedBy
+opened-tells e d t r n q =
+    by-verdict (openVerdict e d t)
+    (λ g. let w : Opened.Open (recordOn e d) (passedOn e d) ≡ Opened.Open r n = rw g at q in record { goes = g; held = cc; passed = cc })
+    (λ why g. let w : Opened.Refused why ≡ Opened.Open r n = rw g at q in let z : _≡_ {A = ℕ} 0 1 = cc in absurd (omega arith))

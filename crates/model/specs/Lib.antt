@@ -19,4 +19,5 @@ pub mod LivesAgain
 pub mod Consequences
 pub mod Run
 pub mod Blank
+pub mod Wait
 pub mod ReadBack
