@@ -2,7 +2,6 @@
 use Prim.Native.Nat.{ℕ}
 use mathlib.Core.Path.{_≡_, refl, ap, sym, _∙_}
 use mathlib.Core.List.{List}
-use native.Mathlib.Omega.{arith}
 use borrow.Author.Tests.{eq-eqb, ne-eqb}
 use lib.ListN.{length}
 use Rattle.refusal.specs.declared.Refusal.{Refusal}
@@ -12,31 +11,24 @@ use Rattle.model.specs.Disc.{Disc}
 use Rattle.model.specs.Examine.{Setting}
 use Rattle.list_run.specs.declared.Ran.{Ran}
 use Rattle.list_run.specs.Outcome.{outcome, ran, ranNumber}
-use Rattle.list_run.specs.Promise.{DemandMet}
+use Rattle.list_run.specs.Promise.{DemandMet, WaitMet}
+use Rattle.list_run.proofs.Ending.{nothing-met}
 use Rattle.call_numbers.specs.Numbers.{numbersOf, lengthRefusal}
 use Rattle.capi.specs.Run.{ranRecord, lentRan, SeenRun}
 
 module _ (e : Setting) (d : Disc) (t k calls pool replies : List ℕ) where
-  -- what is promised: what C sees, and demand 3
+  -- what is promised: what C sees, demand 3, and the bound on what openings pass over
   abbrev Promised : ℕ → Disc → List ℕ → List ℕ → List ℕ → Type 0
-  Promised n d′ t′ replies′ k′ = SeenRun (lentRan e d t k calls pool replies) k n d′ t′ replies′ k′ × DemandMet e d t calls pool (lentRan e d t k calls pool replies .result) d′ t′
-
-  -- demand 3 promises nothing of a run that is refused
-  refused-met : {d′ : Disc} {t′ : List ℕ} {why : Refusal} → DemandMet e d t calls pool (Ran.Refused why) d′ t′
-  refused-met =
-      record {
-        opens = λ held passed q. let z : _≡_ {A = ℕ} 0 1 = cc in absurd (omega arith);
-        reads = λ held passed q. let z : _≡_ {A = ℕ} 0 1 = cc in absurd (omega arith);
-      }
+  Promised n d′ t′ replies′ k′ = SeenRun (lentRan e d t k calls pool replies) k n d′ t′ replies′ k′ × (DemandMet e d t calls pool (lentRan e d t k calls pool replies .result) d′ t′ × WaitMet e d t calls pool (lentRan e d t k calls pool replies .result))
 
   -- a record of another length
   pub run-short : {n : ℕ} → (length k ≡ 5 → ⊥) → n ≡ numberOf (lengthRefusal e d) → Promised n d t replies k
   unfolding lentRan
   run-short h q =
       let a = ne-eqb (length k) 5 h in
-      rw a (record { number = q; disc = refl; table = refl; replies = refl; kept = refl }, refused-met)
+      rw a (record { number = q; disc = refl; table = refl; replies = refl; kept = refl }, nothing-met e d t calls pool _ d t (lengthRefusal e d) refl)
 
-  module _ {r : Ran} {d′ : Disc} {t′ replies′ : List ℕ} (h : length k ≡ 5) (q : outcome r d′ t′ replies′ ≡ ran e d t calls pool replies) (m : DemandMet e d t calls pool r d′ t′) where
+  module _ {r : Ran} {d′ : Disc} {t′ replies′ : List ℕ} (h : length k ≡ 5) (q : outcome r d′ t′ replies′ ≡ ran e d t calls pool replies) (m : DemandMet e d t calls pool r d′ t′ × WaitMet e d t calls pool r) where
     -- one of five numbers: what the run comes to
     run-five : {n : ℕ} {k′ : List ℕ} → n ≡ ranNumber r → k′ ≡ ranRecord r k → Promised n d′ t′ replies′ k′
     unfolding lentRan

@@ -8,7 +8,7 @@ use Rattle.model.specs.Disc.{Disc}
 use Rattle.model.specs.Examine.{Setting}
 use Rattle.list_run.specs.declared.Ran.{Ran}
 use Rattle.model.specs.Lent.{Lent}
-use Rattle.list_run.specs.Promise.{DemandMet}
+use Rattle.list_run.specs.Promise.{DemandMet, WaitMet}
 use Rattle.list_run.specs.Outcome.{Outcome, outcome, ran, ranNumber, ranValues}
 use Rattle.call_numbers.specs.Numbers.{lengthRefusal}
 use Rattle.capi.specs.Calls.{isRecord}
@@ -41,3 +41,7 @@ SeenRuns x t k calls pool replies n d t′ told k′ =
 abbrev pub SeenDemand : Lent → List ℕ → List ℕ → List ℕ → List ℕ → List ℕ → Disc → List ℕ → Type 0
 SeenDemand x t k calls pool replies d t′ =
     DemandMet (x .setting) (x .disc) t calls pool (lentRan (x .setting) (x .disc) t k calls pool replies .result) d t′
+
+-- and the bound on what its openings pass over (02, slip 12)
+abbrev pub SeenWait : Lent → List ℕ → List ℕ → List ℕ → List ℕ → List ℕ → Type 0
+SeenWait x t k calls pool replies = WaitMet (x .setting) (x .disc) t calls pool (lentRan (x .setting) (x .disc) t k calls pool replies .result)

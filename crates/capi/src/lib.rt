@@ -21,7 +21,7 @@ ghost use Rattle.once_open.specs.Calls.{measuredNumber};
 ghost use Rattle.call_numbers.specs.Numbers.{cutOf, recordOpened};
 ghost use Rattle.call_lists.specs.Lists.{mapsVerdict, volumeAfter, volumeFor, lentVerdict, lentLookUp, logicalAfter};
 ghost use Rattle.capi.specs.Calls.{SeenSave, SeenFree, SeenCommit, SeenSaveBlock, SeenSavePacket, SeenSpare, lentOpening, lentOpenedTable, lentReading, lentReadBytes, lentFullness, measuredAfter};
-ghost use Rattle.capi.specs.Run.{SeenRuns, SeenDemand};
+ghost use Rattle.capi.specs.Run.{SeenRuns, SeenDemand, SeenWait};
 
 // ---- both kinds
 
@@ -392,6 +392,8 @@ pub extern "C" fn tuormik_run(
     ensures { λ _. ⌜ SeenDemand (lent (now (disc .entry)) (now (marks .entry)) (now (maps .entry)) s l)
         (now (table .entry)) (now (kept .entry)) (now (calls .entry)) (now (bytes .entry)) (now (replies .entry))
         (discOf (now (disc .exit)) (now (marks .exit))) (now (table .exit)) ⌝ }
+    ensures { λ _. ⌜ SeenWait (lent (now (disc .entry)) (now (marks .entry)) (now (maps .entry)) s l)
+        (now (table .entry)) (now (kept .entry)) (now (calls .entry)) (now (bytes .entry)) (now (replies .entry)) ⌝ }
 {
     if kept.len() != call_numbers::RECORD {
         return call_numbers::number_of_lengths(disc, marks, maps, s, l);

@@ -1,6 +1,7 @@
 // A lent list of calls, carried out one after the other on a disc of either kind (document 01, "The plain
 // store", second paragraph). `run` opens the disc, hands each call what the last one left, and promises
-// demand 3 of the whole list. It has no requires. It counts on `steps` for each call.
+// demand 3 of the whole list, and of each opening how many sectors it passes over at most (02, slip 12). It
+// has no requires. It counts on `steps` for each call.
 use list_step::Answered;
 use model::Opened;
 use model::Record;
@@ -15,7 +16,7 @@ ghost use Rattle.list_step.specs.Stepped.{Steps};
 ghost use Rattle.list_run.specs.Encoded.{callAt};
 ghost use Rattle.list_run.specs.Listed.{mendedCall};
 ghost use Rattle.list_run.specs.Outcome.{CarriesOut, Runs};
-ghost use Rattle.list_run.specs.Promise.{DemandMet};
+ghost use Rattle.list_run.specs.Promise.{DemandMet, WaitMet};
 
 // The numbers of a call in the lent list.
 const NUMBERS: usize = 6;
@@ -147,6 +148,8 @@ pub fn run(
     ensures { λ r. ⌜ DemandMet (setting (now (maps .entry)) s l) (discOf (now (disc .entry)) (now (marks .entry)))
         (now (table .entry)) (now (numbers .entry)) (now (pool .entry))
         r (discOf (now (disc .exit)) (now (marks .exit))) (now (table .exit)) ⌝ }
+    ensures { λ r. ⌜ WaitMet (setting (now (maps .entry)) s l) (discOf (now (disc .entry)) (now (marks .entry)))
+        (now (table .entry)) (now (numbers .entry)) (now (pool .entry)) r ⌝ }
 {
     let opened = blocks::open(disc, marks, maps, s, l, table);
     match opened {

@@ -1,5 +1,5 @@
--- `list_run::run` meets its contract: the list by the contract of `carry`, demand 3 from that and from what the type of a byte gives. Assumes
--- nothing.
+-- `list_run::run` meets its contract: the list by the contract of `carry`, demand 3 and the bound on what its openings pass over from that and from
+-- what the type of a byte gives. Assumes nothing.
 use Prim.Native.Nat.{ℕ, _<_}
 use mathlib.Core.Path.{_≡_, sym, _∙_}
 use mathlib.Core.List.{List}
@@ -10,8 +10,8 @@ use Rattle.model.specs.Examine.{Setting, setting}
 use Rattle.model.specs.Demand.{Below}
 use Rattle.list_run.specs.declared.Ran.{Ran}
 use Rattle.list_run.specs.Outcome.{outcome, ran, Runs}
-use Rattle.list_run.specs.Promise.{DemandMet}
-use Rattle.list_run.proofs.Ending.{run-ended, run-refused, ran-so, demand-met}
+use Rattle.list_run.specs.Promise.{DemandMet, WaitMet}
+use Rattle.list_run.proofs.Ending.{run-ended, run-refused, ran-so, promises-met}
 use borrow.Author.Needs.{needs}
 use Rattle.list_run.proofs.run.Statement.{statement}
 use Rattle.list_run.proofs.run.Tie as tie
@@ -23,11 +23,10 @@ settingOf z = setting (z .args .maps .now) (z .args .s) (z .args .l)
 abbrev discAt : tie.Start → Disc
 discAt z = disc (z .args .disc .now) (z .args .marks .now)
 
--- both promises, of a run that comes to what the definition says
-promised : (z : tie.Start) (r : Ran) (d : Disc) (t replies : List ℕ) → ((i : ℕ) → getD (z .args .disc .now) i 0 < 256) → outcome r d t replies ≡ ran (settingOf z) (discAt z) (z .args .table .now) (z .args .numbers .now) (z .args .pool .now) (z .args .replies .now) → Runs (record { setting = settingOf z; disc = discAt z }) (z .args .table .now) (z .args .numbers .now) (z .args .pool .now) (z .args .replies .now) r d t replies × DemandMet (settingOf z) (discAt z) (z .args .table .now) (z .args .numbers .now) (z .args .pool .now) r d t
+-- its promises, of a run that comes to what the definition says
+promised : (z : tie.Start) (r : Ran) (d : Disc) (t replies : List ℕ) → ((i : ℕ) → getD (z .args .disc .now) i 0 < 256) → outcome r d t replies ≡ ran (settingOf z) (discAt z) (z .args .table .now) (z .args .numbers .now) (z .args .pool .now) (z .args .replies .now) → Runs (record { setting = settingOf z; disc = discAt z }) (z .args .table .now) (z .args .numbers .now) (z .args .pool .now) (z .args .replies .now) r d t replies × (DemandMet (settingOf z) (discAt z) (z .args .table .now) (z .args .numbers .now) (z .args .pool .now) r d t × WaitMet (settingOf z) (discAt z) (z .args .table .now) (z .args .numbers .now) (z .args .pool .now) r)
 unfolding Below
-promised z r d t replies low w =
-    (ran-so _ _ w, demand-met (settingOf z) (discAt z) (z .args .table .now) (z .args .numbers .now) (z .args .pool .now) (z .args .replies .now) r d t replies (λ i h. low i) w)
+promised z r d t replies low w = (ran-so _ _ w, promises-met (settingOf z) (discAt z) (z .args .table .now) (z .args .numbers .now) (z .args .pool .now) (z .args .replies .now) r d t replies (λ i h. low i) w)
 
 open-requires : tie.Need-open-requires
 open-requires c κs = search needs
