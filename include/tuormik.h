@@ -163,7 +163,7 @@ static inline const char *tuormik_refusal_text(uint32_t number) {
 #define TUORMIK_RECORD_COUNT 1  /* N, or R */
 #define TUORMIK_RECORD_NEXT 2   /* NWA, or the sequence */
 #define TUORMIK_RECORD_LAST 3   /* the last ICB's logical block; 0 on rewritable discs */
-#define TUORMIK_RECORD_PASSED 4 /* how many sectors the opening passed over; set by an opening, else kept */
+#define TUORMIK_RECORD_PASSED 4 /* how many sectors the opening passed over, as said at tuormik_open; set by an opening, else kept */
 
 /* ---- what is lent together, each macro the arguments of a call in their order
  *
@@ -188,6 +188,11 @@ static inline const char *tuormik_refusal_text(uint32_t number) {
  * the current sparing table.
  * Leaves: the table filled from its start, places beyond kept; the record. The disc is only read.
  * Refuses: 1 to 6, 8, 9 (write-once), 10 (rewritable).
+ * Passed over (TUORMIK_RECORD_PASSED) are the sectors between that VAT ICB and NWA; none on rewritable discs. There are none exactly if the
+ * partition's last sector that is not blank is a VAT ICB. Wherever the power failed in the calls before, they are at most the sector writes
+ * begun since the last whole VAT ICB: all of a call that was carried out, and those of a cut one up to the write at which the power failed,
+ * whatever became of it. This is counted from an earlier opening that passed over none; what another one passed over is added until the
+ * next whole VAT ICB. It takes for granted that what was recorded stays readable, and that nobody else writes to the disc.
  */
 uint32_t tuormik_open(const uint8_t *disc, size_t disc_length,
                       const uint8_t *marks, size_t marks_length,
@@ -415,7 +420,8 @@ uint16_t tuormik_crc_word(uint16_t crc, uint8_t a, uint8_t b, uint8_t c, uint8_t
  * numbers left over are no call. After a cut the next call is taken as an opening, whatever it is.
  * Replies are one number a call, from the start of `replies`: 0, a refusal, or 255. Those that do not fit are not written, while the
  * calls still run; places beyond the last call are kept.
- * Leaves: disc, marks and table as the last call left them; the record in force, with passed over of the last opening that was accepted.
+ * Leaves: disc, marks and table as the last call left them; the record in force, with passed over of the last opening that was accepted,
+ * which is bounded as said at tuormik_open, counted from what its own opening passed over.
  * Returns: what its own opening answers (0, or 1 to 6, 8 to 10). Where that is a refusal no call is carried out.
  */
 uint32_t tuormik_run(uint8_t *disc, size_t disc_length,
