@@ -1,0 +1,270 @@
+//! Random lists of calls, the discs that they are run on, and the plain store of document 01 ("The plain store"), which document 02,
+//! slip 5, gives blank as a fourth reading. It is fed each call's arguments and cut and whether the call was accepted.
+
+use tuormik::{BLANK, MOST_ENTRIES, NONE, PACKET, PACKET_BYTES, RECORDED, SECTOR};
+use tuormik_second::layer::Layer;
+
+/// The reply of a call that was cut.
+pub const CUT: u32 = 255;
+
+/// A random sequence (xorshift64*).
+pub struct Random(pub u64);
+
+impl Random {
+    pub fn next(&mut self) -> u64 {
+        self.0 ^= self.0 >> 12;
+        self.0 ^= self.0 << 25;
+        self.0 ^= self.0 >> 27;
+        self.0.wrapping_mul(0x2545_f491_4f6c_dd1d)
+    }
+
+    pub fn below(&mut self, n: u32) -> u32 {
+        ((self.next() >> 33) % u64::from(n.max(1))) as u32
+    }
+}
+
+/// What the store has of a block.
+#[derive(Clone, PartialEq, Debug)]
+pub enum Slot {
+    Holds(Vec<u8>),
+    Unused,
+    Unreadable,
+    Blank,
+}
+
+impl Slot {
+    /// What a sector is.
+    fn of(mark: u8, bytes: &[u8]) -> Slot {
+        match mark {
+            BLANK => Slot::Blank,
+            RECORDED => Slot::Holds(bytes.to_vec()),
+            _ => Slot::Unreadable,
+        }
+    }
+}
+
+/// What a call of a list is.
+#[derive(Clone, Copy, PartialEq, Debug)]
+pub enum Kind {
+    SaveVirtual,
+    FreeVirtual,
+    Commit,
+    SaveBlock,
+    SavePacket,
+    SparePacket,
+    Open,
+}
+
+#[derive(Clone, Debug)]
+pub struct Call {
+    pub kind: Kind,
+    pub number: u32,
+    pub cut_at: u32,
+    pub cut_effect: u32,
+    pub bytes: Vec<u8>,
+}
+
+static OPEN: Call = Call { kind: Kind::Open, number: 0, cut_at: 0, cut_effect: 0, bytes: Vec::new() };
+
+/// What becomes of write n.
+#[derive(Clone, Copy, PartialEq, Debug)]
+pub enum Landing {
+    Done,
+    Kept,
+    Unreadable,
+}
+
+impl Call {
+    /// One that is not cut.
+    pub fn new(kind: Kind, number: u32, bytes: Vec<u8>) -> Call {
+        Call { kind, number, bytes, ..OPEN.clone() }
+    }
+
+    pub fn landing(&self, n: u32) -> Landing {
+        match (self.cut_at, self.cut_effect) {
+            (0, _) => Landing::Done,
+            (at, _) if n < at => Landing::Done,
+            (at, _) if n > at => Landing::Kept,
+            (_, 0) => Landing::Kept,
+            (_, 1) => Landing::Unreadable,
+            _ => Landing::Done,
+        }
+    }
+}
+
+/// The calls of a list as they were carried out, with their replies: after a cut the next call is an opening.
+pub fn carried_out<'a>(calls: &'a [Call], replies: &'a [u32]) -> impl Iterator<Item = (&'a Call, u32)> {
+    let is_down = |i: usize| i > 0 && replies[i - 1] == CUT;
+    calls.iter().zip(replies).enumerate().map(move |(i, (call, &reply))| (if is_down(i) { &OPEN } else { call }, reply))
+}
+
+pub struct Store {
+    pub is_once: bool,
+    pub blocks: Vec<Slot>,
+    copy: Vec<Slot>,
+}
+
+/// d of 01, from its words.
+pub fn data_sectors(n: usize) -> u32 {
+    let f = 4 * n + 36;
+    if 176 + f < 2048 {
+        0
+    } else {
+        f.div_ceil(2048) as u32
+    }
+}
+
+impl Store {
+    /// A disc as it was first opened.
+    pub fn of(world: &World) -> Store {
+        let is_once = world.maps.len() == 70;
+        let sector = |at: u32| Slot::of(world.marks[at as usize], &world.disc[SECTOR * at as usize..][..SECTOR]);
+        let blocks: Vec<Slot> = if is_once {
+            let entries = &world.table[..world.record[1] as usize];
+            entries.iter().map(|&entry| if entry == NONE { Slot::Unused } else { sector(world.s + entry) }).collect()
+        } else {
+            (0..world.l).map(|b| sector(world.s + b)).collect()
+        };
+        Store { is_once, copy: blocks.clone(), blocks }
+    }
+
+    /// The opening that a list follows.
+    pub fn open(&mut self) {
+        self.take(&OPEN, false);
+    }
+
+    /// A call that was accepted.
+    pub fn take(&mut self, call: &Call, is_cut: bool) {
+        let b = call.number as usize;
+        match call.kind {
+            Kind::Open => {
+                if self.is_once {
+                    self.blocks = self.copy.clone();
+                }
+            }
+            Kind::SaveVirtual if is_cut => {}
+            Kind::SaveVirtual => {
+                let slot = Slot::Holds(call.bytes.clone());
+                if b == self.blocks.len() {
+                    self.blocks.push(slot);
+                } else {
+                    self.blocks[b] = slot;
+                }
+            }
+            Kind::FreeVirtual => self.blocks[b] = Slot::Unused,
+            Kind::Commit => {
+                // cut or not, it has copied if its ICB, the last write, is whole
+                if call.landing(data_sectors(self.blocks.len()) + 1) == Landing::Done {
+                    self.copy = self.blocks.clone();
+                }
+            }
+            Kind::SaveBlock => {
+                let start = b - b % PACKET;
+                let mut packet: Vec<Slot> = self.blocks[start..start + PACKET].to_vec();
+                packet[b % PACKET] = Slot::Holds(call.bytes.clone());
+                self.write_packet(call, start, packet);
+            }
+            Kind::SavePacket => self.write_packet(call, b, slots(&call.bytes)),
+            Kind::SparePacket => {
+                // done if a new table copy is whole; the first is write 33
+                if call.landing(PACKET as u32 + 1) == Landing::Done {
+                    self.blocks[b..b + PACKET].clone_from_slice(&slots(&call.bytes));
+                }
+            }
+        }
+    }
+
+    /// Each sector of a packet by the cut's rule.
+    fn write_packet(&mut self, call: &Call, start: usize, packet: Vec<Slot>) {
+        for (i, slot) in packet.into_iter().enumerate() {
+            match call.landing(i as u32 + 1) {
+                Landing::Done => self.blocks[start + i] = slot,
+                Landing::Kept => {}
+                Landing::Unreadable => self.blocks[start + i] = Slot::Unreadable,
+            }
+        }
+    }
+}
+
+fn slots(packet: &[u8]) -> Vec<Slot> {
+    packet.chunks(SECTOR).map(|block| Slot::Holds(block.to_vec())).collect()
+}
+
+/// A disc that a list is run on.
+#[derive(Clone)]
+pub struct World {
+    pub disc: Vec<u8>,
+    pub marks: Vec<u8>,
+    pub maps: Vec<u8>,
+    pub s: u32,
+    pub l: u32,
+    pub table: Vec<u32>,
+    pub record: [u32; 5],
+}
+
+impl World {
+    /// A new disc, write-once where it has no tables; it is not opened.
+    pub fn made(layer: &Layer, sectors: u32, s: u32, l: u32, tables: &[u32], spares: &[u32]) -> World {
+        let is_once = tables.is_empty();
+        let mut maps = vec![0; if is_once { 70 } else { 64 }];
+        assert_eq!((layer.write_maps)(u32::from(!is_once), 3, 2048, tables, &mut maps), 0);
+        let (mut disc, mut marks) = (vec![0x11; SECTOR * sectors as usize], vec![BLANK; sectors as usize]);
+        assert_eq!((layer.make)(&mut disc, &mut marks, &maps, s, l, spares), 0);
+        World { disc, marks, maps, s, l, table: vec![0; MOST_ENTRIES], record: [0; 5] }
+    }
+
+    pub fn open(&mut self, layer: &Layer) {
+        let World { disc, marks, maps, s, l, table, record } = self;
+        assert_eq!((layer.open)(disc, marks, maps, *s, *l, table, record), 0, "{}: an opening is accepted", layer.name);
+    }
+
+    pub fn run(&mut self, layer: &Layer, calls: &[Call]) -> (u32, Vec<u32>) {
+        let (mut numbers, mut pool) = (Vec::new(), Vec::new());
+        for call in calls {
+            let kind = call.kind as u32;
+            numbers.extend([kind, call.number, call.cut_at, call.cut_effect, pool.len() as u32, call.bytes.len() as u32]);
+            pool.extend_from_slice(&call.bytes);
+        }
+        let mut replies = vec![99; calls.len()];
+        let World { disc, marks, maps, s, l, table, record } = self;
+        let opened = (layer.run)(disc, marks, maps, *s, *l, table, record, &numbers, &pool, &mut replies);
+        (opened, replies)
+    }
+}
+
+/// A call on a disc with so many blocks in a partition of l sectors.
+pub fn draw(random: &mut Random, is_once: bool, known: usize, l: u32) -> Call {
+    use Kind::*;
+    let kinds: &[Kind] = if is_once {
+        &[SaveVirtual, SaveVirtual, SaveVirtual, SaveVirtual, FreeVirtual, Commit, Commit, Open, SaveBlock]
+    } else {
+        &[SaveBlock, SaveBlock, SavePacket, SparePacket, Open, Commit]
+    };
+    let kind = kinds[random.below(kinds.len() as u32) as usize];
+    let number = match kind {
+        SaveVirtual | FreeVirtual => random.below(known as u32 + 2),
+        SavePacket | SparePacket => PACKET as u32 * random.below(l.div_ceil(PACKET as u32) + 1),
+        _ => random.below(l + 1),
+    };
+    let length = match kind {
+        SaveVirtual | SaveBlock => SECTOR,
+        SavePacket | SparePacket => PACKET_BYTES,
+        _ => 0,
+    };
+    let length = if random.below(40) == 0 { length / 2 } else { length };
+    let mut state = random.next() | 1;
+    let bytes = (0..length)
+        .map(|_| {
+            state = state.wrapping_mul(6_364_136_223_846_793_005).wrapping_add(1);
+            (state >> 56) as u8
+        })
+        .collect();
+    let writes = match kind {
+        SaveVirtual => 1,
+        Commit => 2,
+        SaveBlock | SavePacket => 32,
+        _ => 36,
+    };
+    let cut_at = if random.below(4) == 0 { random.below(writes + 2) } else { 0 };
+    Call { kind, number, cut_at, cut_effect: random.below(4), bytes }
+}
