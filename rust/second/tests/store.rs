@@ -2,7 +2,7 @@
 
 mod lists;
 
-use lists::{carried_out, draw, Call, Kind, Random, Slot, Store, World, CUT};
+use lists::{carried_out, draw, Call, Kind, Random, Slot, Store, World, CUT, OPEN};
 use tuormik::{BLANK, NONE, PACKET, SECTOR, UNREADABLE};
 use tuormik_second::layer::{Layer, PLAIN, PROVED};
 
@@ -47,7 +47,7 @@ fn new_world(layer: &Layer, random: &mut Random) -> World {
     let tables: &[u32] = if is_once { &[] } else { &[0, 32, 64][..1 + random.below(3) as usize] };
     let (sectors, s, l) = if is_once { (60 + random.below(80), random.below(9), 12 + random.below(48)) } else { (320, 192, 64) };
     let spares: &[u32] = &[96, 160, 128][..random.below(4) as usize];
-    let mut world = World::made(layer, sectors, s, l, tables, spares);
+    let mut world = World::new(layer, sectors, s, l, tables, spares);
     let is_as_made = random.below(4) == 0;
     if is_once && !is_as_made {
         // blocks 0 to 5 at logical blocks 1 to 6, of which one is freed
@@ -97,7 +97,7 @@ fn try_lists(layer: &Layer, seed: u64, discs: u32) {
             }
             let (opened, replies) = world.run(layer, &calls);
             assert_eq!(opened, 0, "{}: the list's opening is accepted", layer.name);
-            store.open();
+            store.take(&OPEN, false);
             for (call, reply) in carried_out(&calls, &replies) {
                 assert!(call.kind != Kind::Open || reply == 0, "{}: every opening is accepted", layer.name);
                 if store.reads_others(call) {

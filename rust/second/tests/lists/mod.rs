@@ -64,7 +64,8 @@ pub struct Call {
     pub bytes: Vec<u8>,
 }
 
-static OPEN: Call = Call { kind: Kind::Open, number: 0, cut_at: 0, cut_effect: 0, bytes: Vec::new() };
+/// An opening, as a list follows one, and as a cut is followed by one.
+pub static OPEN: Call = Call { kind: Kind::Open, number: 0, cut_at: 0, cut_effect: 0, bytes: Vec::new() };
 
 /// What becomes of write n.
 #[derive(Clone, Copy, PartialEq, Debug)]
@@ -126,11 +127,6 @@ impl Store {
             (0..world.l).map(|b| sector(world.s + b)).collect()
         };
         Store { is_once, copy: blocks.clone(), blocks }
-    }
-
-    /// The opening that a list follows.
-    pub fn open(&mut self) {
-        self.take(&OPEN, false);
     }
 
     /// A call that was accepted.
@@ -204,7 +200,7 @@ pub struct World {
 
 impl World {
     /// A new disc, write-once where it has no tables; it is not opened.
-    pub fn made(layer: &Layer, sectors: u32, s: u32, l: u32, tables: &[u32], spares: &[u32]) -> World {
+    pub fn new(layer: &Layer, sectors: u32, s: u32, l: u32, tables: &[u32], spares: &[u32]) -> World {
         let is_once = tables.is_empty();
         let mut maps = vec![0; if is_once { 70 } else { 64 }];
         assert_eq!((layer.write_maps)(u32::from(!is_once), 3, 2048, tables, &mut maps), 0);
