@@ -140,7 +140,9 @@ const ENTRIES: [Entry; 15] = [
 
 Opens the disc of each image and tells its kind, how many blocks are used, and of these unreadable or blank (never recorded), how many more
 fit and how full it is, then in the letters of document 01 S, L, N, NWA, the last VAT ICB, how many sectors were passed over, and what they
-are; of a rewritable disc R, the sequence, and the spares.
+are; of a rewritable disc R, the sequence, and the spares. On a write-once disc 0 passed over says that the last sector of the
+partition that is not blank is a VAT ICB; after a power failure the number passed over is at most the number of sector writes begun since
+the last whole VAT ICB.
   --json               a JSON list with an object an image, its numbers without commas
 ",
         run: info::info,
@@ -315,7 +317,8 @@ sparing tables, spares, and a line around the partition. Where the disc is turne
         help: "tuormik demo
 
 Makes discs in memory, cuts the power at every sector write of a commit and of a sparing in turn, with each effect, opens the disc again and
-reads every block. Writes that came to the same are told in one line.
+reads every block. Writes that came to the same are told in one line. Of the write-once disc it tells how many sectors opening passed over,
+and how many sector writes were begun since the last whole VAT ICB.
 ",
         run: demo::demo,
     },

@@ -206,8 +206,30 @@ fn an_image_is_replaced_whole_or_not_at_all() {
 fn the_demo_finds_every_block() {
     let folder = Folder::new("demo");
     let out = folder.does(&["demo"]);
-    assert!(out.ends_with("Every block was found again after every cut.\n"), "{out}");
+    has(&out, "114 cuts. Every block was found again after every cut.");
+    assert!(out.ends_with("No opening passed over more sectors than writes were begun since the last whole VAT ICB.\n"), "{out}");
     assert!(folder.names().is_empty());
+}
+
+/// 600 saves, then a commit of three writes: each is cut and becomes old, unreadable or whole, and then it is not cut.
+#[test]
+fn the_demo_tells_the_writes_begun() {
+    let folder = Folder::new("begun");
+    let out = folder.does(&["demo"]);
+    let told: Vec<&str> = out.lines().filter_map(|line| line.split_once("passed over ")?.1.strip_suffix(" writes begun")).collect();
+    let expected = [
+        "600 of 601",
+        "601 of 601",
+        "601 of 601",
+        "601 of 602",
+        "602 of 602",
+        "602 of 602",
+        "602 of 603",
+        "603 of 603",
+        "0 of 0",
+        "0 of 0",
+    ];
+    assert_eq!(told, expected);
 }
 
 #[test]

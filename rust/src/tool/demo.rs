@@ -2,10 +2,11 @@
 
 use super::args::{Args, EFFECTS};
 use super::refused::{self, Asked};
+use super::room::commit_sectors;
 use super::words::grouped;
 use super::{Done, Failure};
 use std::io::Write;
-use tuormik::{write_maps, Cut, Disc, Error, Maps, Open, BLANK, PACKET, SECTOR};
+use tuormik::{write_maps, Cut, Disc, Effect, Error, Maps, Open, BLANK, PACKET, SECTOR};
 
 /// A disc in memory.
 #[derive(Clone)]
@@ -56,37 +57,68 @@ pub fn demo(args: &mut Args, out: &mut dyn Write) -> Done {
     writeln!(out)?;
     let spared = sparing_demo(out)?;
     writeln!(out)?;
-    if committed.is_well && spared.is_well {
-        writeln!(out, "{} cuts. Every block was found again after every cut.", grouped(committed.cuts + spared.cuts))?;
-        Ok(())
-    } else {
-        Err(Failure::Usage("a block was not found again".into()))
+    let fault = [&committed, &spared].into_iter().find_map(Came::fault);
+    if let Some(words) = fault {
+        return Err(Failure::Usage(words.into()));
     }
+    writeln!(out, "{} cuts. Every block was found again after every cut.", grouped(committed.cuts + spared.cuts))?;
+    writeln!(out, "No opening passed over more sectors than writes were begun since the last whole VAT ICB.")?;
+    Ok(())
+}
+
+/// What a disc has when it is opened again.
+struct Found {
+    /// the version in which all blocks are found that the call was to change
+    version: Option<u32>,
+    passed_over: u32,
+    /// the sector writes begun since the last whole VAT ICB; none where there are no VATs
+    begun: u32,
+    words: String,
 }
 
 /// A call with the power cut at one of its writes, and the disc opened again.
 struct Tried {
-    /// the write, and what becomes of it; none where the call was done
-    cut: Option<(u32, &'static str)>,
-    /// the version in which all blocks were found that the call was to change
-    version: Option<u32>,
-    words: String,
+    /// the cut, and what becomes of its write in words; none where the call was done
+    cut: Option<(Cut, &'static str)>,
+    found: Found,
 }
 
 /// How a call came through all its cuts.
 struct Came {
-    is_well: bool,
+    /// Whether every block was found again.
+    are_found: bool,
+    /// Whether no opening passed over more sectors than writes were begun.
+    is_bounded: bool,
     cuts: usize,
 }
 
+impl Came {
+    /// What is wrong, if anything is.
+    fn fault(&self) -> Option<&'static str> {
+        match self {
+            Came { are_found: false, .. } => Some("a block was not found again"),
+            Came { is_bounded: false, .. } => {
+                Some("an opening passed over more sectors than writes were begun since the last whole VAT ICB")
+            }
+            _ => None,
+        }
+    }
+}
+
+/// Whether a write becomes whole in a call with this cut.
+fn is_whole(write: u32, cut: Cut) -> bool {
+    write < cut.at || cut == Cut::at(write, Effect::Whole)
+}
+
 /// Runs a call with a cut at each of its writes in turn, each with every effect, until a cut is past the last write.
-fn every_cut(mut call: impl FnMut(Cut) -> Result<(Result<(), Error>, Option<u32>, String), Failure>) -> Result<Vec<Tried>, Failure> {
+fn every_cut(mut call: impl FnMut(Cut) -> Result<(Result<(), Error>, Found), Failure>) -> Result<Vec<Tried>, Failure> {
     let mut all = Vec::new();
     for at in 1.. {
         for (effect, name) in EFFECTS {
-            let (answer, version, words) = call(Cut::at(at, effect))?;
+            let cut = Cut::at(at, effect);
+            let (answer, found) = call(cut)?;
             let is_done = answer.is_ok();
-            all.push(Tried { cut: (!is_done).then_some((at, name)), version, words });
+            all.push(Tried { cut: (!is_done).then_some((cut, name)), found });
             if is_done {
                 return Ok(all);
             }
@@ -95,15 +127,16 @@ fn every_cut(mut call: impl FnMut(Cut) -> Result<(Result<(), Error>, Option<u32>
     Ok(all)
 }
 
-/// Tells the cuts, writes that came to the same in one line, and whether each came to the version that it has to: 2 from the write and
-/// the effect on that decide, 1 before.
+/// Tells the cuts, writes that came to the same in one line, and whether each came to the version that it has to: 2 where the deciding
+/// write is whole, 1 before.
 fn tell(out: &mut dyn Write, call: &str, all: &[Tried], deciding: u32) -> Result<Came, Failure> {
-    let decided = |tried: &Tried| tried.cut.is_none_or(|(at, effect)| at > deciding || (at == deciding && effect == "whole"));
-    let is_well = all.iter().all(|tried| tried.version == Some(if decided(tried) { 2 } else { 1 }));
+    let decided = |tried: &Tried| tried.cut.is_none_or(|(cut, _)| is_whole(deciding, cut));
+    let are_found = all.iter().all(|tried| tried.found.version == Some(if decided(tried) { 2 } else { 1 }));
+    let is_bounded = all.iter().all(|tried| tried.found.passed_over <= tried.found.begun);
     let (cuts, done) = all.split_at(all.len().saturating_sub(1));
     let writes: Vec<&[Tried]> = cuts.chunks(EFFECTS.len()).collect();
     let mut first = 1;
-    for alike in writes.chunk_by(|a, b| a.iter().map(|t| &t.words).eq(b.iter().map(|t| &t.words))) {
+    for alike in writes.chunk_by(|a, b| a.iter().map(|t| &t.found.words).eq(b.iter().map(|t| &t.found.words))) {
         let last = first + alike.len() - 1;
         for tried in alike[0] {
             let becomes = tried.cut.map_or("", |(_, name)| name);
@@ -112,14 +145,14 @@ fn tell(out: &mut dyn Write, call: &str, all: &[Tried], deciding: u32) -> Result
             } else {
                 format!("the power fails at each of writes {first} to {last}, which becomes {becomes}")
             };
-            writeln!(out, "  {what:<72} opened: {}", tried.words)?;
+            writeln!(out, "  {what:<72} opened: {}", tried.found.words)?;
         }
         first = last + 1;
     }
     for tried in done {
-        writeln!(out, "  {:<72} opened: {}", format!("no cut: the {call} was done"), tried.words)?;
+        writeln!(out, "  {:<72} opened: {}", format!("no cut: the {call} was done"), tried.found.words)?;
     }
-    Ok(Came { is_well, cuts: cuts.len() })
+    Ok(Came { are_found, is_bounded, cuts: cuts.len() })
 }
 
 /// What an answer other than done and cut is.
@@ -140,15 +173,21 @@ fn commit_demo(out: &mut dyn Write) -> Result<Came, Failure> {
     let mut memory = Memory::new(1600, 32, 1500, &Maps::WriteOnce { partition: 0 })?;
     memory.make(&[])?;
     let mut open = memory.open()?;
+    // the sector writes since the last whole VAT ICB
+    let mut saves = 0;
     for version in [1, 2] {
         for v in 0..COUNT {
             let answer = open.save_virtual(v, &block(v, version));
             answer.map_err(|error| refused::by_call(&open, Asked::SaveVirtual(v), error))?;
+            saves += 1;
         }
         if version == 1 {
             open.commit().map_err(|error| refused::by_call(&open, Asked::Commit, error))?;
+            saves = 0;
         }
     }
+    // its ICB is the last
+    let writes = commit_sectors(COUNT as usize) as u32;
     let (table, record) = (open.table().to_vec(), open.record());
     let _ = open.close();
     let all = every_cut(|cut| {
@@ -159,17 +198,17 @@ fn commit_demo(out: &mut dyn Write) -> Result<Came, Failure> {
         let answer = only_cut(&open, Asked::Commit, answer)?;
         let _ = open.close();
         let open = tried.open()?;
-        let version = version_of(&open, 0..COUNT);
+        let (version, passed_over) = (version_of(&open, 0..COUNT), open.record().passed_over);
+        let begun = if is_whole(writes, cut) { 0 } else { saves + cut.at };
         let words = match version {
             Some(version) => {
-                format!("{COUNT} of {COUNT} blocks, version {version}, passed over {}", grouped(open.record().passed_over))
+                let passed = format!("passed over {} of {} writes begun", grouped(passed_over), grouped(begun));
+                format!("{COUNT} of {COUNT} blocks, version {version}, {passed}")
             }
             None => "blocks are lost".to_string(),
         };
-        Ok((answer, version, words))
+        Ok((answer, Found { version, passed_over, begun, words }))
     })?;
-    // its ICB is the last
-    let writes = (all.len() / EFFECTS.len()) as u32;
     writeln!(
         out,
         "A write-once disc: {COUNT} blocks saved and committed. Then each is saved again, and the commit of these, {writes} writes, is cut."
@@ -206,7 +245,7 @@ fn sparing_demo(out: &mut dyn Write) -> Result<Came, Failure> {
             Some(version) => format!("{LENGTH} of {LENGTH} blocks, those of the packet in version {version}"),
             None => "blocks are lost".to_string(),
         };
-        Ok((answer, version, words))
+        Ok((answer, Found { version, passed_over: open.record().passed_over, begun: 0, words }))
     })?;
     let writes = all.len() / EFFECTS.len();
     writeln!(
@@ -216,4 +255,31 @@ fn sparing_demo(out: &mut dyn Write) -> Result<Came, Failure> {
     )?;
     // a table of the new sequence is whole from the write after the packet's on
     tell(out, "sparing", &all, PACKET as u32 + 1)
+}
+
+#[cfg(test)]
+mod tests {
+    use super::*;
+
+    /// What is wrong with a commit of one write that came to these versions, and passed over so many where so many were begun.
+    fn fault(found: [(u32, u32, u32); 4]) -> Option<&'static str> {
+        let cuts = EFFECTS.map(|(effect, name)| Some((Cut::at(1, effect), name))).into_iter().chain([None]);
+        let tried = |(cut, (version, passed_over, begun))| Tried {
+            cut,
+            found: Found { version: Some(version), passed_over, begun, words: String::new() },
+        };
+        let all: Vec<Tried> = cuts.zip(found).map(tried).collect();
+        let Ok(came) = tell(&mut Vec::new(), "commit", &all, 1) else { panic!("nothing is written to a file") };
+        assert_eq!(came.cuts, 3);
+        came.fault()
+    }
+
+    #[test]
+    fn each_fault_has_its_words() {
+        assert_eq!(fault([(1, 7, 8), (1, 8, 8), (2, 0, 0), (2, 0, 0)]), None);
+        assert_eq!(fault([(1, 7, 8), (2, 8, 8), (2, 0, 0), (2, 0, 0)]), Some("a block was not found again"));
+        for found in [[(1, 9, 8), (1, 8, 8), (2, 0, 0), (2, 0, 0)], [(1, 7, 8), (1, 8, 8), (2, 0, 0), (2, 1, 0)]] {
+            assert!(fault(found).is_some_and(|words| words.starts_with("an opening passed over more sectors")), "{found:?}");
+        }
+    }
 }
