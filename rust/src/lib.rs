@@ -68,7 +68,13 @@ pub const UNREADABLE: u8 = 2;
 pub struct Record {
     /// What it holds of the disc.
     pub held: Held,
-    /// How many sectors the opening passed over.
+    /// How many sectors the opening passed over above the VAT ICB that it found; on a rewritable disc always 0.
+    ///
+    /// On a write-once disc 0 says that the last sector of the partition that is not blank is a VAT ICB. Wherever the power failed in the
+    /// calls before the opening, the number is at most that of the sector writes begun since the last whole VAT ICB: all writes of an
+    /// accepted call that was not cut, and those of a cut call up to the one at which the power failed. They are counted from an earlier
+    /// opening that passed over none; one that passed over some adds these until the next whole VAT ICB. The bound takes for granted that
+    /// what was recorded stays readable, and that nobody else writes to the disc meanwhile.
     pub passed_over: u32,
 }
 
