@@ -101,7 +101,7 @@ pub at-first : Between twelve before (store [] []) 0 1 0
 at-first = record { once = computed .once; maps = computed .maps; live = subst (Live twelve before) empty begun; held = held-first }
 
 -- the blocks of the plain store, its copy, N, NWA and the last ICB
-abbrev Now : State → List Slot → List Slot → ℕ → ℕ → ℕ → Type 0
+abbrev pub Now : State → List Slot → List Slot → ℕ → ℕ → ℕ → Type 0
 Now st blocks copy n w a = Between twelve st (store blocks copy) n w a
 
 -- call by call

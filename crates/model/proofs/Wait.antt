@@ -156,7 +156,7 @@ reply-opens (Reply.Done r′) r n q = let z : _≡_ {A = ℕ} 0 1 = cc in omega 
 reply-opens Reply.Cut r n q = let z : _≡_ {A = ℕ} 0 1 = cc in omega arith
 reply-opens (Reply.Refused why) r n q = let z : _≡_ {A = ℕ} 0 1 = cc in omega arith
 
-opens-only : (e : Setting) (st : State) (c : Call) (r : Record) (n : ℕ) → step e st c .answer ≡ opened r n → opening e (st .disc) (st .table) ≡ Opened.Open r n
+pub opens-only : (e : Setting) (st : State) (c : Call) (r : Record) (n : ℕ) → step e st c .answer ≡ opened r n → opening e (st .disc) (st .table) ≡ Opened.Open r n
 unfolding step carried answerOfOpening
 opens-only e st (saveVirtual v b c) r n q = absurd (reply-opens _ r n q)
 opens-only e st (freeVirtual v) r n q = absurd (reply-opens _ r n q)

@@ -2,33 +2,33 @@
 -- each opening is computed. Assumes nothing.
 use Prim.Native.Nat.{ℕ}
 use mathlib.Core.Bool.{true, false}
-use mathlib.Core.Path.{_≡_, refl, ap, _∙_}
-use mathlib.Core.List.{List, [], _∷_}
+use mathlib.Core.Path.{_≡_, refl, sym, ap, _∙_}
+use mathlib.Core.List.{[], _∷_}
 use native.Mathlib.Omega.{arith}
-use lib.ListN.{take}
+use lib.ListN.{getD, take}
 use Rattle.refusal.specs.Tests.{need}
 use Rattle.fields.specs.Bytes.{part}
 use Rattle.fields.specs.Number.{value, field}
 use Rattle.model.specs.declared.Effect.{Effect}
+use Rattle.model.specs.declared.Record.{Record}
+use Rattle.model.specs.declared.Opened.{Opened}
 use Rattle.model.specs.Writes.{onEffect, landing, struck, noCut}
 use Rattle.model.specs.Vat.{tagFits, passes}
 use Rattle.model.specs.VatWritten.{fileBytes, dataSectors}
 use Rattle.model.specs.Once.{entriesHeld, nextHeld, countAfter, roomToSave, saveTests}
-use Rattle.model.specs.Calls.{State, answers, isCut, accepted}
-use Rattle.model.specs.Store.{Slot, holds, store, start, shapeOf, cutIn, writesIn, wasCut, put, wholeAt, isWhole, taken, next}
+use Rattle.model.specs.Both.{opening}
+use Rattle.model.specs.Calls.{openDisc, cut, answers, final, isCut, accepted}
+use Rattle.model.specs.Store.{holds, store, start, shapeOf, cutIn, writesIn, wasCut, put, wholeAt, isWhole, taken, next}
 use Rattle.model.specs.Consequences.{Follows, laysIcb}
 use Rattle.model.specs.Run.{twelve, fresh, lent, ones, twos, failing, before}
-use Rattle.model.specs.Wait.{count, begunIn, becameOld, oldIn, counting, counted, countedAfter, waits, waited, WaitReached}
+use Rattle.model.specs.Wait.{count, begunIn, becameOld, oldIn, counting, counted, countedAfter, waits, waited, NoneExactly, WaitReached}
 use Rattle.model.proofs.Verdicts.{opened-tells}
 use Rattle.model.proofs.Cuts.{old-differs}
 use Rattle.model.proofs.Once.{nextAfter}
-use Rattle.model.proofs.ConsequencesLists.{answers-take}
-use Rattle.model.proofs.RunSteps.{Between, told, told-none, isOpening, orderly, orderly-proper, saved, save-cut, commit-torn, commit-whole, opened-again}
-use Rattle.model.proofs.Run.{bytes-below, computed, accepts, empty, at-first}
-
--- the blocks of the plain store, its copy, N, NWA and the last ICB
-abbrev Now : State → List Slot → List Slot → ℕ → ℕ → ℕ → Type 0
-Now st blocks copy n w a = Between twelve st (store blocks copy) n w a
+use Rattle.model.proofs.ConsequencesLists.{answer-place, answers-take}
+use Rattle.model.proofs.Wait.{opens-only, none-exactly}
+use Rattle.model.proofs.RunSteps.{told, told-none, isOpening, orderly, orderly-proper, saved, save-cut, commit-torn, commit-whole, opened-again}
+use Rattle.model.proofs.Run.{bytes-below, computed, accepts, empty, at-first, Now}
 
 -- call by call
 answer-list : answers twelve before waits ≡ waited
@@ -71,7 +71,15 @@ played : (k : ℕ) → Played k
 unfolding counted counting begunIn becameOld oldIn laysIcb next taken wasCut cutIn writesIn struck noCut put wholeAt isWhole accepted waits waited fileBytes dataSectors
 played k = record { first = refl; second = refl; third = refl }
 
+-- the first opening of the list
+torn-opens : opening twelve (final twelve before (take 2 waits) .disc) (final twelve before (take 2 waits) .table) ≡ Opened.Open (Record.WriteOnce 0 3 0) 2
+unfolding waits waited
+torn-opens =
+    opens-only twelve (final twelve before (take 2 waits)) (getD waits 2 openDisc) _ _
+    (sym (answer-place twelve waits before 2 (omega arith)) ∙ ap (λ al. getD al 2 cut) answer-list)
+
 pub wait-reached : WaitReached
+unfolding NoneExactly
 wait-reached =
     record {
       once = computed .once;
@@ -81,4 +89,6 @@ wait-reached =
       reached = fed 2 ∙ played _ .first;
       below = fed 5 ∙ played _ .second;
       over = fed 8 ∙ played _ .third;
+      ends = none-exactly twelve fresh lent (computed .once) _ 0 (computed .opens);
+      torn = none-exactly twelve _ _ (computed .once) _ 2 torn-opens;
     }

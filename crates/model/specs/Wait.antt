@@ -16,7 +16,7 @@ use Rattle.model.specs.Examine.{Setting, writeOnce}
 use Rattle.model.specs.Once.{nextOn}
 use Rattle.model.specs.Both.{opening, passedOn}
 use Rattle.model.specs.Writes.{noCut}
-use Rattle.model.specs.Calls.{Call, saveVirtual, commit, openDisc, Answer, done, cut, opened, answers, accepted}
+use Rattle.model.specs.Calls.{Call, saveVirtual, commit, openDisc, Answer, done, cut, opened, answers, final, accepted}
 use Rattle.model.specs.Store.{Store, Shape, start, shapeOf, cutIn, writesIn, wasCut, next}
 use Rattle.model.specs.Demand.{afterOpening}
 use Rattle.model.specs.Consequences.{Follows, laysIcb}
@@ -138,3 +138,6 @@ pub record WaitReached : Type 0 where
   pub reached : countedAfter twelve fresh lent 0 (take 2 waits) ≡ count 2 0
   pub below : countedAfter twelve fresh lent 0 (take 5 waits) ≡ count 4 1
   pub over : countedAfter twelve fresh lent 0 (take 8 waits) ≡ count 0 0
+  -- the disc ends in a VAT ICB as it is first opened, and does not at the first opening of the list
+  pub ends : LastSector twelve fresh 0
+  pub torn : LastSector twelve (final twelve before (take 2 waits) .disc) 2
