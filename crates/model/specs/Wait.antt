@@ -66,8 +66,8 @@ countedAfter e d t p cs = counted (shapeOf e) (start e d) (count p 0) cs (answer
 -- ---- the bound
 
 -- every opening of every list of which demand 3 speaks passes over at most the sector writes begun by the calls before it. p is 0 where the first
--- opening was clean; otherwise what it passed over counts until the next whole ICB. What holds of each opening of a list holds of one made after
--- it, also after a cut
+-- opening was clean; otherwise what it passed over counts until the next whole ICB. An opening that is made after a list, after a cut too, is the
+-- last of a list one longer
 unfoldable pub WaitBounded : Type 0
 WaitBounded =
     (e : Setting) (d : Disc) (t : List ℕ) (cs : List Call) → writeOnce e ≡ true → Follows e d t cs
