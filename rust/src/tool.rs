@@ -141,8 +141,8 @@ const ENTRIES: [Entry; 15] = [
 Opens the disc of each image and tells its kind, how many blocks are used, and of these unreadable or blank (never recorded), how many more
 fit and how full it is, then in the letters of document 01 S, L, N, NWA, the last VAT ICB, how many sectors were passed over, and what they
 are; of a rewritable disc R, the sequence, and the spares. On a write-once disc 0 passed over says that the last sector of the
-partition that is not blank is a VAT ICB; after a power failure the number passed over is at most the number of sector writes begun since
-the last whole VAT ICB.
+partition that is not blank is a VAT ICB; once an opening has told 0, later ones tell at most the number of sector writes begun since the
+last whole VAT ICB, wherever the power failed.
   --json               a JSON list with an object an image, its numbers without commas
 ",
         run: info::info,

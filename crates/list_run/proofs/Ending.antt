@@ -1,6 +1,6 @@
 -- What a run comes to: the equations of its contract, and demand 3 and the bound on what its openings pass over, which follow from them. Assumes
 -- nothing.
-use Prim.Native.Nat.{ℕ, zero, suc, _≤_, _<_}
+use Prim.Native.Nat.{ℕ, zero, suc, _+_, _≤_, _<_}
 use mathlib.Core.Path.{_≡_, refl, sym, ap, _∙_}
 use mathlib.Core.Bool.{true, false, false≢true}
 use mathlib.Core.List.{List, [], _∷_}
@@ -18,17 +18,17 @@ use Rattle.model.specs.Both.{opening, openedTable, openVerdict, openedBy, fille
 use Rattle.model.specs.Calls.{Call, Answer, done, cut, refused, opened, State, answers, final, Proper, isOpened, answerOfOpening}
 use Rattle.model.specs.Demand.{Below, afterOpening, Kept, seen, Demand3}
 use Rattle.model.specs.Consequences.{Follows}
-use Rattle.model.specs.Wait.{WaitBounded}
+use Rattle.model.specs.Wait.{WaitBounded, WaitExact}
 use Rattle.model.proofs.Verdicts.{opened-tells}
 use Rattle.model.proofs.ConsequencesLists.{answers-count}
 use Rattle.model.proofs.Demand.{demand-3}
-use Rattle.model.proofs.Wait.{wait-bounded}
+use Rattle.model.proofs.Wait.{wait-bounded, wait-exact}
 use Rattle.list_step.specs.Stepped.{stateOf, passedBy}
 use Rattle.list_run.specs.declared.Ran.{Ran}
 use Rattle.list_run.specs.Encoded.{decode, encode, poolOf}
 use Rattle.list_run.specs.Listed.{mended, passedAfter}
 use Rattle.list_run.specs.Outcome.{Outcome, outcome, ran, ranBy, ranNumber, carriedOut, listed, answered, Runs}
-use Rattle.list_run.specs.Promise.{DemandMet, begunBefore, WaitMet}
+use Rattle.list_run.specs.Promise.{DemandMet, countBefore, WaitMet}
 use Rattle.list_run.proofs.Encoding.{decode-encode}
 use Rattle.list_run.proofs.Mending.{mended-proper, proper-mended}
 
@@ -156,14 +156,20 @@ module _ (e : Setting) (d : Disc) (t ns pool : List ℕ) (f : Follows e d t (lis
   unfolding answered
   as-many = answers-count e (listed e d t ns pool) (afterOpening e d t)
 
-  bounded : writeOnce e ≡ true → (i : ℕ) → i < length (listed e d t ns pool) → (h : Record) (n : ℕ) → getD (answered e d t ns pool) i cut ≡ opened h n → n ≤ begunBefore e d t ns pool i
-  unfolding WaitBounded answered
-  bounded one i l h n a = wait-bounded e d t (listed e d t ns pool) one f (passedOn e d) refl i l h n a
+  module _ (one : writeOnce e ≡ true) (i : ℕ) (l : i < length (listed e d t ns pool)) (h : Record) (n : ℕ) (a : getD (answered e d t ns pool) i cut ≡ opened h n) where
+    bounded : n ≤ countBefore e d t ns pool i .begun
+    unfolding WaitBounded answered
+    bounded = wait-bounded e d t (listed e d t ns pool) one f (passedOn e d) refl i l h n a
+
+    exact : n + countBefore e d t ns pool i .old ≡ countBefore e d t ns pool i .begun
+    unfolding WaitExact answered
+    exact = wait-exact e d t (listed e d t ns pool) one f (passedOn e d) refl i l h n a
 
   waits-met : WaitMet e d t ns pool r
   waits-met =
       record {
-        each = λ held passed is one i l h n a. bounded one i l h n a;
+        each = λ held passed is. bounded;
+        exactly = λ held passed is. exact;
         last = λ held passed is one i l o later.
             let a = is-opened (getD (answered e d t ns pool) i cut) o in
             rw (same held passed is ∙ passed-last (answered e d t ns pool) (passedOn e d) i (rw as-many l) (λ j k w. later j k (rw (← as-many) w)) (a .0) (a .1) (a .2))
@@ -182,6 +188,7 @@ nothing-met e d t ns pool r d′ t′ why q = (
   },
   record {
     each = λ held passed is. absurd (never held passed is);
+    exactly = λ held passed is. absurd (never held passed is);
     last = λ held passed is. absurd (never held passed is);
     own = λ held passed is. absurd (never held passed is);
   },

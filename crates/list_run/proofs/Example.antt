@@ -7,13 +7,13 @@ use lib.ListN.{take, replicate}
 use Rattle.model.specs.Calls.{Call, Answer, answers}
 use Rattle.model.specs.Demand.{afterOpening}
 use Rattle.model.specs.Run.{twelve, fresh, lent, calls, given, before}
-use Rattle.model.specs.Wait.{Count, countedAfter, waits, waited}
+use Rattle.model.specs.Wait.{count, countedAfter, waits, waited}
 use Rattle.model.proofs.Run.{run}
 use Rattle.model.proofs.WaitReached.{wait-reached}
 use Rattle.list_run.specs.Encoded.{encode, poolOf}
 use Rattle.list_run.specs.Listed.{told}
 use Rattle.list_run.specs.Outcome.{listed, answered}
-use Rattle.list_run.specs.Promise.{begunBefore}
+use Rattle.list_run.specs.Promise.{countBefore}
 use Rattle.list_run.proofs.Ending.{listed-encode}
 
 -- they are carried out as they are
@@ -38,25 +38,25 @@ example-replies = ap (λ (al : List Answer). told al (replicate 20 7)) same-answ
 same-waits : listed twelve fresh lent (encode 0 waits) (poolOf waits) ≡ waits
 same-waits = listed-encode twelve fresh lent waits (wait-reached .follows .proper)
 
--- its own opening is clean, so what was begun is counted from 0
-begun-as : (i : ℕ) → begunBefore twelve fresh lent (encode 0 waits) (poolOf waits) i ≡ countedAfter twelve fresh lent 0 (take i waits) .begun
-begun-as i =
-    ap (λ (p : ℕ). countedAfter twelve fresh lent p (take i (listed twelve fresh lent (encode 0 waits) (poolOf waits))) .begun) (wait-reached .clean)
-    ∙ ap (λ (cs : List Call). countedAfter twelve fresh lent 0 (take i cs) .begun) same-waits
+-- its own opening is clean, so the count begins at 0
+count-as : (i : ℕ) → countBefore twelve fresh lent (encode 0 waits) (poolOf waits) i ≡ countedAfter twelve fresh lent 0 (take i waits)
+count-as i =
+    ap (λ (p : ℕ). countedAfter twelve fresh lent p (take i (listed twelve fresh lent (encode 0 waits) (poolOf waits)))) (wait-reached .clean)
+    ∙ ap (λ (cs : List Call). countedAfter twelve fresh lent 0 (take i cs)) same-waits
 
--- the openings are calls 2, 5 and 8; they passed over 2, 3 and 0 sectors, and 2, 4 and 0 writes were begun
+-- the openings are calls 2, 5 and 8; they passed over 2, 3 and 0 sectors; 2, 4 and 0 writes were begun, of which none, one and none became old
 pub record Waits : Type 0 where
   pub answers : answered twelve fresh lent (encode 0 waits) (poolOf waits) ≡ waited
-  pub first : begunBefore twelve fresh lent (encode 0 waits) (poolOf waits) 2 ≡ 2
-  pub second : begunBefore twelve fresh lent (encode 0 waits) (poolOf waits) 5 ≡ 4
-  pub third : begunBefore twelve fresh lent (encode 0 waits) (poolOf waits) 8 ≡ 0
+  pub first : countBefore twelve fresh lent (encode 0 waits) (poolOf waits) 2 ≡ count 2 0
+  pub second : countBefore twelve fresh lent (encode 0 waits) (poolOf waits) 5 ≡ count 4 1
+  pub third : countBefore twelve fresh lent (encode 0 waits) (poolOf waits) 8 ≡ count 0 0
 
 pub example-waits : Waits
 unfolding answered before
 example-waits =
     record {
       answers = ap (answers twelve (afterOpening twelve fresh lent)) same-waits ∙ wait-reached .answered;
-      first = begun-as 2 ∙ ap (λ (k : Count). k .begun) (wait-reached .reached);
-      second = begun-as 5 ∙ ap (λ (k : Count). k .begun) (wait-reached .below);
-      third = begun-as 8 ∙ ap (λ (k : Count). k .begun) (wait-reached .over);
+      first = count-as 2 ∙ wait-reached .reached;
+      second = count-as 5 ∙ wait-reached .below;
+      third = count-as 8 ∙ wait-reached .over;
     }

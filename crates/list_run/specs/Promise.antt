@@ -1,7 +1,7 @@
 -- Demand 3 as a promise of `run` (document 01, "The plain store", second paragraph; model, Demand.antt, states it of the definitions): the
 -- disc, the table and the record are those that `run` leaves and hands back. And the bound on what an opening passes over (02, slip 12; model,
 -- Wait.antt).
-use Prim.Native.Nat.{ℕ, _≤_, _<_}
+use Prim.Native.Nat.{ℕ, _+_, _≤_, _<_}
 use mathlib.Core.Path.{_≡_}
 use mathlib.Core.Bool.{true, false}
 use mathlib.Core.List.{List}
@@ -13,7 +13,7 @@ use Rattle.model.specs.Both.{passedOn}
 use Rattle.model.specs.Calls.{openDisc, cut, opened, isOpened, endsCut}
 use Rattle.model.specs.Store.{start, shapeOf, look}
 use Rattle.model.specs.Demand.{followed, seen}
-use Rattle.model.specs.Wait.{countedAfter}
+use Rattle.model.specs.Wait.{Count, countedAfter}
 use Rattle.list_step.specs.Stepped.{stateOf}
 use Rattle.list_run.specs.declared.Ran.{Ran}
 use Rattle.list_run.specs.Outcome.{listed, answered}
@@ -33,10 +33,10 @@ pub record DemandMet (e : Setting) (d₀ : Disc) (t₀ numbers pool : List ℕ) 
       → seen e (stateOf d t held) v out
       ≡ look (followed (shapeOf e) (start e d₀) (listed e d₀ t₀ numbers pool) (answered e d₀ t₀ numbers pool)) v
 
--- the sector writes begun since the last whole VAT ICB before call i of the list; what the run's own opening passed over counts as begun, which is
--- none where that was clean
-abbrev pub begunBefore : Setting → Disc → List ℕ → List ℕ → List ℕ → ℕ → ℕ
-begunBefore e d₀ t₀ numbers pool i = countedAfter e d₀ t₀ (passedOn e d₀) (take i (listed e d₀ t₀ numbers pool)) .begun
+-- before call i of the list, since the last whole VAT ICB: the sector writes begun, and those of them that became old. What the run's own opening
+-- passed over counts as begun, which is none where that was clean
+abbrev pub countBefore : Setting → Disc → List ℕ → List ℕ → List ℕ → ℕ → Count
+countBefore e d₀ t₀ numbers pool i = countedAfter e d₀ t₀ (passedOn e d₀) (take i (listed e d₀ t₀ numbers pool))
 
 -- what is promised of the sectors passed over in a run over a write-once disc
 pub record WaitMet (e : Setting) (d₀ : Disc) (t₀ numbers pool : List ℕ) (r : Ran) : Type 0 where
@@ -45,13 +45,19 @@ pub record WaitMet (e : Setting) (d₀ : Disc) (t₀ numbers pool : List ℕ) (r
       (held : Record) (passed : ℕ) → r ≡ Ran.Ended held passed → writeOnce e ≡ true
       → (i : ℕ) → i < length (listed e d₀ t₀ numbers pool)
       → (h : Record) (n : ℕ) → getD (answered e d₀ t₀ numbers pool) i cut ≡ opened h n
-      → n ≤ begunBefore e d₀ t₀ numbers pool i
+      → n ≤ countBefore e d₀ t₀ numbers pool i .begun
+  -- which are all of them but those that became old
+  pub exactly :
+      (held : Record) (passed : ℕ) → r ≡ Ran.Ended held passed → writeOnce e ≡ true
+      → (i : ℕ) → i < length (listed e d₀ t₀ numbers pool)
+      → (h : Record) (n : ℕ) → getD (answered e d₀ t₀ numbers pool) i cut ≡ opened h n
+      → n + countBefore e d₀ t₀ numbers pool i .old ≡ countBefore e d₀ t₀ numbers pool i .begun
   -- the number that is handed back is that of the last of them, and so is bounded by the writes begun before that one
   pub last :
       (held : Record) (passed : ℕ) → r ≡ Ran.Ended held passed → writeOnce e ≡ true
       → (i : ℕ) → i < length (listed e d₀ t₀ numbers pool) → isOpened (getD (answered e d₀ t₀ numbers pool) i cut) ≡ true
       → ((j : ℕ) → i < j → j < length (listed e d₀ t₀ numbers pool) → isOpened (getD (answered e d₀ t₀ numbers pool) j cut) ≡ false)
-      → passed ≤ begunBefore e d₀ t₀ numbers pool i
+      → passed ≤ countBefore e d₀ t₀ numbers pool i .begun
   -- or, where the list has none, that of the run's own opening
   pub own :
       (held : Record) (passed : ℕ) → r ≡ Ran.Ended held passed
