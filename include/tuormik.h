@@ -188,11 +188,11 @@ static inline const char *tuormik_refusal_text(uint32_t number) {
  * the current sparing table.
  * Leaves: the table filled from its start, places beyond kept; the record. The disc is only read.
  * Refuses: 1 to 6, 8, 9 (write-once), 10 (rewritable).
- * Passed over (TUORMIK_RECORD_PASSED) are the sectors between that VAT ICB and NWA; none on rewritable discs. There are none exactly if the
- * partition's last sector that is not blank is a VAT ICB. Wherever the power failed in the calls before, they are at most the sector writes
- * begun since the last whole VAT ICB: all of a call that was carried out, and those of a cut one up to the write at which the power failed,
- * whatever became of it. This is counted from an earlier opening that passed over none; what another one passed over is added until the
- * next whole VAT ICB. It takes for granted that what was recorded stays readable, and that nobody else writes to the disc.
+ * Passed over (TUORMIK_RECORD_PASSED): rewritable: 0. Write-once: how many sectors lie between that VAT ICB and NWA, which is 0 exactly if
+ * the partition's last sector that is not blank is a VAT ICB. Wherever the power failed in the calls before, it is at most the number of
+ * sector writes begun since the last whole VAT ICB: all of a call that was carried out, and those of a cut one up to the write at which the
+ * power failed, whatever became of it. They are counted from an earlier opening that passed over none; what another one passed over is
+ * added until the next whole VAT ICB. This takes for granted that what was recorded stays readable, and that nobody else writes to the disc.
  */
 uint32_t tuormik_open(const uint8_t *disc, size_t disc_length,
                       const uint8_t *marks, size_t marks_length,
