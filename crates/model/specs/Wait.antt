@@ -85,12 +85,12 @@ WaitExact =
 
 -- ---- none
 
--- an opening that was accepted, of any write-once disc, in a list or not: the partition has a sector that is not blank, the last of which is one
--- below NWA, and none was passed over exactly if that is a VAT ICB
+-- n is 0 exactly if the partition's last sector that is not blank is a VAT ICB; there is one, and it is the one below NWA
 pub record LastSector (e : Setting) (d : Disc) (n : ℕ) : Type 0 where
   pub there : 1 ≤ nextOn e d
   pub exactly : eqb n 0 ≡ vatIcb d (e .start) (nextOn e d - 1)
 
+-- so is the number passed over of every opening of a write-once disc that was accepted, clean or not, in a list or not
 unfoldable pub NoneExactly : Type 0
 NoneExactly =
     (e : Setting) (d : Disc) (t : List ℕ) → writeOnce e ≡ true
