@@ -17,7 +17,7 @@ use Rattle.model.specs.Told.{openedNumber, givenNumber}
 use Rattle.model.specs.Lent.{Opens, Reads, Makes}
 use Rattle.model.specs.Disc.{Disc}
 use Rattle.model.specs.Examine.{Setting, volume, isOnce, writeOnce}
-use Rattle.model.specs.Once.{fullnessVerdict}
+use Rattle.model.specs.Once.{heldVerdict}
 use Rattle.model.specs.Rewrite.{rewritableVerdict}
 use Rattle.model.specs.Both.{openVerdict, recordOn, numbersOn, passedOn, openedBy, opening, openedTable, blockSector, readOnceTests, readRewritableTests, readVerdict, givenBy, reading, readBytes, makeTests, makeVerdict, makeWrites, made}
 use Rattle.once_open.specs.declared.Measured.{Measured}
@@ -138,4 +138,4 @@ module _ (e : Setting) (d : Disc) where
   pub measured-so : {t : List ℕ} {held : Record} {r : Measured} → r ≡ fullnessOf e d t held → Measures (record { setting = e; disc = d }) t held r
   unfolding fullnessOf
   measured-so {t} {held} h =
-      record { answer = h; number = ap measuredNumber h ∙ measured-number (fullnessVerdict e d t held) _ }
+      record { answer = h; number = ap measuredNumber h ∙ measured-number (heldVerdict e d t held) _ }

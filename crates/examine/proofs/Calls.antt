@@ -21,8 +21,7 @@ use Rattle.model.specs.Once.{nextOn, entriesHeld, nextHeld, heldFits, onceVerdi
 use Rattle.model.specs.Plan.{Plan, refuse, unless}
 use Rattle.model.proofs.Basics.{and-true}
 use Rattle.model.proofs.Sectors.{shapely-made, shapely-most, inside-fits, nwa-most}
-use Rattle.model.proofs.Verdicts.{then-go, examined-tells, unless-stop, unless-go}
-use Rattle.examine.proofs.Laws.{once-stops, once-goes}
+use Rattle.model.proofs.Verdicts.{then-go, examined-tells, unless-stop, unless-go, once-stops, once-goes}
 
 -- ---- what the common tests tell
 

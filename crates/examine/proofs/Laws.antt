@@ -14,8 +14,8 @@ use Rattle.refusal.specs.declared.Refusal.{Refusal}
 use Rattle.refusal.specs.declared.Refusal.the-variants.{DiscShape, SpanOutside, LentLength, Misaligned, OtherKind, StaleRecord}
 use Rattle.refusal.specs.declared.Verdict.{Verdict}
 use Rattle.refusal.specs.declared.Verdict.the-variants.{Go, Stop}
-use Rattle.refusal.proofs.Laws.{stop-go, asked-after}
-use Rattle.refusal.specs.Tests.{Test, test, first, need, andThen}
+use Rattle.refusal.proofs.Laws.{stop-go}
+use Rattle.refusal.specs.Tests.{test, first, need}
 use Rattle.maps.specs.declared.Kind.{Kind}
 use Rattle.maps.specs.declared.Kind.the-variants.{WriteOnce, Rewritable}
 use Rattle.maps.specs.declared.MapsRead.{MapsRead}
@@ -322,19 +322,6 @@ module _ (e : Setting) (d : Disc) (lent : Bool) {r : Examined} (q : r ≡ examin
 -- ---- lines 1 to 7 and 11 of the calls on a write-once disc
 
 module _ (e : Setting) (d : Disc) (t : List ℕ) (lent : Bool) (held : Record) where
-  -- a call's own tests are asked after the common ones
-  pub once-own : (own : List Test) → onceVerdict e d t lent held own ≡ andThen (onceVerdict e d t lent held []) (first own)
-  unfolding onceVerdict
-  once-own own = asked-after (examined e d lent) (test (writeOnce e) OtherKind ∷ test (heldFits e d t held) StaleRecord ∷ []) own
-
-  -- what stops the common tests stops the call
-  pub once-stops : (own : List Test) {why : Refusal} → onceVerdict e d t lent held [] ≡ Stop why → onceVerdict e d t lent held own ≡ Stop why
-  once-stops own h = once-own own ∙ ap (λ (v : Verdict). andThen v (first own)) h
-
-  -- where they let it go on, its own decide
-  pub once-goes : (own : List Test) → onceVerdict e d t lent held [] ≡ Go → onceVerdict e d t lent held own ≡ first own
-  once-goes own h = once-own own ∙ ap (λ (v : Verdict). andThen v (first own)) h
-
   module _ {r : Examined} (q : r ≡ examinedOf e d lent) where
     -- lines 1 to 6
     pub once-examined : {why : Refusal} → r .verdict ≡ Stop why → Stop why ≡ onceVerdict e d t lent held []

@@ -26,7 +26,7 @@ use Rattle.model.specs.Writes.{onEffect, landing, landed, write, writes,
 use Rattle.model.specs.Vat.{vatName, none, fileFits, countOf, entriesOf, previousOf, belowOrNone, allBelow, tagFits, form, fileLength, attributes, allocation, entryFits, allocationFits, fileOf, tableFits, passes, vatIcb, vatFile, scan}
 use Rattle.model.specs.VatWritten.{fileBytes, dataSectors, writtenFile, filled, writtenAllocation, writtenForm, writtenEntry, tagWith, writtenTag, writtenIcb}
 use Rattle.model.specs.Examine.{volume, isOnce, writeOnce, shapeTests, placeTests, examined, lentTable}
-use Rattle.model.specs.Once.{nextOn, entriesHeld, nextHeld, isFound, foundAt, newest, newestFile, openOnceTests, foundRecord, passedOver, countAfter, roomToSave, saveTests}
+use Rattle.model.specs.Once.{nextOn, entriesHeld, nextHeld, isFound, foundAt, newest, newestFile, openOnceTests, foundRecord, passedOver, countAfter, roomToSave, numberFits, saveTests}
 use Rattle.model.specs.Rewrite.{otherMark}
 use Rattle.model.specs.Both.{openVerdict, recordOn, passedOn, openedBy, opening}
 use Rattle.model.specs.Calls.{State, answers, answerOfOpening, isOpened, isCut, accepted, Proper, endsCut, final}
@@ -88,7 +88,7 @@ Now x blocks copy n w a = Between six x (store blocks copy) n w a
 
 -- call by call
 answer-list : answers six st others ≡ othersGiven
-unfolding six ones others othersGiven noCut struck landing onEffect nextAfter countAfter roomToSave saveTests entriesHeld nextHeld passes tagFits field part value need fileBytes dataSectors put
+unfolding six ones others othersGiven noCut struck landing onEffect nextAfter countAfter roomToSave numberFits saveTests entriesHeld nextHeld passes tagFits field part value need fileBytes dataSectors put
 answer-list =
     told _ (save-cut at-first 0 ones (failing Effect.Unreadable) refl refl refl (omega arith) refl) λ d.
     told _ (opened-again d) λ (b : Now _ (blank ∷ []) (blank ∷ []) 1 3 1).

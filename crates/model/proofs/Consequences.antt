@@ -21,7 +21,7 @@ use Rattle.model.specs.Writes.{Write, landing, struck, noCut}
 use Rattle.model.specs.Plan.{carry, unless, replyOf}
 use Rattle.model.specs.Sparing.{packetOf}
 use Rattle.model.specs.Examine.{Setting, writeOnce, examined}
-use Rattle.model.specs.Once.{entriesHeld, heldFits, onceVerdict, saveTests, savePlan, entryTests, freePlan}
+use Rattle.model.specs.Once.{entriesHeld, heldFits, onceVerdict, numberFits, saveTests, savePlan, entryTests, freePlan}
 use Rattle.model.specs.Rewrite.{copyTests, heldCurrent, rewritableVerdict, blockTest, saveBlockTests, saveBlockPlan, packetTests, savePacketPlan, spareTests, sparePlan}
 use Rattle.model.specs.Calls.{Call, saveVirtual, freeVirtual, commit, saveBlock, savePacket, sparePacket, openDisc, Answer, done, cut, refused, opened, State, step, carried, answerOf, answers, final, accepted, isCut, isOpened, Proper, endsCut}
 use Rattle.model.specs.Store.{holds, unused, Store, Shape, store, start, shapeOf, cutIn, writesIn, wasCut, slotsIn, packetWith, taken, next, Seen, bytes, turned, seenAs, look}
@@ -201,7 +201,7 @@ kind-once e d t lent r own g =
 
 module _ (e : Setting) (st : State) where
   save-told : (v : ℕ) (b : List ℕ) (c : Cut) → accepted (step e st (saveVirtual v b c) .answer) ≡ true → (writeOnce e ≡ true) × (v ≤ entriesHeld (st .held))
-  unfolding step savePlan saveTests
+  unfolding step savePlan numberFits saveTests
   save-told v b c a =
       let g = accepted-plan _ _ _ _ c st a in
       let p = once-tells e (st .disc) (st .table) _ (st .held) (saveTests e (st .disc) (st .held) v b) g in

@@ -17,6 +17,7 @@ pub mod OnceOpen
 pub mod OnceCommit
 pub mod OnceDemand
 pub mod OnceRises
+pub mod OnceFits
 pub mod Wait
 pub mod SparingLists
 pub mod SparingEntries

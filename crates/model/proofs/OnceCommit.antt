@@ -23,12 +23,12 @@ use Rattle.model.specs.Once.{nextOn, entriesHeld, nextHeld, lastHeld, on
 use Rattle.model.specs.Calls.{commit, State, step}
 use Rattle.model.specs.Store.{Slot, entrySlots, Store, store, Shape, cutIn, writesIn, wasCut, wholeAt, taken}
 use Rattle.model.specs.Consequences.{laysIcb}
-use Rattle.model.proofs.Basics.{cond-elim, by-bool, by-lt, and-true, both, differ, or-cases, or-left, or-right}
+use Rattle.model.proofs.Basics.{cond-elim, by-bool, and-true, both, differ, or-cases, or-left, or-right}
 use Rattle.model.proofs.Agree.{Agree, agree-less, agree-trans}
 use Rattle.model.proofs.Scan.{below-mono, not-recorded, slots-agree}
 use Rattle.model.proofs.Sectors.{Made, shapely-made, shapely-most, inside-fits, landed-shapely, landed-inside, sector-done, recorded-done, writes-append, writes-one, landing-uncut, landing-done-before}
 use Rattle.model.proofs.SectorsRuns.{joined-agree, recordedRun-agree, length-upward, upward-joined, upward-recordedRun}
-use Rattle.model.proofs.WrittenVat.{length-data, length-icb, file-count, file-entries, file-previous, icb-file, icb-passes, data-never}
+use Rattle.model.proofs.WrittenVat.{length-data, data-enough, length-icb, file-count, file-entries, file-previous, icb-file, icb-passes, data-never}
 use Rattle.model.proofs.Once.{Kept, BlankFrom, Ran, on-disc, agree-landed, blank-landed, next-done, kept-write, kept-run}
 use Rattle.model.proofs.OnceRead.{onceHeld, Live, live-blank, live-last, live-length}
 use Rattle.model.proofs.Cuts.{whole-lands, broken-lands, choice-same}
@@ -69,7 +69,7 @@ module _ (s l : ℕ) (d : Disc) (c : Cut) (t : List ℕ) (i₀ last : ℕ) {a : 
   before-k = or-right (eqb last _) (lt-ltb last k (omega arith))
 
   enough : 2048 * D ≤ length body
-  enough = by-lt 0 D (λ h. omega (arith, length-data t last h)) (λ h. omega arith)
+  enough = data-enough t last
 
   ran : Ran s l i₀ D d₁ d a old
   ran = kept-run D 1 c s l i₀ body 0 d κ (omega arith) z (omega (arith, enough)) (λ j h q. let w : 0 + 2048 * j ≡ 2048 * j = omega arith in rw w (data-never t last k below-k before-k small j q))

@@ -21,7 +21,7 @@ use Rattle.model.specs.Vat.{none, allBelow, passes, vatIcb, vatFile, cou
 use Rattle.model.specs.VatWritten.{fileBytes, dataSectors, writtenFile, writtenData, writtenIcb}
 use Rattle.model.specs.Plan.{unless, replyOf, discAfter, tableAfter}
 use Rattle.model.specs.Examine.{Setting, writeOnce, examined, lentTable}
-use Rattle.model.specs.Once.{nextOn, entriesHeld, nextHeld, lastHeld, onceVerdict, foundAt, newest, newestFile, foundRecord, filledFrom, countAfter, roomToSave, saveTests, saveLent, savePlan, roomToCommit, commitTests, icbBlock, commitWrites, commitPlan}
+use Rattle.model.specs.Once.{nextOn, entriesHeld, nextHeld, lastHeld, onceVerdict, foundAt, newest, newestFile, foundRecord, filledFrom, countAfter, roomToSave, numberFits, saveTests, saveLent, savePlan, roomToCommit, commitTests, icbBlock, commitWrites, commitPlan}
 use Rattle.model.specs.Both.{recordOn, numbersOn, passedOn, openedBy, filledBy, opening, openedTable, makeTests, makeVerdict, makeWrites, madeBy, made}
 use Rattle.model.specs.Calls.{saveVirtual, commit, openDisc, done, opened, State, Result, answerOf, heldAfter, carried, answerOfOpening, heldAfterOpening, step, answers, final, accepted, isCut}
 use Rattle.model.specs.Store.{Slot, holds, entrySlots, Store, store, Shape, shapeOf, put, cutIn, writesIn, wasCut, taken, next, seenAs, bytes, look}
@@ -250,7 +250,7 @@ module _ (e : Setting) (once : writeOnce e ≡ true) (maps-go : readMaps (e .map
       }
 
   save-goes : onceVerdict e d t (saveLent t b) (Record.WriteOnce 0 1 0) (saveTests e d (Record.WriteOnce 0 1 0) 0 b) ≡ Go
-  unfolding saveLent lentTable saveTests roomToSave countAfter entriesHeld nextHeld need dataSectors fileBytes
+  unfolding saveLent lentTable numberFits saveTests roomToSave countAfter entriesHeld nextHeld need dataSectors fileBytes
   save-goes =
       live-goes e once maps-go st₀ (store [] []) live₀ _ _ (both (le-leb _ _ lent) (eq-eqb _ _ whole)) (rw (plain, le-leb 3 (e .span) three) refl)
 

@@ -21,7 +21,7 @@ use Rattle.model.specs.Writes.{landing, landed, write, writes, struck, n
 use Rattle.model.specs.Vat.{none, allBelow, passes}
 use Rattle.model.specs.VatWritten.{dataSectors}
 use Rattle.model.specs.Examine.{Setting, writeOnce, examined, lentTable}
-use Rattle.model.specs.Once.{nextOn, entriesHeld, nextHeld, lastHeld, heldFits, onceVerdict, countAfter, roomToSave, saveTests, saveLent, savePlan, entryTests, freePlan}
+use Rattle.model.specs.Once.{nextOn, entriesHeld, nextHeld, lastHeld, heldFits, onceVerdict, countAfter, roomToSave, numberFits, saveTests, saveLent, savePlan, entryTests, freePlan}
 use Rattle.model.specs.Calls.{saveVirtual, freeVirtual, State, step}
 use Rattle.model.specs.Store.{Slot, holds, entrySlot, entrySlots, slotAt, Store, Shape, cutIn, writesIn, put, taken}
 use Rattle.model.proofs.Basics.{by-eq, and-true}
@@ -65,6 +65,19 @@ table-set : (n v x : ℕ) (t : List ℕ) → v < n → take (countAfter n v) (se
 unfolding countAfter
 table-set n v x t h = rw (ne-eqb v n (λ q. omega arith)) (take-set-lt n t v x h)
 
+-- N after a save is at most 4,096,
+pub saved-few : (n v : ℕ) → n ≤ 4096 → v < 4096 → countAfter n v ≤ 4096
+unfolding countAfter
+saved-few n v few small = by-eq v n (λ q. rw (eq-eqb v n q) (omega arith)) (λ q. rw (ne-eqb v n q) few)
+
+-- and its entries are below the NWA after it; w is the one before
+pub saved-fresh : (n v w : ℕ) (t : List ℕ) → v ≤ n → v < length t → allBelow w (take n t) ≡ true → allBelow (w + 1) (take (countAfter n v) (set t v w)) ≡ true
+saved-fresh n v w t most on fresh =
+    let old : allBelow (w + 1) (take n t) ≡ true = below-mono w (w + 1) (take n t) (omega arith) fresh in
+    by-eq v n
+    (λ q. rw (table-grown n v w t (omega arith) q) (below-snoc (w + 1) (take n t) w (below-own w) old))
+    (λ q. rw (table-set n v w t (omega arith)) (below-set (w + 1) (take n t) v w (below-own w) old))
+
 module _ (e : Setting) (h : Shape) (st : State) (σ : Store) (i : Live e st σ) where
   -- ---- save v
   module _ (v : ℕ) (b : List ℕ) (c : Cut) (g : onceVerdict e (st .disc) (st .table) (saveLent (st .table) b) (st .held) (saveTests e (st .disc) (st .held) v b) ≡ Go) where
@@ -76,7 +89,7 @@ module _ (e : Setting) (h : Shape) (st : State) (σ : Store) (i : Live e st σ) 
       pub room : W st + 1 + dataSectors (countAfter (N st) v) + 1 ≤ e .span
 
     pub facts : Facts
-    unfolding saveTests roomToSave saveLent
+    unfolding numberFits saveTests roomToSave saveLent
     facts =
         let p = once-tells e (st .disc) (st .table) _ (st .held) (saveTests e (st .disc) (st .held) v b) g in
         let q = and-true (lentTable (st .table)) _ (p .0 .lengths) in
@@ -127,13 +140,6 @@ module _ (e : Setting) (h : Shape) (st : State) (σ : Store) (i : Live e st σ) 
       slots-old : entrySlots d′ (e .start) (take (N st) (st .table)) ≡ σ .blocks
       slots-old = slots-agree (take (N st) (st .table)) agree (i .fresh) ∙ i .now
 
-      fresh-new : allBelow (W st + 1) (take (countAfter (N st) v) (set (st .table) v (W st))) ≡ true
-      fresh-new =
-          let old : allBelow (W st + 1) (take (N st) (st .table)) ≡ true = below-mono (W st) (W st + 1) (take (N st) (st .table)) (omega arith) (i .fresh) in
-          by-eq v (N st)
-          (λ q. rw (table-grown (N st) v (W st) (st .table) (omega (arith, facts .small, i .lent)) q) (below-snoc (W st + 1) (take (N st) (st .table)) (W st) (below-own (W st)) old))
-          (λ q. rw (table-set (N st) v (W st) (st .table) (omega (arith, facts .most))) (below-set (W st + 1) (take (N st) (st .table)) v (W st) (below-own (W st)) old))
-
       slots-new : entrySlots d′ (e .start) (take (countAfter (N st) v) (set (st .table) v (W st))) ≡ put (σ .blocks) v (holds b)
       unfolding put
       slots-new =
@@ -150,10 +156,6 @@ module _ (e : Setting) (h : Shape) (st : State) (σ : Store) (i : Live e st σ) 
           ∙ ap₂ (λ (l : List Slot) (x : Slot). set l v x) slots-old slot-new
           ∙ sym (rw (ln, lt-ltb v (N st) (omega (arith, facts .most)))))
 
-      few-new : countAfter (N st) v ≤ 4096
-      unfolding countAfter
-      few-new = by-eq v (N st) (λ q. rw (eq-eqb v (N st) q) (omega (arith, facts .small))) (λ q. rw (ne-eqb v (N st) q) (i .few))
-
       live-saved : Live e
           (record { disc = writes 1 c (record { place = e .start + W st; bytes = b } ∷ []) (st .disc); table = set (st .table) v (W st); held = Record.WriteOnce (countAfter (N st) v) (W st + 1) (lastHeld (st .held)) })
           (record { blocks = put (σ .blocks) v (holds b); copy = σ .copy })
@@ -163,8 +165,8 @@ module _ (e : Setting) (h : Shape) (st : State) (σ : Store) (i : Live e st σ) 
             once = refl;
             kept = kept-saved;
             top = next-nwa ∙ ap (nextOn e) (sym is-done);
-            fresh = fresh-new;
-            few = few-new;
+            fresh = saved-fresh (N st) v (W st) (st .table) (facts .most) (omega (arith, facts .small, i .lent)) (i .fresh);
+            few = saved-few (N st) v (i .few) (facts .small);
             lent = rw length-set (i .lent);
             now = ap (λ (x : Disc). entrySlots x (e .start) (take (countAfter (N st) v) (set (st .table) v (W st)))) is-done ∙ slots-new;
           }

@@ -27,7 +27,7 @@ use Rattle.model.specs.Writes.{onEffect, landing, landed, write, writes,
 use Rattle.model.specs.Vat.{vatName, none, fileFits, countOf, entriesOf, previousOf, belowOrNone, allBelow, tagFits, form, fileLength, attributes, allocation, entryFits, allocationFits, fileOf, tableFits, passes, vatIcb, vatFile, scan}
 use Rattle.model.specs.VatWritten.{fileBytes, dataSectors, writtenFile, filled, writtenAllocation, writtenForm, writtenEntry, tagWith, writtenTag, writtenIcb}
 use Rattle.model.specs.Examine.{volume, isOnce, writeOnce, shapeTests, placeTests, examined, lentTable}
-use Rattle.model.specs.Once.{nextOn, entriesHeld, nextHeld, isFound, foundAt, newest, newestFile, openOnceTests, foundRecord, passedOver, countAfter, roomToSave, saveTests}
+use Rattle.model.specs.Once.{nextOn, entriesHeld, nextHeld, isFound, foundAt, newest, newestFile, openOnceTests, foundRecord, passedOver, countAfter, roomToSave, numberFits, saveTests}
 use Rattle.model.specs.Both.{openVerdict, recordOn, passedOn, openedBy, opening, makeTests, makeVerdict, makeWrites, madeBy, made}
 use Rattle.model.specs.Calls.{State, answers, answerOfOpening, isOpened, isCut, accepted, endsCut, Proper}
 use Rattle.model.specs.Store.{Slot, holds, unused, store, blocksOn, start, shapeOf, cutIn, writesIn, wasCut, put, wholeAt, isWhole, taken, next, seenAs, look}
@@ -106,7 +106,7 @@ Now st blocks copy n w a = Between twelve st (store blocks copy) n w a
 
 -- call by call
 answer-list : answers twelve before calls ≡ given
-unfolding twelve ones twos calls given noCut struck landing onEffect nextAfter countAfter roomToSave saveTests entriesHeld nextHeld passes tagFits field part value need fileBytes dataSectors put
+unfolding twelve ones twos calls given noCut struck landing onEffect nextAfter countAfter roomToSave numberFits saveTests entriesHeld nextHeld passes tagFits field part value need fileBytes dataSectors put
 answer-list =
     told _ (saved at-first 0 ones noCut refl refl refl) λ (b : Now _ (holds ones ∷ []) [] 1 2 0).
     told _ (commit-torn b refl (omega arith) (failing Effect.Old) refl old-differs) λ d.

@@ -9,20 +9,36 @@ use lib.ListN.{length, getD, take}
 use lib.Seq.{take-length}
 use Rattle.refusal.specs.declared.Refusal.{Refusal}
 use Rattle.refusal.specs.declared.Verdict.{Verdict}
-use Rattle.refusal.specs.declared.Verdict.the-variants.{Go}
+use Rattle.refusal.specs.declared.Verdict.the-variants.{Go, Stop}
 use Rattle.model.specs.declared.Cut.{Cut}
 use Rattle.model.specs.declared.Record.{Record}
 use Rattle.model.specs.Writes.{Write, writes, struck, noCut}
 use Rattle.model.specs.Plan.{refuse, carry, unless, replyOf, discAfter, tableAfter}
 use Rattle.model.specs.Examine.{Setting}
 use Rattle.model.specs.Both.{openVerdict, openedBy, opening}
-use Rattle.model.specs.Calls.{Call, openDisc, Answer, cut, State, Result, answerOf, heldAfter, carried, answerOfOpening, step, answers, final, accepted, isCut, isOpened, Proper, endsCut}
+use Rattle.model.specs.Calls.{Call, openDisc, Answer, done, cut, refused, State, Result, answerOf, heldAfter, carried, answerOfOpening, step, answers, final, accepted, isCut, isOpened, Proper, endsCut}
 use Rattle.model.specs.Store.{Store, Shape, cutIn, writesIn, wasCut, taken, next}
 use Rattle.model.specs.Demand.{followed}
 use Rattle.model.specs.Wait.{Count, count, counting, counted}
 use Rattle.model.proofs.Basics.{by-bool}
 use Rattle.model.proofs.Verdicts.{by-verdict}
 use Rattle.model.proofs.ConsequencesLists.{answer-place, proper-place}
+
+-- ---- a call by its plan: stopped, cut, or carried out
+
+module _ (ws : List Write) (t : List ℕ) (r : Record) (k : Cut) (st : State) {v : Verdict} where
+  pub plan-stopped : {why : Refusal} → v ≡ Stop why → carried (unless v (carry ws t r)) k st .answer ≡ refused why
+  unfolding unless carried replyOf answerOf
+  plan-stopped q = rw q
+
+  pub plan-cut : v ≡ Go → struck k (length ws) ≡ true → carried (unless v (carry ws t r)) k st .answer ≡ cut
+  unfolding unless carried replyOf answerOf
+  plan-cut q s = rw (q, s)
+
+  pub plan-done : v ≡ Go → struck k (length ws) ≡ false
+      → carried (unless v (carry ws t r)) k st ≡ record { answer = done r; state = record { disc = writes 1 k ws (st .disc); table = t; held = r } }
+  unfolding unless carried replyOf discAfter tableAfter answerOf heldAfter
+  plan-done q s = rw (q, s)
 
 -- ---- whether a call was cut
 

@@ -1,18 +1,20 @@
 -- What a verdict that lets a call go on tells, and when one does. Assumes nothing.
 use Prim.Native.Nat.{ℕ}
 use mathlib.Core.Bool.{Bool, true, false, cond}
-use mathlib.Core.Path.{_≡_, refl}
-use mathlib.Core.List.{List, _∷_}
+use mathlib.Core.Path.{_≡_, refl, ap, _∙_}
+use mathlib.Core.List.{List, [], _∷_}
 use native.Mathlib.Omega.{arith}
 use Rattle.refusal.specs.declared.Refusal.{Refusal}
+use Rattle.refusal.specs.declared.Refusal.the-variants.{OtherKind, StaleRecord}
 use Rattle.refusal.specs.declared.Verdict.{Verdict}
 use Rattle.refusal.specs.declared.Verdict.the-variants.{Go, Stop}
 use Rattle.refusal.specs.Tests.{Test, test, first, need, andThen}
-use Rattle.refusal.proofs.Laws.{passed}
+use Rattle.refusal.proofs.Laws.{passed, asked-after}
 use Rattle.maps.specs.Kinds.{readMaps}
 use Rattle.model.specs.Disc.{Disc, shapely, inside}
 use Rattle.model.specs.Examine.{Setting, writeOnce, geometry, aligned, shapeTests, placeTests, examined}
 use Rattle.model.specs.Plan.{Plan, refuse, unless}
+use Rattle.model.specs.Once.{heldFits, onceVerdict}
 use Rattle.model.specs.declared.Record.{Record}
 use Rattle.model.specs.declared.Opened.{Opened}
 use Rattle.model.specs.Both.{openVerdict, recordOn, passedOn, openedBy, opening}
@@ -70,6 +72,22 @@ unless-stop p e = rw e
 pub unless-go : {v : Verdict} (p : Plan) → v ≡ Go → unless v p ≡ p
 unfolding unless
 unless-go p e = rw e
+
+-- ---- lines 1 to 7 and 11 of the calls on a write-once disc
+
+module _ (e : Setting) (d : Disc) (t : List ℕ) (lent : Bool) (held : Record) where
+  -- a call's own tests are asked after the common ones
+  pub once-own : (own : List Test) → onceVerdict e d t lent held own ≡ andThen (onceVerdict e d t lent held []) (first own)
+  unfolding onceVerdict
+  once-own own = asked-after (examined e d lent) (test (writeOnce e) OtherKind ∷ test (heldFits e d t held) StaleRecord ∷ []) own
+
+  -- what stops the common tests stops the call
+  pub once-stops : (own : List Test) {why : Refusal} → onceVerdict e d t lent held [] ≡ Stop why → onceVerdict e d t lent held own ≡ Stop why
+  once-stops own h = once-own own ∙ ap (λ (v : Verdict). andThen v (first own)) h
+
+  -- where they let it go on, its own decide
+  pub once-goes : (own : List Test) → onceVerdict e d t lent held [] ≡ Go → onceVerdict e d t lent held own ≡ first own
+  once-goes own h = once-own own ∙ ap (λ (v : Verdict). andThen v (first own)) h
 
 -- ---- an opening
 

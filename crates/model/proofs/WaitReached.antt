@@ -15,7 +15,7 @@ use Rattle.model.specs.declared.Opened.{Opened}
 use Rattle.model.specs.Writes.{onEffect, landing, struck, noCut}
 use Rattle.model.specs.Vat.{tagFits, passes}
 use Rattle.model.specs.VatWritten.{fileBytes, dataSectors}
-use Rattle.model.specs.Once.{entriesHeld, nextHeld, countAfter, roomToSave, saveTests}
+use Rattle.model.specs.Once.{entriesHeld, nextHeld, countAfter, roomToSave, numberFits, saveTests}
 use Rattle.model.specs.Both.{opening}
 use Rattle.model.specs.Calls.{openDisc, cut, answers, final, isCut, accepted}
 use Rattle.model.specs.Store.{holds, store, start, shapeOf, cutIn, writesIn, wasCut, put, wholeAt, isWhole, taken, next}
@@ -32,7 +32,7 @@ use Rattle.model.proofs.Run.{bytes-below, computed, accepts, empty, at-
 
 -- call by call
 answer-list : answers twelve before waits ≡ waited
-unfolding twelve ones twos waits waited noCut struck landing onEffect nextAfter countAfter roomToSave saveTests entriesHeld nextHeld passes tagFits field part value need fileBytes dataSectors put
+unfolding twelve ones twos waits waited noCut struck landing onEffect nextAfter countAfter roomToSave numberFits saveTests entriesHeld nextHeld passes tagFits field part value need fileBytes dataSectors put
 answer-list =
     told _ (saved at-first 0 ones noCut refl refl refl) λ (b : Now _ (holds ones ∷ []) [] 1 2 0).
     told _ (save-cut b 1 twos (failing Effect.Unreadable) refl refl refl (omega arith) refl) λ d.

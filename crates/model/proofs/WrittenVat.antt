@@ -17,7 +17,7 @@ use Rattle.model.specs.Vat.{vatName, none, belowOrNone, allBelow, tagFit
 use Rattle.model.specs.VatWritten.{fileBytes, dataSectors, writtenFile, filled, writtenData}
 use Rattle.fields.proofs.Words.{quads-append, quads-zeros, field-upper}
 use Rattle.model.proofs.Basics.{and-first, and-second, both, by-lt}
-pub use Rattle.model.proofs.WrittenVatFile.{data-sectors-most, data-sectors-mono, length-file, length-data, file-fits, file-count, file-entries, file-previous, file-table}
+pub use Rattle.model.proofs.WrittenVatFile.{data-sectors-most, data-sectors-mono, length-file, length-data, data-enough, file-fits, file-count, file-entries, file-previous, file-table}
 pub use Rattle.model.proofs.WrittenVatIcb.{length-icb, icb-file, icb-passes}
 
 -- ---- the data never passes

@@ -68,6 +68,10 @@ length-data t previous h =
     (λ l. length-filled (2048 * dataSectors (length t)) (writtenFile t previous)
     (omega (arith, length-file t previous, outside-blocks (length t) l)))
 
+-- so it has bytes for each of them
+pub data-enough : (t : List ℕ) (previous : ℕ) → 2048 * dataSectors (length t) ≤ length (writtenData t previous)
+data-enough t previous = by-lt 0 (dataSectors (length t)) (λ h. omega (arith, length-data t previous h)) (λ h. omega arith)
+
 -- ---- the file
 
 -- what is below k or none fits 4 bytes

@@ -97,13 +97,26 @@ countAfter n v = cond (eqb v n) (n + 1) n
 unfoldable pub roomToSave : ℕ → Record → ℕ → Bool
 roomToSave l held v = leb (nextHeld held + 1 + dataSectors (countAfter (entriesHeld held) v) + 1) l
 
+-- line 12 of a save: v is at most N, and below 4,096
+unfoldable pub numberFits : Record → ℕ → Bool
+numberFits held v = leb v (entriesHeld held) && ltb v 4096
+
+-- line 12
+abbrev pub numberTest : Record → ℕ → Test
+numberTest held v = test (numberFits held v) NumberOutside
+
+-- line 16
+abbrev pub roomTest : Setting → Record → ℕ → Test
+roomTest e held v = test (roomToSave (e .span) held v) NoRoom
+
 -- lines 12, 15 and 16
 unfoldable pub saveTests : Setting → Disc → Record → ℕ → List ℕ → List Test
 saveTests e d held v block =
-    test (leb v (entriesHeld held) && ltb v 4096) NumberOutside
-    ∷ test (not (passes d (e .start) (nextHeld held) block)) PassesAsIcb
-    ∷ test (roomToSave (e .span) held v) NoRoom
-    ∷ []
+    numberTest held v ∷ test (not (passes d (e .start) (nextHeld held) block)) PassesAsIcb ∷ roomTest e held v ∷ []
+
+-- the record after it
+abbrev pub savedRecord : Record → ℕ → Record
+savedRecord held v = Record.WriteOnce (countAfter (entriesHeld held) v) (nextHeld held + 1) (lastHeld held)
 
 -- line 3
 unfoldable pub saveLent : List ℕ → List ℕ → Bool
@@ -117,7 +130,7 @@ savePlan e d t held v block =
     (carry
     (record { place = sectorAt (e .start) (nextHeld held); bytes = block } ∷ [])
     (set t v (nextHeld held))
-    (Record.WriteOnce (countAfter (entriesHeld held) v) (nextHeld held + 1) (lastHeld held)))
+    (savedRecord held v))
 
 -- ---- free v: entry unused, no write
 
@@ -150,6 +163,10 @@ commitWrites e t held =
     upward (dataSectors (entriesHeld held)) (sectorAt (e .start) (nextHeld held)) (writtenData t (lastHeld held)) 0
     ++ (record { place = sectorAt (e .start) (icbBlock held); bytes = writtenIcb (icbBlock held) t (lastHeld held) } ∷ [])
 
+-- the record after it
+abbrev pub committedRecord : Record → Record
+committedRecord held = Record.WriteOnce (entriesHeld held) (icbBlock held + 1) (icbBlock held)
+
 -- the plan
 unfoldable pub commitPlan : Setting → Disc → List ℕ → Record → Plan
 commitPlan e d t held =
@@ -158,10 +175,10 @@ commitPlan e d t held =
     (carry
     (commitWrites e (take (entriesHeld held) t) held)
     t
-    (Record.WriteOnce (entriesHeld held) (icbBlock held + 1) (icbBlock held)))
+    (committedRecord held))
 
 -- ---- fullness
 
--- line 11 is the last that fullness tests
-unfoldable pub fullnessVerdict : Setting → Disc → List ℕ → Record → Verdict
-fullnessVerdict e d t held = onceVerdict e d t (lentTable t) held []
+-- line 11 is the last that it tests
+unfoldable pub heldVerdict : Setting → Disc → List ℕ → Record → Verdict
+heldVerdict e d t held = onceVerdict e d t (lentTable t) held []

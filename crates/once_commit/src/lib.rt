@@ -15,20 +15,10 @@ ghost use Prim.Native.Nat.{_≤_, _+_, _<_, _*_};
 ghost use lib.ListN.{length, take};
 ghost use Rattle.model.specs.Disc.{disc as discOf};
 ghost use Rattle.model.specs.Examine.{setting};
-ghost use Rattle.model.specs.Once.{entriesHeld, nextHeld, roomToCommit, commitWrites, icbBlock};
+ghost use Rattle.model.specs.Once.{entriesHeld, commitWrites, icbBlock};
 ghost use Rattle.model.specs.Writes.{writes, upward};
 ghost use Rattle.model.specs.Lent.{lent, Commits};
 ghost use Rattle.model.specs.VatWritten.{dataSectors, writtenData};
-
-// Line 16 of a commit. Inside the layers: line 11 has been tested.
-fn has_commit_room(l: u32, held: Record) -> bool
-    requires { ⌜ entriesHeld held ≤ 4096 ⌝ }
-    ensures { λ r. ⌜ r ≡ roomToCommit l held ⌝ }
-{
-    let next = examine::next_held(held).0 as u64;
-    let count = vat_file_written::data_sectors(examine::entries_held(held)) as u64;
-    next + count + 1 <= l as u64
-}
 
 // Writes the VAT's data sectors upward from sector `first`, the call's first writes.
 // Inside the layers: lines 1 to 16 have been tested, so the sectors are the disc's.
@@ -54,16 +44,6 @@ fn write_vat_data(
         disc_writes::write_sector(disc, marks, address::up_from(first, i), &data, i + 1, cut);
         i += 1;
     }
-}
-
-// The logical block of the ICB that a commit writes. Inside the layers: lines 2 and 11 have been tested.
-fn icb_block(held: Record) -> LogicalAddress
-    requires { ⌜ (entriesHeld held ≤ 4096) × (nextHeld held ≤ 1048576) ⌝ }
-    ensures { λ r. ⌜ r .0 ≡ icbBlock held ⌝ }
-{
-    let next = examine::next_held(held);
-    let block = next.0 + vat_file_written::data_sectors(examine::entries_held(held));
-    LogicalAddress(block)
 }
 
 // Writes the VAT of the lent table's first N entries: its data upward from NWA, then its ICB.
@@ -109,18 +89,13 @@ pub fn commit(
         return Reply::Refused(why);
     }
     let span = seen.volume.span;
-    if !has_commit_room(span.length, held) {
+    if !once_room::has_commit_room(span.length, held) {
         return Reply::Refused(Refusal::NoRoom);
     }
     write_vat(disc, marks, span.start, table, held, cut);
     let n = examine::entries_held(held);
-    let k = icb_block(held);
     if disc_writes::is_struck(cut, vat_file_written::data_sectors(n) + 1) {
         return Reply::Cut;
     }
-    Reply::Done(Record::WriteOnce {
-        entries: n,
-        next: k.0 + 1,
-        last: k.0,
-    })
+    Reply::Done(once_room::committed(held))
 }

@@ -21,7 +21,7 @@ use Rattle.model.specs.declared.Record.{Record}
 use Rattle.model.specs.Disc.{Disc}
 use Rattle.model.specs.Writes.{struck, noCut}
 use Rattle.model.specs.Examine.{Setting, lentTable}
-use Rattle.model.specs.Once.{entriesHeld, nextHeld, onceVerdict, entryTests, fullnessVerdict}
+use Rattle.model.specs.Once.{entriesHeld, nextHeld, onceVerdict, entryTests, heldVerdict}
 use Rattle.once_open.specs.declared.Measured.{Measured}
 use Rattle.once_open.specs.Calls.{blockOf, measuredBy, fullnessOf}
 
@@ -72,8 +72,8 @@ uncut = refl
 
 module _ (e : Setting) (d : Disc) (t : List ℕ) (held : Record) {x : Bool} {w : Verdict} (is : x ≡ lentTable t) (says : w ≡ onceVerdict e d t x held []) where
   -- its verdict is that of the common tests
-  full-verdict : fullnessVerdict e d t held ≡ w
-  unfolding fullnessVerdict
+  full-verdict : heldVerdict e d t held ≡ w
+  unfolding heldVerdict
   full-verdict = sym (says ∙ ap (λ (b : Bool). onceVerdict e d t b held []) is)
 
   -- the common tests stop it

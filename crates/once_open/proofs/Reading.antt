@@ -24,8 +24,7 @@ use Rattle.model.specs.Rewrite.{placeOf}
 use Rattle.model.specs.Both.{readOnceTests, readLent, blockSector, entrySector, givenBy, blockBy}
 use Rattle.model.proofs.Basics.{and-true, other}
 use Rattle.model.proofs.Sectors.{shapely-made, shapely-most, inside-fits, nwa-most}
-use Rattle.model.proofs.Verdicts.{Examined, examined-tells, then-go}
-use Rattle.examine.proofs.Laws.{once-stops, once-goes}
+use Rattle.model.proofs.Verdicts.{Examined, examined-tells, then-go, once-stops, once-goes}
 use Rattle.examine.proofs.Calls.{held-tells}
 use Rattle.once_open.specs.Calls.{readOnceVerdict, readingOnce, readOnceBytes}
 

@@ -17,7 +17,7 @@ use Rattle.model.specs.Disc.{Disc, sector}
 use Rattle.model.specs.Vat.{entriesOf}
 use Rattle.model.specs.Examine.{Setting, writeOnce, examined, lentTable}
 use Rattle.label.specs.PerMille.{perMille}
-use Rattle.model.specs.Once.{nextOn, nextHeld, newestFile, openOnceTests, foundRecord, passedOver, entryTests, fullnessVerdict}
+use Rattle.model.specs.Once.{nextOn, nextHeld, newestFile, openOnceTests, foundRecord, passedOver, entryTests, heldVerdict}
 use Rattle.vat_scan.specs.Scan.{looked}
 use Rattle.once_open.specs.declared.Measured.{Measured}
 use Rattle.model.specs.Lent.{Lent}
@@ -72,7 +72,7 @@ measuredBy (Stop why) n = Measured.Refused why
 
 -- 1,000 times NWA / L to the nearest, an exact half going to the even one (02, slip 4)
 unfoldable pub fullnessOf : Setting → Disc → List ℕ → Record → Measured
-fullnessOf e d t held = measuredBy (fullnessVerdict e d t held) (perMille (nextHeld held) (e .span))
+fullnessOf e d t held = measuredBy (heldVerdict e d t held) (perMille (nextHeld held) (e .span))
 
 -- ---- what a caller is told of fullness
 
@@ -89,4 +89,4 @@ measuredValues (Measured.Refused why) = []
 -- fullness, lent the table t, answers r
 pub record Measures (x : Lent) (t : List ℕ) (held : Record) (r : Measured) : Type 0 where
   pub answer : r ≡ fullnessOf (x .setting) (x .disc) t held
-  pub number : measuredNumber r ≡ verdictNumber (fullnessVerdict (x .setting) (x .disc) t held)
+  pub number : measuredNumber r ≡ verdictNumber (heldVerdict (x .setting) (x .disc) t held)

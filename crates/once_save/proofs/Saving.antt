@@ -1,12 +1,12 @@
--- Laws of a save: its lent lengths, N after it, its own lines, and what it may rely on once nothing stops it. Assumes nothing.
+-- Laws of a save: its lent lengths, its own lines, and what it may rely on once nothing stops it. Assumes nothing.
 use Prim.Native.Nat.{ℕ, _+_, _*_, _≤_, _<_}
 use mathlib.Core.Bool.{Bool, true, false, not, _&&_}
 use mathlib.Core.Path.{_≡_, refl, sym, ap, _∙_}
 use mathlib.Core.List.{List, [], _∷_}
 use native.Mathlib.Omega.{arith}
-use borrow.Author.Tests.{ltb-true, leb-true, eqb-true, eq-eqb, ne-eqb, lt-ltb, le-ltb, le-leb, lt-leb, not-true, not-false}
+use borrow.Author.Tests.{leb-true, eqb-true, not-true, not-false}
 use lib.ListN.{length}
-use lib.Dec.{eqb, leb, ltb}
+use lib.Dec.{eqb, leb}
 use Rattle.refusal.specs.declared.Refusal.the-variants.{NumberOutside, PassesAsIcb, NoRoom}
 use Rattle.refusal.specs.declared.Verdict.{Verdict}
 use Rattle.refusal.specs.declared.Verdict.the-variants.{Go, Stop}
@@ -19,10 +19,11 @@ use Rattle.model.specs.Writes.{write, writes}
 use Rattle.model.specs.Vat.{passes}
 use Rattle.model.specs.VatWritten.{dataSectors}
 use Rattle.model.specs.Examine.{Setting, lentTable}
-use Rattle.model.specs.Once.{entriesHeld, nextHeld, lastHeld, countAfter, roomToSave, saveTests, saveLent}
-use Rattle.model.proofs.Basics.{cond-elim, and-true, and-false-left, and-false, both}
+use Rattle.model.specs.Once.{entriesHeld, nextHeld, countAfter, numberFits, roomToSave, saveTests, saveLent}
+use Rattle.model.proofs.Basics.{and-true}
 use Rattle.vat_read.specs.File.{Lent}
 use Rattle.examine.proofs.Calls.{Common}
+use Rattle.once_room.proofs.Laws.{number-low}
 
 -- ---- line 3 of a save
 
@@ -38,48 +39,18 @@ save-lent t block h =
     let p = and-true (leb 4096 (length t)) (eqb (length block) 2048) h in
     (leb-true 4096 (length t) (p .0), eqb-true (length block) 2048 (p .1))
 
--- ---- N after it
-
--- v = N adds one
-pub count-adds : (n v : ℕ) → v ≡ n → n + 1 ≡ countAfter n v
-unfolding countAfter
-count-adds n v h = let q = eq-eqb v n h in rw q
-
--- any other keeps it
-pub count-keeps : (n v : ℕ) → (v ≡ n → ⊥) → n ≡ countAfter n v
-unfolding countAfter
-count-keeps n v h = let q = ne-eqb v n h in rw q
-
--- it is at most 4,096
-pub count-few : (n v : ℕ) → n ≤ 4096 → v < 4096 → countAfter n v ≤ 4096
-unfolding countAfter
-count-few n v h k = cond-elim (λ (m : ℕ). m ≤ 4096) (eqb v n) (λ q. let s = eqb-true v n q in omega arith) (λ q. h)
-
 -- ---- lines 12, 15 and 16
 
--- line 16 from its numbers
-pub room : (l : ℕ) (held : Record) (v : ℕ) {n k a s : ℕ} → n ≡ entriesHeld held → k ≡ nextHeld held → a ≡ countAfter n v → s ≡ dataSectors a → leb (k + 1 + s + 1) l ≡ roomToSave l held v
-unfolding roomToSave
-room l held v p q f g =
-    let a = ap (λ (m : ℕ). countAfter m v) p in
-    let s = g ∙ ap dataSectors (f ∙ a) in
-    rw (s, q)
-
-module _ (e : Setting) (d : Disc) (held : Record) (v : ℕ) (block : List ℕ) {n : ℕ} (is : n ≡ entriesHeld held) where
-  -- v is past N
-  pub save-beyond : n < v → Stop NumberOutside ≡ first (saveTests e d held v block)
+module _ (e : Setting) (d : Disc) (held : Record) (v : ℕ) (block : List ℕ) {x : Bool} (is : x ≡ numberFits held v) where
+  -- line 12
+  pub save-outside : not x ≡ true → Stop NumberOutside ≡ first (saveTests e d held v block)
   unfolding saveTests
-  save-beyond h = stops _ (and-false-left _ (lt-leb v (entriesHeld held) (omega arith)))
+  save-outside h = stops _ (sym is ∙ not-true _ h)
 
-  -- v is past 4,095
-  pub save-many : 4096 ≤ v → Stop NumberOutside ≡ first (saveTests e d held v block)
-  unfolding saveTests
-  save-many h = stops _ (and-false (leb v (entriesHeld held)) (le-ltb v 4096 h))
-
-  module _ (known : v ≤ n) (low : v < 4096) {k : ℕ} (at : k ≡ nextHeld held) {b : Bool} (told : b ≡ passes d (e .start) k block) where
+  module _ (h : not x ≡ false) {k : ℕ} (at : k ≡ nextHeld held) {b : Bool} (told : b ≡ passes d (e .start) k block) where
     -- line 12 lets it go on
-    in-range : leb v (entriesHeld held) && ltb v 4096 ≡ true
-    in-range = both (le-leb v (entriesHeld held) (omega arith)) (lt-ltb v 4096 low)
+    in-range : numberFits held v ≡ true
+    in-range = sym is ∙ not-false _ h
 
     -- whether it passes at NWA
     at-next : passes d (e .start) (nextHeld held) block ≡ b
@@ -88,27 +59,26 @@ module _ (e : Setting) (d : Disc) (held : Record) (v : ℕ) (block : List ℕ) {
     -- it passes as an ICB
     pub save-passes : b ≡ true → Stop PassesAsIcb ≡ first (saveTests e d held v block)
     unfolding saveTests
-    save-passes h = goes _ in-range (stops _ (ap not (at-next ∙ h)))
+    save-passes g = goes _ in-range (stops _ (ap not (at-next ∙ g)))
 
     module _ (none-such : b ≡ false) {y : Bool} (fits : y ≡ roomToSave (e .span) held v) where
       -- there is no room
       pub save-full : not y ≡ true → Stop NoRoom ≡ first (saveTests e d held v block)
       unfolding saveTests
-      save-full h = goes _ in-range (goes _ (ap not (at-next ∙ none-such)) (stops _ (sym fits ∙ not-true _ h)))
+      save-full g = goes _ in-range (goes _ (ap not (at-next ∙ none-such)) (stops _ (sym fits ∙ not-true _ g)))
 
       -- none of the lines
       pub save-fits : not y ≡ false → Go ≡ first (saveTests e d held v block)
       unfolding saveTests
-      save-fits h = goes _ in-range (goes _ (ap not (at-next ∙ none-such)) (goes _ (sym fits ∙ not-false _ h) refl))
+      save-fits g = goes _ in-range (goes _ (ap not (at-next ∙ none-such)) (goes _ (sym fits ∙ not-false _ g) refl))
 
 -- what they tell: v is below 4,096, and NWA below L
 pub save-tells : (e : Setting) (d : Disc) (held : Record) (v : ℕ) (block : List ℕ) {u : Verdict} → u ≡ first (saveTests e d held v block) → u ≡ Go → (v < 4096) × (nextHeld held < e .span)
 unfolding saveTests roomToSave
 save-tells e d held v block f g =
     let a = passed (saveTests e d held v block) (sym f ∙ g) in
-    let low = ltb-true v 4096 (and-true (leb v (entriesHeld held)) (ltb v 4096) (a .0) .1) in
     let r = leb-true (nextHeld held + 1 + dataSectors (countAfter (entriesHeld held) v) + 1) (e .span) (a .1 .1 .0) in
-    (low, omega arith)
+    (number-low held v (a .0), omega arith)
 
 -- ---- what a save may rely on, in numbers
 
@@ -159,9 +129,3 @@ save-inside e d t held v block h q = let i : e .start + nextHeld held < length (
 pub save-write : (c : Cut) (s : ℕ) (b : List ℕ) (d : Disc) {d′ : Disc} {k n : ℕ} → k ≡ n → d′ ≡ write 1 c (s + k) b d → d′ ≡ writes 1 c (record { place = s + n; bytes = b } ∷ []) d
 unfolding writes
 save-write c s b d q e = e ∙ ap (λ (m : ℕ). write 1 c (s + m) b d) q
-
--- and the record that it hands back
-pub save-record : (held : Record) (v : ℕ) {n a k m : ℕ} → n ≡ entriesHeld held → a ≡ countAfter n v → k ≡ nextHeld held → m ≡ lastHeld held → Record.WriteOnce a (k + 1) m ≡ Record.WriteOnce (countAfter (entriesHeld held) v) (nextHeld held + 1) (lastHeld held)
-save-record held v p q f g =
-    let a = q ∙ ap (λ (i : ℕ). countAfter i v) p in
-    rw (a, f, g)

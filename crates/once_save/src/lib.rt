@@ -4,7 +4,6 @@
 use address::Span;
 use address::VirtualAddress;
 use model::Cut;
-use model::MOST_ENTRIES;
 use model::Record;
 use model::Reply;
 use model::SECTOR;
@@ -12,36 +11,14 @@ use refusal::Refusal;
 use refusal::Verdict;
 ghost use mathlib.Core.Path.{_≡_};
 ghost use mathlib.Core.List.{List};
-ghost use Prim.Native.Nat.{_≤_, ℕ, _+_, _<_};
+ghost use Prim.Native.Nat.{_≤_, ℕ};
 ghost use lib.ListN.{length};
 ghost use Rattle.refusal.specs.Tests.{first};
 ghost use Rattle.model.specs.Disc.{disc as discOf};
 ghost use Rattle.model.specs.Examine.{setting};
-ghost use Rattle.model.specs.Once.{entriesHeld, nextHeld, countAfter, roomToSave, saveTests};
+ghost use Rattle.model.specs.Once.{entriesHeld, nextHeld, saveTests};
 ghost use Rattle.vat_read.specs.File.{Lent};
 ghost use Rattle.model.specs.Lent.{lent, Saves};
-
-// N after it.
-fn count_after(n: u32, v: VirtualAddress) -> u32
-    requires { ⌜ (n ≤ 4096) × (v .0 < 4096) ⌝ }
-    ensures { λ r. ⌜ r ≡ countAfter n (v .0) ⌝ }
-{
-    if v.0 == n {
-        return n + 1;
-    }
-    n
-}
-
-// Line 16: whether a commit still fits after it. Inside the layers: lines 11 and 12 have been tested.
-fn has_room(l: u32, held: Record, v: VirtualAddress) -> bool
-    requires { ⌜ (entriesHeld held ≤ 4096) × (v .0 < 4096) ⌝ }
-    ensures { λ r. ⌜ r ≡ roomToSave l held (v .0) ⌝ }
-{
-    let entries = examine::entries_held(held);
-    let next = examine::next_held(held);
-    let data = vat_file_written::data_sectors(count_after(entries, v));
-    next.0 as u64 + 1 + data as u64 + 1 <= l as u64
-}
 
 // Lines 12, 15 and 16. Inside the layers: lines 1 to 11 have been tested.
 fn judge_save(
@@ -57,18 +34,14 @@ fn judge_save(
     requires { ⌜ entriesHeld held ≤ 4096 ⌝ }
     ensures { λ r. ⌜ ((maps : List ℕ) → r ≡ first (saveTests (setting maps (span .start) (span .length)) (discOf (now (disc .entry)) (now (marks .entry))) held (v .0) (now (block .entry)))) ⌝ }
 {
-    let entries = examine::entries_held(held);
-    if entries < v.0 {
-        return Verdict::Stop(Refusal::NumberOutside);
-    }
-    if MOST_ENTRIES <= v.0 {
+    if !once_room::is_number(held, v) {
         return Verdict::Stop(Refusal::NumberOutside);
     }
     let next = examine::next_held(held);
     if vat_read::passes(disc, marks, span.start, next, block) {
         return Verdict::Stop(Refusal::PassesAsIcb);
     }
-    if !has_room(span.length, held, v) {
+    if !once_room::has_room(span.length, held, v) {
         return Verdict::Stop(Refusal::NoRoom);
     }
     Verdict::Go
@@ -103,17 +76,11 @@ pub fn save_virtual(
         return Reply::Refused(why);
     }
     let next = examine::next_held(held);
-    let entries = count_after(examine::entries_held(held), v);
-    let last = examine::last_held(held);
     let at = address::sector_of(span.start, next);
     disc_writes::write_sector(disc, marks, at, block, 1, cut);
     if disc_writes::is_struck(cut, 1) {
         return Reply::Cut;
     }
     table[v.0 as usize] = next.0;
-    Reply::Done(Record::WriteOnce {
-        entries,
-        next: next.0 + 1,
-        last: last.0,
-    })
+    Reply::Done(once_room::saved(held, v))
 }

@@ -7,7 +7,8 @@ use Rattle.model.specs.Examine.{Setting, setting, lentTable}
 use Rattle.model.specs.Once.{onceVerdict, commitTests}
 use Rattle.model.proofs.Plans.{refused}
 use Rattle.examine.proofs.Calls.{table-long}
-use Rattle.once_commit.proofs.Commits.{count-few, commit-stops, commit-few, commit-full, commit-fits, Commits, commits, commit-refused, commit-start, commit-cut, commit-done}
+use Rattle.once_room.proofs.Laws.{data-few}
+use Rattle.once_commit.proofs.Commits.{commit-stops, commit-few, commit-full, commit-fits, Commits, commits, commit-refused, commit-start, commit-cut, commit-done}
 use borrow.Author.Needs.{needs}
 use Rattle.once_commit.proofs.commit.Statement.{statement}
 use Rattle.once_commit.proofs.commit.Tie as tie
@@ -79,14 +80,11 @@ write-vat-requires c κs =
 entries-held-requires : tie.Need-entries-held-requires
 entries-held-requires c κs = search needs
 
-icb-block-requires : tie.Need-icb-block-requires
-icb-block-requires c κs = let h = safe (c .before .before .before .before .before .before .before .before) in (h .few, h .low)
-
 data-sectors-requires : tie.Need-data-sectors-requires
-data-sectors-requires c κs = let h = safe (c .before .before .before .before .before .before .before .before .before) in omega (arith, c .before .entries-held .ensures, h .few)
+data-sectors-requires c κs = let h = safe (c .before .before .before .before .before .before .before .before) in omega (arith, c .entries-held .ensures, h .few)
 
 add-is-struck : tie.Need-add-is-struck
-add-is-struck c = let h = safe (c .before .before .before .before .before .before .before .before .before .before) in omega (arith, count-few _ _ _ (c .before .before .entries-held .ensures) (c .data-sectors .ensures) (h .few))
+add-is-struck c = let h = safe (c .before .before .before .before .before .before .before .before .before) in omega (arith, data-few _ _ _ (c .before .entries-held .ensures) (c .data-sectors .ensures) (h .few))
 
 is-struck-requires : tie.Need-is-struck-requires
 is-struck-requires c κs = search needs
@@ -99,14 +97,14 @@ same-length-6 c = search needs
 
 returns-3 : tie.Need-returns-3
 returns-3 c =
-    let z = c .before .before .before .before .before .before .before .before .before .before .before .before .before .before .before .before .before .before .before .before .before .before .before .before .before in
-    commit-cut (settingOf z) (discOf z) _ _ (fits (c .before .before .before .before .before .before .before .before .before .before .before .before)) refl _ _ _ _ _ (c .before .before .before .before .entries-held .ensures) (c .before .before .data-sectors .ensures)
+    let z = c .before .before .before .before .before .before .before .before .before .before .before .before .before .before .before .before .before .before .before .before .before .before .before .before in
+    commit-cut (settingOf z) (discOf z) _ _ (fits (c .before .before .before .before .before .before .before .before .before .before .before)) refl _ _ _ _ _ (c .before .before .before .entries-held .ensures) (c .before .before .data-sectors .ensures)
     (c .before .is-struck .ensures)
-    (commit-start _ _ _ _ (spanned (c .before .before .before .before .before .before .before .before .before .before .before .before .before .before .before) .0) (c .before .before .before .before .before .before .before .before .before .write-vat .ensures))
+    (commit-start _ _ _ _ (spanned (c .before .before .before .before .before .before .before .before .before .before .before .before .before .before) .0) (c .before .before .before .before .before .before .before .before .write-vat .ensures))
     (c .if2 .taken)
 
-add-t29 : tie.Need-add-t29
-add-t29 c = let h = safe (c .before .before .before .before .before .before .before .before .before .before .before .before .before) in omega (arith, c .before .before .before .before .icb-block .ensures, h .inside, h .most)
+committed-requires : tie.Need-committed-requires
+committed-requires c κs = let h = safe (c .before .before .before .before .before .before .before .before .before .before .before) in (h .few, h .low)
 
 same-length-7 : tie.Need-same-length-7
 same-length-7 c = search needs
@@ -116,12 +114,11 @@ same-length-8 c = search needs
 
 returns-4 : tie.Need-returns-4
 returns-4 c =
-    let z = c .before .before .before .before .before .before .before .before .before .before .before .before .before .before .before .before .before .before .before .before .before .before .before .before .before .before in
-    commit-done (settingOf z) (discOf z) _ _ (fits (c .before .before .before .before .before .before .before .before .before .before .before .before .before)) refl _ _ _ _ _ (c .before .before .before .before .before .entries-held .ensures) (c .before .before .before .data-sectors .ensures)
+    let z = c .before .before .before .before .before .before .before .before .before .before .before .before .before .before .before .before .before .before .before .before .before .before .before .before .before in
+    commit-done (settingOf z) (discOf z) _ _ (fits (c .before .before .before .before .before .before .before .before .before .before .before .before)) refl _ _ _ _ _ (c .before .before .before .before .entries-held .ensures) (c .before .before .before .data-sectors .ensures)
     (c .before .before .is-struck .ensures)
-    (commit-start _ _ _ _ (spanned (c .before .before .before .before .before .before .before .before .before .before .before .before .before .before .before .before) .0) (c .before .before .before .before .before .before .before .before .before .before .write-vat .ensures))
-    _
-    (c .before .before .before .before .icb-block .ensures)
+    (commit-start _ _ _ _ (spanned (c .before .before .before .before .before .before .before .before .before .before .before .before .before .before .before) .0) (c .before .before .before .before .before .before .before .before .before .write-vat .ensures))
+    (c .committed .ensures)
     (c .before .if2 .left)
 
 pub commit-spec : {M : Type 1} → statement M
@@ -141,14 +138,13 @@ commit-spec =
     returns-2
     write-vat-requires
     entries-held-requires
-    icb-block-requires
     data-sectors-requires
     add-is-struck
     is-struck-requires
     same-length-5
     same-length-6
     returns-3
-    add-t29
+    committed-requires
     same-length-7
     same-length-8
     returns-4)

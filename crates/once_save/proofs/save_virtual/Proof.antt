@@ -6,15 +6,14 @@ use native.Mathlib.Omega.{arith}
 use borrow.Author.Needs.{needs}
 use lib.ListN.{set}
 use Rattle.refusal.specs.Tests.{first}
-use Rattle.model.specs.declared.Record.{Record}
 use Rattle.model.specs.Disc.{Disc, disc}
 use Rattle.model.specs.Examine.{Setting, setting}
-use Rattle.model.specs.Once.{entriesHeld, nextHeld, lastHeld, countAfter, saveLent, saveTests, savePlan}
+use Rattle.model.specs.Once.{nextHeld, savedRecord, saveLent, saveTests, savePlan}
 use Rattle.model.specs.Plan.{Plan, carry}
 use Rattle.model.proofs.Plans.{refused, cut-short, carried}
 use Rattle.disc_writes.proofs.Laws.{write-there}
 use Rattle.examine.proofs.Calls.{Common, going, stopped, stopped-own, goes-on}
-use Rattle.once_save.proofs.Saving.{save-lends, save-lent, save-ground, Saves, saves, save-inside, save-write, save-record}
+use Rattle.once_save.proofs.Saving.{save-lends, save-lent, save-ground, Saves, saves, save-inside, save-write}
 use Rattle.once_save.proofs.save_virtual.Statement.{statement}
 use Rattle.once_save.proofs.save_virtual.Tie as tie
 
@@ -61,7 +60,7 @@ planned z =
     carry
     (record { place = z .args .s + nextHeld (z .args .held); bytes = z .args .block .now } ∷ [])
     (set (z .args .table .now) (z .args .v) (nextHeld (z .args .held)))
-    (Record.WriteOnce (countAfter (entriesHeld (z .args .held)) (z .args .v)) (nextHeld (z .args .held) + 1) (lastHeld (z .args .held)))
+    (savedRecord (z .args .held) (z .args .v))
 
 abbrev Planning : tie.Start → Type 0
 Planning z = savePlan (settingOf z) (discOf z) (z .args .table .now) (z .args .held) (z .args .v) (z .args .block .now) ≡ planned z
@@ -130,29 +129,20 @@ enum-told-2 c = search needs
 next-held-requires : tie.Need-next-held-requires
 next-held-requires c κs = search needs
 
-entries-held-requires : tie.Need-entries-held-requires
-entries-held-requires c κs = search needs
-
-count-after-requires : tie.Need-count-after-requires
-count-after-requires c κs = let h = safe (c .before .before) in (omega (arith, h .entries, c .entries-held .ensures), h .low)
-
-last-held-requires : tie.Need-last-held-requires
-last-held-requires c κs = search needs
-
 sector-of-requires : tie.Need-sector-of-requires
 sector-of-requires c κs =
-    let h = safe (c .before .before .before .before) in
-    omega (arith, h .inside, h .most, c .before .before .before .next-held .ensures, spanned (c .before .before .before .before .before .before .before .before .before .before) .0)
+    let h = safe (c .before) in
+    omega (arith, h .inside, h .most, c .next-held .ensures, spanned (c .before .before .before .before .before .before .before) .0)
 
 -- the sector that is written
-placed : (c : tie.After-sector-of) → c .sector-of .result .0 ≡ c .before .before .before .before .before .before .before .before .before .before .before .before .before .before .before .before .before .before .before .before .before .before .before .before .args .s + c .before .before .before .before .next-held .result .0
-placed c = c .sector-of .ensures ∙ ap (λ (s : ℕ). s + c .before .before .before .before .next-held .result .0) (spanned (c .before .before .before .before .before .before .before .before .before .before .before) .0)
+placed : (c : tie.After-sector-of) → c .sector-of .result .0 ≡ c .before .before .before .before .before .before .before .before .before .before .before .before .before .before .before .before .before .before .before .before .before .args .s + c .before .next-held .result .0
+placed c = c .sector-of .ensures ∙ ap (λ (s : ℕ). s + c .before .next-held .result .0) (spanned (c .before .before .before .before .before .before .before .before) .0)
 
 write-sector-requires : tie.Need-write-sector-requires
 write-sector-requires c κs =
-    let z = c .before .before .before .before .before .before .before .before .before .before .before .before .before .before .before .before .before .before .before .before .before .before .before .before .before .before in
-    let h = safe (c .before .before .before .before .before .before .before) in
-    let i = save-inside (settingOf z) (discOf z) _ _ _ _ h (c .before .before .before .before .before .before .next-held .ensures) in
+    let z = c .before .before .before .before .before .before .before .before .before .before .before .before .before .before .before .before .before .before .before .before .before .before .before in
+    let h = safe (c .before .before .before .before) in
+    let i = save-inside (settingOf z) (discOf z) _ _ _ _ h (c .before .before .before .next-held .ensures) in
     (omega (arith, i, placed (c .before .before)), (h .shape, h .whole))
 
 is-struck-requires : tie.Need-is-struck-requires
@@ -169,20 +159,20 @@ same-length-9 c = search needs
 
 returns-3 : tie.Need-returns-3
 returns-3 c =
-    cut-short _ _ _ _ (plan (c .before .before .before .before .before .before .before .before .before .before .before .before .before .before)) (sym (c .before .is-struck .ensures) ∙ c .if1 .taken)
-    (save-write _ _ _ _ (c .before .before .before .before .before .before .before .before .before .before .before .before .before .next-held .ensures) (write-there _ _ _ _ _ (placed (c .before .before .before .before .before .before .before .before .before)) (c .before .before .before .before .before .before .write-sector .ensures)))
+    cut-short _ _ _ _ (plan (c .before .before .before .before .before .before .before .before .before .before .before)) (sym (c .before .is-struck .ensures) ∙ c .if1 .taken)
+    (save-write _ _ _ _ (c .before .before .before .before .before .before .before .before .before .before .next-held .ensures) (write-there _ _ _ _ _ (placed (c .before .before .before .before .before .before .before .before .before)) (c .before .before .before .before .before .before .write-sector .ensures)))
 
 cast-table : tie.Need-cast-table
 cast-table c = search needs
 
 mul-table : tie.Need-mul-table
-mul-table c = let low = safe (c .before .before .before .before .before .before .before .before .before .before .before .before .before .before .before) .low in omega (arith, low)
+mul-table c = let low = safe (c .before .before .before .before .before .before .before .before .before .before .before .before) .low in omega (arith, low)
 
 slice-write-table : tie.Need-slice-write-table
-slice-write-table c = safe (c .before .before .before .before .before .before .before .before .before .before .before .before .before .before .before) .entry
+slice-write-table c = safe (c .before .before .before .before .before .before .before .before .before .before .before .before) .entry
 
-add-t35 : tie.Need-add-t35
-add-t35 c = let small = safe (c .before .before .before .before .before .before .before .before .before .before .before .before .before .before .before .before) .small in omega (arith, small, c .before .before .before .before .before .before .before .before .before .before .before .before .before .before .before .next-held .ensures)
+saved-requires : tie.Need-saved-requires
+saved-requires c κs = let h = safe (c .before .before .before .before .before .before .before .before .before .before .before .before) in (h .entries, omega (arith, h .small))
 
 same-length-10 : tie.Need-same-length-10
 same-length-10 c = search needs
@@ -195,11 +185,11 @@ same-length-12 c = search needs
 
 returns-4 : tie.Need-returns-4
 returns-4 c =
-    let z = c .before .before .before .before .before .before .before .before .before .before .before .before .before .before .before .before .before .before .before .before .before .before .before .before .before .before .before .before .before .before .before .before .before .before .before in
-    carried _ _ _ _ (plan (c .before .before .before .before .before .before .before .before .before .before .before .before .before .before .before .before)) (sym (c .before .before .before .is-struck .ensures) ∙ c .before .before .if1 .left)
-    (save-write _ _ _ _ (c .before .before .before .before .before .before .before .before .before .before .before .before .before .before .before .next-held .ensures) (write-there _ _ _ _ _ (placed (c .before .before .before .before .before .before .before .before .before .before .before)) (c .before .before .before .before .before .before .before .before .write-sector .ensures)))
-    (save-record (z .args .held) (z .args .v) (c .before .before .before .before .before .before .before .before .before .before .before .before .before .before .entries-held .ensures) (c .before .before .before .before .before .before .before .before .before .before .before .before .before .count-after .ensures) (c .before .before .before .before .before .before .before .before .before .before .before .before .before .before .before .next-held .ensures) (c .before .before .before .before .before .before .before .before .before .before .before .before .last-held .ensures))
-    (ap (set (z .args .table .now) (z .args .v)) (c .before .before .before .before .before .before .before .before .before .before .before .before .before .before .before .next-held .ensures))
+    let z = c .before .before .before .before .before .before .before .before .before .before .before .before .before .before .before .before .before .before .before .before .before .before .before .before .before .before .before .before .before .before .before .before in
+    carried _ _ _ _ (plan (c .before .before .before .before .before .before .before .before .before .before .before .before .before)) (sym (c .before .before .before .is-struck .ensures) ∙ c .before .before .if1 .left)
+    (save-write _ _ _ _ (c .before .before .before .before .before .before .before .before .before .before .before .before .next-held .ensures) (write-there _ _ _ _ _ (placed (c .before .before .before .before .before .before .before .before .before .before .before)) (c .before .before .before .before .before .before .before .before .write-sector .ensures)))
+    (c .saved .ensures)
+    (ap (set (z .args .table .now) (z .args .v)) (c .before .before .before .before .before .before .before .before .before .before .before .before .next-held .ensures))
 
 pub save-virtual-spec : {M : Type 1} → statement M
 save-virtual-spec =
@@ -221,9 +211,6 @@ save-virtual-spec =
     returns-2
     enum-told-2
     next-held-requires
-    entries-held-requires
-    count-after-requires
-    last-held-requires
     sector-of-requires
     write-sector-requires
     is-struck-requires
@@ -234,7 +221,7 @@ save-virtual-spec =
     cast-table
     mul-table
     slice-write-table
-    add-t35
+    saved-requires
     same-length-10
     same-length-11
     same-length-12

@@ -1,8 +1,8 @@
--- `once_commit::has_commit_room` meets its contract. Assumes nothing.
-use Rattle.once_commit.proofs.Commits.{room-same}
+-- `once_room::has_commit_room` meets its contract. Assumes nothing.
+use Rattle.once_room.proofs.Laws.{room-same}
 use borrow.Author.Needs.{needs}
-use Rattle.once_commit.proofs.has_commit_room.Statement.{statement}
-use Rattle.once_commit.proofs.has_commit_room.Tie as tie
+use Rattle.once_room.proofs.has_commit_room.Statement.{statement}
+use Rattle.once_room.proofs.has_commit_room.Tie as tie
 
 next-held-requires : tie.Need-next-held-requires
 next-held-requires c κs = search needs

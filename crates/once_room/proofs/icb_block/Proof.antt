@@ -1,9 +1,9 @@
--- `once_commit::icb_block` meets its contract. Assumes nothing.
+-- `once_room::icb_block` meets its contract. Assumes nothing.
 use native.Mathlib.Omega.{arith}
-use Rattle.once_commit.proofs.Commits.{count-few, icb-same}
+use Rattle.once_room.proofs.Laws.{data-few, icb-same}
 use borrow.Author.Needs.{needs}
-use Rattle.once_commit.proofs.icb_block.Statement.{statement}
-use Rattle.once_commit.proofs.icb_block.Tie as tie
+use Rattle.once_room.proofs.icb_block.Statement.{statement}
+use Rattle.once_room.proofs.icb_block.Tie as tie
 
 next-held-requires : tie.Need-next-held-requires
 next-held-requires c κs = search needs
@@ -17,7 +17,7 @@ data-sectors-requires c κs = search needs
 add-block : tie.Need-add-block
 add-block c =
     let z = c .before .before .before .before in
-    omega (arith, c .before .before .before .next-held .ensures, z .pre .1, count-few _ _ _ (c .before .before .entries-held .ensures) (c .before .data-sectors .ensures) (z .pre .0))
+    omega (arith, c .before .before .before .next-held .ensures, z .pre .1, data-few _ _ _ (c .before .before .entries-held .ensures) (c .before .data-sectors .ensures) (z .pre .0))
 
 returns : tie.Need-returns
 returns c = icb-same _ _ _ _ (c .before .before .before .next-held .ensures) (c .before .before .entries-held .ensures) (c .before .data-sectors .ensures)

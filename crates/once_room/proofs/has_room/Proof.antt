@@ -1,10 +1,11 @@
--- `once_save::has_room` meets its contract. Assumes nothing.
+-- `once_room::has_room` meets its contract. Assumes nothing.
 use Prim.Native.Nat.{_≤_}
 use native.Mathlib.Omega.{arith}
 use borrow.Author.Needs.{needs}
-use Rattle.once_save.proofs.Saving.{count-few, room}
-use Rattle.once_save.proofs.has_room.Statement.{statement}
-use Rattle.once_save.proofs.has_room.Tie as tie
+use Rattle.model.proofs.OnceSave.{saved-few}
+use Rattle.once_room.proofs.Laws.{room-after}
+use Rattle.once_room.proofs.has_room.Statement.{statement}
+use Rattle.once_room.proofs.has_room.Tie as tie
 
 entries-held-requires : tie.Need-entries-held-requires
 entries-held-requires c κs = search needs
@@ -20,7 +21,7 @@ data-sectors-requires c κs =
     let n = c .before .before .entries-held in
     let z = c .before .before .before in
     let few : n .result ≤ 4096 = omega (arith, n .ensures, z .pre .0) in
-    omega (arith, c .count-after .ensures, count-few (n .result) (z .args .v .0) few (z .pre .1))
+    omega (arith, c .count-after .ensures, saved-few (n .result) (z .args .v .0) few (z .pre .1))
 
 cast-result : tie.Need-cast-result
 cast-result c = search needs
@@ -38,7 +39,7 @@ add-result-3 : tie.Need-add-result-3
 add-result-3 c = search needs
 
 returns : tie.Need-returns
-returns c = room _ _ _ (c .before .before .before .before .entries-held .ensures) (c .before .before .before .next-held .ensures) (c .before .before .count-after .ensures) (c .before .data-sectors .ensures)
+returns c = room-after _ _ _ (c .before .before .before .before .entries-held .ensures) (c .before .before .before .next-held .ensures) (c .before .before .count-after .ensures) (c .before .data-sectors .ensures)
 
 pub has-room-spec : {M : Type 1} → statement M
 has-room-spec =
