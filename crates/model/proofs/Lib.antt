@@ -18,6 +18,7 @@ pub mod OnceCommit
 pub mod OnceDemand
 pub mod OnceRises
 pub mod OnceFits
+pub mod Foretold
 pub mod Wait
 pub mod SparingLists
 pub mod SparingEntries
@@ -52,5 +53,6 @@ pub mod RunSteps
 pub mod Run
 pub mod BlankMet
 pub mod WaitReached
+pub mod Fitting
 pub mod ReadBack
 pub mod ReadBackMet

@@ -1,5 +1,5 @@
 -- Lines 1 to 7 and 11 of a call on a write-once disc taken apart, and that a save or a commit that is carried out uncut leaves them so, from any disc,
--- table and record. Assumes nothing.
+-- table and record (02, slip 9). Assumes nothing.
 use Prim.Native.Nat.{ℕ, _+_, _*_, _≤_, _<_}
 use mathlib.Core.Bool.{true, false}
 use mathlib.Core.Path.{_≡_, refl, sym, ap, _∙_}

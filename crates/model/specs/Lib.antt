@@ -20,4 +20,5 @@ pub mod Consequences
 pub mod Run
 pub mod Blank
 pub mod Wait
+pub mod Forecast
 pub mod ReadBack

@@ -177,8 +177,8 @@ commitPlan e d t held =
     t
     (committedRecord held))
 
--- ---- fullness
+-- ---- fullness, and the forecast of a list of saves and commits (Forecast.antt)
 
--- line 11 is the last that it tests
+-- line 11 is the last that they test
 unfoldable pub heldVerdict : Setting → Disc → List ℕ → Record → Verdict
 heldVerdict e d t held = onceVerdict e d t (lentTable t) held []

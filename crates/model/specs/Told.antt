@@ -7,6 +7,7 @@ use Rattle.model.specs.declared.Record.{Record}
 use Rattle.model.specs.declared.Reply.{Reply}
 use Rattle.model.specs.declared.Opened.{Opened}
 use Rattle.model.specs.declared.Given.{Given}
+use Rattle.model.specs.declared.Forecast.{Forecast}
 
 -- the values of a record: kind (0 write-once, 1 rewritable), N or R, NWA or the sequence, and the last ICB (0 on a rewritable disc)
 abbrev pub recordValues : Record → List ℕ
@@ -39,3 +40,15 @@ openedValues (Opened.Refused why) = []
 abbrev pub givenNumber : Given → ℕ
 givenNumber Given.Block = 0
 givenNumber (Given.Refused why) = numberOf why
+
+-- the number of a forecast: 0 too where an item would be refused
+abbrev pub forecastNumber : Forecast → ℕ
+forecastNumber (Forecast.Ends next n) = 0
+forecastNumber (Forecast.Stops i why) = 0
+forecastNumber (Forecast.Refused why) = numberOf why
+
+-- and its values: 0, NWA and N; or the number of the refused item, its index and 0
+abbrev pub forecastValues : Forecast → List ℕ
+forecastValues (Forecast.Ends next n) = 0 ∷ next ∷ n ∷ []
+forecastValues (Forecast.Stops i why) = numberOf why ∷ i ∷ 0 ∷ []
+forecastValues (Forecast.Refused why) = []

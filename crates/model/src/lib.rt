@@ -83,6 +83,14 @@ pub enum Given {
     Refused(Refusal),
 }
 
+// What the forecast of a list of saves and commits answers (02, slip 9): NWA and N at its end; or the index from 0 of
+// the first item that would be refused, and why; or why the forecast is turned down.
+pub enum Forecast {
+    Ends { next: u32, entries: u32 },
+    Stops { index: u32, why: Refusal },
+    Refused(Refusal),
+}
+
 // Whether the packet at m is a whole packet of the disc, outside the partition.
 pub fn is_outside(sectors: usize, s: u32, l: u32, m: PhysicalAddress) -> bool
     ensures { λ r. ⌜ ((tables : List ℕ) (size : ℕ) → r ≡ outside (groundOf s l sectors tables size) (m .0)) ⌝ }
