@@ -1,23 +1,26 @@
 -- The calls of both kinds are those of the kind that the map list tells (document 01, "Calls and their sector writes"). Assumes nothing.
-use Prim.Native.Nat.{ℕ}
+use Prim.Native.Nat.{ℕ, _+_}
 use mathlib.Core.Bool.{true, false}
 use mathlib.Core.Path.{_≡_, refl, sym, ap, _∙_}
-use mathlib.Core.List.{List}
+use mathlib.Core.List.{List, [], _∷_}
 use Rattle.refusal.specs.declared.Verdict.{Verdict}
 use Rattle.refusal.specs.declared.Verdict.the-variants.{Go, Stop}
 use Rattle.refusal.specs.Number.{verdictNumber}
-use Rattle.refusal.specs.Tests.{need}
+use Rattle.refusal.specs.Tests.{need, first}
 use Rattle.maps.specs.declared.Kind.the-variants.{WriteOnce, Rewritable}
 use Rattle.maps.specs.declared.MapsRead.{MapsRead}
 use Rattle.maps.specs.Kinds.{readMaps}
 use Rattle.model.specs.declared.Record.{Record}
 use Rattle.model.specs.declared.Opened.{Opened}
 use Rattle.model.specs.declared.Given.{Given}
-use Rattle.model.specs.Told.{openedNumber, givenNumber}
+use Rattle.model.specs.declared.Forecast.{Forecast}
+use Rattle.model.specs.Told.{openedNumber, givenNumber, forecastNumber}
 use Rattle.model.specs.Lent.{Opens, Reads, Makes}
 use Rattle.model.specs.Disc.{Disc}
 use Rattle.model.specs.Examine.{Setting, volume, isOnce, writeOnce}
 use Rattle.model.specs.Once.{heldVerdict}
+use Rattle.model.specs.Forecast.{itemTests, itemRecord, itemBy, forecastFrom, forecastBy, forecast, ForecastTrue, Forecasts}
+use Rattle.model.proofs.Foretold.{forecast-true}
 use Rattle.model.specs.Rewrite.{rewritableVerdict}
 use Rattle.model.specs.Both.{openVerdict, recordOn, numbersOn, passedOn, openedBy, opening, openedTable, blockSector, readOnceTests, readRewritableTests, readVerdict, givenBy, reading, readBytes, makeTests, makeVerdict, makeWrites, made}
 use Rattle.once_open.specs.declared.Measured.{Measured}
@@ -43,6 +46,22 @@ measured-number : (v : Verdict) (n : ℕ) → measuredNumber (measuredBy v n) �
 unfolding measuredBy
 measured-number Go n = refl
 measured-number (Stop why) n = refl
+
+-- the number of a forecast is 0 where an item is refused, too
+item-number : (v : Verdict) (i : ℕ) (f : Forecast) → forecastNumber f ≡ 0 → forecastNumber (itemBy v i f) ≡ 0
+unfolding itemBy
+item-number Go i f h = h
+item-number (Stop why) i f h = refl
+
+items-number : (e : Setting) (i : ℕ) (held : Record) (xs : List ℕ) → forecastNumber (forecastFrom e i held xs) ≡ 0
+unfolding forecastFrom
+items-number e i held [] = refl
+items-number e i held (x ∷ xs) = item-number (first (itemTests e held x)) i _ (items-number e (i + 1) (itemRecord held x) xs)
+
+forecast-number : (v : Verdict) (f : Forecast) → forecastNumber f ≡ 0 → forecastNumber (forecastBy v f) ≡ verdictNumber v
+unfolding forecastBy
+forecast-number Go f h = h
+forecast-number (Stop why) f h = refl
 
 -- ---- which kind it is; r is what reading the map list gave
 
@@ -139,3 +158,13 @@ module _ (e : Setting) (d : Disc) where
   unfolding fullnessOf
   measured-so {t} {held} h =
       record { answer = h; number = ap measuredNumber h ∙ measured-number (heldVerdict e d t held) _ }
+
+  -- of a forecast
+  pub forecast-so : {t xs : List ℕ} {held : Record} {r : Forecast} → r ≡ forecast e d t held xs → Forecasts (record { setting = e; disc = d }) t held xs r
+  unfolding forecast ForecastTrue
+  forecast-so {t} {xs} {held} h =
+      record {
+        answer = h;
+        number = ap forecastNumber h ∙ forecast-number (heldVerdict e d t held) _ (items-number e 0 held xs);
+        foretells = λ blocks cuts long. rw h (forecast-true e (record { disc = d; table = t; held = held }) xs blocks cuts long);
+      }

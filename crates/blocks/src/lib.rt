@@ -4,6 +4,7 @@
 // too. No call has a requires.
 use maps::Kind;
 use model::Cut;
+use model::Forecast;
 use model::Given;
 use model::Opened;
 use model::Record;
@@ -15,6 +16,7 @@ ghost use Prim.Native.Nat.{ℕ};
 ghost use Rattle.model.specs.Disc.{disc as discOf};
 ghost use Rattle.model.specs.Examine.{setting, writeOnce};
 ghost use Rattle.model.specs.Lent.{lent, Opens, Reads, Makes, Saves, Frees, Commits, SavesBlock, SavesPacket, Spares};
+ghost use Rattle.model.specs.Forecast.{Forecasts};
 ghost use Rattle.once_open.specs.Calls.{Measures};
 
 // The bytes of a rewritable volume's map list.
@@ -164,6 +166,23 @@ pub fn fullness(
         (now (table .entry)) held r ⌝ }
 {
     once_open::fullness(disc, marks, maps, s, l, table, held)
+}
+
+// What a list of saves and commits would come to.
+pub fn forecast(
+    disc: &[u8],
+    marks: &[u8],
+    maps: &[u8],
+    s: u32,
+    l: u32,
+    table: &[u32],
+    held: Record,
+    items: &[u32],
+) -> Forecast
+    ensures { λ r. ⌜ Forecasts (lent (now (disc .entry)) (now (marks .entry)) (now (maps .entry)) s l)
+        (now (table .entry)) held (now (items .entry)) r ⌝ }
+{
+    once_forecast::forecast(disc, marks, maps, s, l, table, held, items)
 }
 
 // ---- rewritable discs

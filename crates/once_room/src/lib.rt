@@ -1,5 +1,5 @@
 // What a save and a commit take on a write-once disc (document 01, "Calls and their sector writes"): line 12 of a save,
-// line 16 of both, and the record after each. The calls rely on it.
+// line 16 of both, and the record after each. The calls rely on it, and so does the forecast of a list of them.
 // All functions here are inside the layers: where one has a `requires`, the callers have tested it.
 use address::LogicalAddress;
 use address::VirtualAddress;
