@@ -20,11 +20,12 @@ SHARED = "crates/model/src/lib.rt"
 ANSWERS = "crates/call_numbers/src/lib.rt"
 LISTS = "crates/call_lists/src/lib.rt"
 CALLS = "crates/list_step/src/lib.rt"
+ITEMS = "crates/once_forecast/src/lib.rt"
 HEADER = "include/tuormik.h"
 DECLARED = "rust/src/ffi.rs"
 RUST_REFUSALS = "rust/src/refusal.rs"
 PACKAGE = "rust/Cargo.toml"
-FILES = (SOURCE, REFUSALS, SHARED, ANSWERS, LISTS, CALLS, HEADER, DECLARED, RUST_REFUSALS, PACKAGE)
+FILES = (SOURCE, REFUSALS, SHARED, ANSWERS, LISTS, CALLS, ITEMS, HEADER, DECLARED, RUST_REFUSALS, PACKAGE)
 
 # constants of a source, and what they are called in the header
 CONSTANTS = {
@@ -44,7 +45,9 @@ CONSTANTS = {
         "NEXT_AT": "RECORD_NEXT",
         "LAST_AT": "RECORD_LAST",
         "PASSED_AT": "RECORD_PASSED",
+        "FORECAST": "FORECAST_LENGTH",
     },
+    ITEMS: {"COMMIT": "ITEM_COMMIT"},
     LISTS: {"VOLUME": "MAPS_RESULT_LENGTH"},
     CALLS: {
         "SAVE_VIRTUAL": "CALL_SAVE_VIRTUAL",
@@ -245,17 +248,17 @@ def constants_of_source(files):
     """Name in the header to number."""
     numbers = {}
     for path, names in CONSTANTS.items():
-        found = dict(re.findall(r"^(?:pub )?const (\w+): \w+ = (\d+);$", files[path], flags=re.M))
+        found = dict(re.findall(r"^(?:pub )?const (\w+): \w+ = (0x[0-9a-f]+|\d+);$", files[path], flags=re.M))
         for own, name in names.items():
             if own not in found:
                 raise Wrong("%s: no constant %s" % (path, own))
-            numbers[name] = int(found[own])
+            numbers[name] = int(found[own], 0)
     return numbers
 
 
 def constants_of_header(text, names):
-    found = dict(re.findall(r"^#define TUORMIK_(\w+) (\d+)u?(?: |$)", text, flags=re.M))
-    return {name: int(number) for name, number in found.items() if name in names}
+    found = dict(re.findall(r"^#define TUORMIK_(\w+) (0x[0-9a-f]+|\d+)u?(?: |$)", text, flags=re.M))
+    return {name: int(number, 0) for name, number in found.items() if name in names}
 
 
 def version_of_header(text):
@@ -325,6 +328,8 @@ SLIPS = [
     (HEADER, "uint32_t tuormik_commit(", "uint32_t tuormik_committed("),
     (HEADER, "uint32_t cut_at, uint32_t cut_effect);", "uint32_t cut_effect, uint32_t cut_at);"),
     (HEADER, "uint32_t cut_at, uint32_t cut_effect);", "uint32_t cut_at);"),
+    (HEADER, "const uint32_t *items, size_t items_length", "uint32_t *items, size_t items_length"),
+    (HEADER, "const uint32_t *items, size_t items_length", "const uint32_t *items, uint32_t items_length"),
     (HEADER, "uint32_t tuormik_look_up(", "uint32_t tuormik_more(uint32_t v);\nuint32_t tuormik_look_up("),
     (HEADER, "uint32_t tuormik_look_up(", "int tuormik_more(int (*f)(int));\nuint32_t tuormik_look_up("),
     (HEADER, "uint16_t tuormik_crc(", "uint32_t tuormik_crc("),
@@ -352,6 +357,7 @@ SLIPS = [
     (DECLARED, "        s: u32,\n        l: u32,", "        l: u32,\n        s: u32,"),
     (DECLARED, "        table_length: usize,\n", ""),
     (DECLARED, "partition: u16", "partition: u32"),
+    (DECLARED, "items: *const u32", "items: *mut u32"),
     (DECLARED, "pub fn tuormik_make(", "pub fn tuormik_made("),
     (DECLARED, ") -> u32;", ") -> u64;"),
     (DECLARED, ") -> u16;", ") -> u32;"),
@@ -371,6 +377,8 @@ SLIPS = [
     (REFUSALS, "Refusal::NoRoom => 16", "Refusal::NoRoom => 17"),
     (REFUSALS, "    NoRoom,\n", ""),
     (SHARED, "const CUT: u32 = 255;", "const CUT: u32 = 254;"),
+    (ITEMS, "const COMMIT: u32 = 0x80000000;", "const COMMIT: u32 = 0x80000001;"),
+    (HEADER, "#define TUORMIK_FORECAST_LENGTH 3u", "#define TUORMIK_FORECAST_LENGTH 2u"),
     (CALLS, "const SAVE_PACKET: u32 = 4;", "const SAVE_PACKET: u32 = 5;"),
     (RUST_REFUSALS, "    OneTable,\n", "    OneSparingTable,\n"),
     (RUST_REFUSALS, "    OneTable,\n", ""),

@@ -286,6 +286,31 @@ uint32_t tuormik_fullness(const uint8_t *disc, size_t disc_length,
                           const uint32_t *record, size_t record_length,
                           uint32_t *result, size_t result_length);
 
+/* An item of a list that is to be forecast: below this number it is a save of that virtual block; this number, or any above it, is a
+   commit. */
+#define TUORMIK_ITEM_COMMIT 0x80000000u
+
+#define TUORMIK_FORECAST_LENGTH 3u
+
+/*
+ * Tells what a list of saves and commits would come to on a write-once disc, without carrying it out: an item below TUORMIK_ITEM_COMMIT
+ * is tuormik_save_virtual of that number, any other is tuormik_commit. The list has any length; it may be empty.
+ * Leaves: in result, whose length is 3: 0, and NWA and N after the last item; or, where an item would be refused, the number of its refusal
+ * (12 or 16), the index of the first such item, counted from 0, and 0. The call answers 0 in both cases. The disc is only read.
+ * Refuses: 1 to 7, 11; the first item would be refused by the same number.
+ * It is the forecast of a run that is not cut and in which no save is refused by 15: whatever the blocks of 2,048 bytes, carrying the items
+ * out one after the other from the same disc, table and record, up to a first refusal, then comes to exactly this. 15 goes by the bytes of
+ * the blocks, which are not lent here, and is not foreseen; a power failure takes sectors that the forecast does not know.
+ */
+uint32_t tuormik_forecast(const uint8_t *disc, size_t disc_length,
+                          const uint8_t *marks, size_t marks_length,
+                          const uint8_t *maps, size_t maps_length,
+                          uint32_t s, uint32_t l,
+                          const uint32_t *table, size_t table_length,
+                          const uint32_t *record, size_t record_length,
+                          const uint32_t *items, size_t items_length,
+                          uint32_t *result, size_t result_length);
+
 /* ---- rewritable */
 
 /*

@@ -1,5 +1,6 @@
 /*
- * A write-once disc in memory: made, saved to, committed; then the power is cut in the second commit, and the disc is opened again.
+ * A write-once disc in memory: made, asked whether a day's blocks will fit, saved to, committed; then the power is cut in the second
+ * commit, and the disc is opened again.
  *
  *     cc -std=c99 -Iinclude examples/c/disc.c target/staticlib/libcapi.a -o disc && ./disc
  */
@@ -34,6 +35,22 @@ static int is(const char *what, uint32_t answer, uint32_t expected) {
     return 1;
 }
 
+/* Whether a list of saves and commits fits, and comes to this NWA and N; nothing is written. */
+static int fits(const char *what, const uint32_t *items, size_t count, uint32_t next, uint32_t blocks) {
+    uint32_t told[TUORMIK_FORECAST_LENGTH];
+    uint32_t answer = tuormik_forecast(DISC, HELD, items, count, told, TUORMIK_FORECAST_LENGTH);
+    if (answer != TUORMIK_DONE) {
+        printf("%s: no forecast: %s\n", what, tuormik_refusal_text(answer));
+        return 0;
+    }
+    if (told[0] != TUORMIK_DONE) {
+        printf("%s: item %u does not fit: %s\n", what, (unsigned)told[1], tuormik_refusal_text(told[0]));
+        return 0;
+    }
+    printf("%s will fit, and come to N %u, NWA %u\n", what, (unsigned)told[2], (unsigned)told[1]);
+    return told[1] == next && told[2] == blocks;
+}
+
 /* Whether block v reads as the text. */
 static int reads(uint32_t v, const char *text) {
     uint8_t block[TUORMIK_SECTOR];
@@ -51,9 +68,11 @@ static uint32_t save(uint32_t v, const char *text) {
 
 int main(void) {
     const uint32_t none[1] = {0};
+    const uint32_t day[3] = {0, 1, TUORMIK_ITEM_COMMIT};
     int well = is("write_maps", tuormik_write_maps(TUORMIK_WRITE_ONCE, 0, 0, none, 0, maps, sizeof maps), TUORMIK_DONE) &&
                is("make", tuormik_make(DISC, none, 0), TUORMIK_DONE) &&
                is("open", tuormik_open(DISC, HELD), TUORMIK_DONE) &&
+               fits("the day", day, 3, 4, 2) &&
                is("save block 0", save(0, "12 May: snow to the lower hut"), TUORMIK_DONE) &&
                is("save block 1", save(1, "13 May: two pairs of plovers"), TUORMIK_DONE) &&
                is("commit", tuormik_commit(DISC, HELD, TUORMIK_NO_CUT), TUORMIK_DONE) &&

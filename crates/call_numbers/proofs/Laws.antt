@@ -6,19 +6,23 @@ use mathlib.Core.List.{List, [], _∷_}
 use native.Mathlib.Omega.{arith}
 use borrow.Author.Tests.{ne-eqb}
 use lib.ListN.{length, getD, set}
+use Rattle.refusal.specs.declared.Refusal.{Refusal}
 use Rattle.refusal.specs.declared.Refusal.the-variants.{DiscShape, SpanOutside, LentLength}
 use Rattle.refusal.specs.declared.Verdict.{Verdict}
 use Rattle.refusal.specs.declared.Verdict.the-variants.{Go}
 use Rattle.refusal.specs.Tests.{need, first, andThen}
+use Rattle.refusal.specs.Number.{numberOf}
 use Rattle.model.specs.declared.Record.{Record}
+use Rattle.model.specs.declared.Forecast.{Forecast}
 use Rattle.model.specs.Disc.{Disc, shapely, inside}
+use Rattle.model.specs.Told.{forecastNumber}
 use Rattle.model.specs.Examine.{Setting, shapeTests, examined}
 use Rattle.model.specs.Once.{heldFits}
 use Rattle.model.specs.Rewrite.{heldCurrent}
 use Rattle.examine.specs.declared.Examined.{Examined}
 use Rattle.examine.specs.Ground.{examinedOf}
 use Rattle.examine.proofs.Laws.{seen-verdict, held-last}
-use Rattle.call_numbers.specs.Numbers.{neither, recordOf, numbersOf, reason, lengthRefusal}
+use Rattle.call_numbers.specs.Numbers.{neither, recordOf, numbersOf, forecastAfter, reason, lengthRefusal}
 
 -- ---- the five numbers of a record
 
@@ -46,6 +50,33 @@ pub numbers-read : (r : Record) (p : ℕ) → recordOf (numbersOf r p) ≡ r
 unfolding recordOf
 numbers-read (Record.WriteOnce n next last) p = refl
 numbers-read (Record.Rewritable n sequence) p = refl
+
+-- ---- the three numbers of a forecast
+
+-- three numbers, each of them set
+pub three-set : (k : List ℕ) (a b c : ℕ) → length k ≡ 3 → set (set (set k 0 a) 1 b) 2 c ≡ a ∷ b ∷ c ∷ []
+three-set [] a b c h = absurd (omega arith)
+three-set (v ∷ []) a b c h = absurd (omega arith)
+three-set (v ∷ w ∷ []) a b c h = absurd (omega arith)
+three-set (v ∷ w ∷ x ∷ []) a b c h = refl
+three-set (v ∷ w ∷ x ∷ y ∷ k) a b c h = absurd (omega arith)
+
+-- what is told of a forecast that is lent the result k: the number that is returned, and the result
+module _ (k : List ℕ) (f : Forecast) where
+  abbrev Tells : ℕ → List ℕ → Type 0
+  Tells n out = (n ≡ forecastNumber f) × (out ≡ forecastAfter f k)
+
+  -- its end
+  pub tells-end : {next n : ℕ} {out : List ℕ} → f ≡ Forecast.Ends next n → out ≡ 0 ∷ next ∷ n ∷ [] → Tells 0 out
+  tells-end is q = rw is (refl, q)
+
+  -- an item that is refused
+  pub tells-stop : {i m : ℕ} {why : Refusal} {out : List ℕ} → f ≡ Forecast.Stops i why → m ≡ numberOf why → out ≡ m ∷ i ∷ 0 ∷ [] → Tells 0 out
+  tells-stop {i} is hm q = rw is (refl, q ∙ ap (λ (n : ℕ). n ∷ i ∷ 0 ∷ []) hm)
+
+  -- its refusal
+  pub tells-refusal : {why : Refusal} {n : ℕ} → f ≡ Forecast.Refused why → n ≡ numberOf why → Tells n k
+  tells-refusal is hn = rw is (hn, refl)
 
 -- ---- a kind above 1
 

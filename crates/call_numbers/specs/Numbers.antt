@@ -1,5 +1,5 @@
--- A record, a cut and an answer as the numbers that C lends and is given (document 01, "Calls and their sector writes"; "Why a call is turned
--- down").
+-- A record, a cut, an answer and a forecast as the numbers that C lends and is given (document 01, "Calls and their sector writes"; "Why a call is
+-- turned down").
 use Prim.Native.Nat.{ℕ}
 use mathlib.Core.Bool.{false, cond}
 use mathlib.Core.List.{List, [], _∷_, _++_}
@@ -15,8 +15,9 @@ use Rattle.model.specs.declared.Cut.{Cut}
 use Rattle.model.specs.declared.Record.{Record}
 use Rattle.model.specs.declared.Reply.{Reply}
 use Rattle.model.specs.declared.Opened.{Opened}
+use Rattle.model.specs.declared.Forecast.{Forecast}
 use Rattle.model.specs.Disc.{Disc}
-use Rattle.model.specs.Told.{recordValues, replyValues, openedValues}
+use Rattle.model.specs.Told.{recordValues, replyValues, openedValues, forecastValues}
 use Rattle.model.specs.Examine.{Setting, shapeTests}
 
 -- ---- cuts
@@ -56,6 +57,14 @@ recordAfter (Reply.Refused why) k = k
 abbrev pub recordOpened : Opened → List ℕ → List ℕ
 recordOpened (Opened.Open r n) k = openedValues (Opened.Open r n)
 recordOpened (Opened.Refused why) k = k
+
+-- ---- a forecast: 0, NWA and N at the end; or the number of the refused item, its index and 0
+
+-- the lent result after it; a refusal leaves it as it came
+abbrev pub forecastAfter : Forecast → List ℕ → List ℕ
+forecastAfter (Forecast.Ends next n) result = forecastValues (Forecast.Ends next n)
+forecastAfter (Forecast.Stops i why) result = forecastValues (Forecast.Stops i why)
+forecastAfter (Forecast.Refused why) result = result
 
 -- ---- lines 1 to 3 of a call on a disc that is lent a record or a result of another length than stated
 

@@ -1,10 +1,11 @@
-// A record, a cut and an answer as the numbers that C lends and is given (document 01, "Calls and their
+// A record, a cut, an answer and a forecast as the numbers that C lends and is given (document 01, "Calls and their
 // sector writes"; "Why a call is turned down").
 // All functions here are inside the layers: where one has a `requires`, the exported calls have tested it.
 use model::CUT;
 use model::Cut;
 use model::DONE;
 use model::Effect;
+use model::Forecast;
 use model::Given;
 use model::Opened;
 use model::Record;
@@ -12,12 +13,13 @@ use model::Reply;
 use refusal::Refusal;
 use refusal::Verdict;
 ghost use mathlib.Core.Path.{_≡_};
+ghost use mathlib.Core.List.{[], _∷_};
 ghost use lib.ListN.{length};
 ghost use Rattle.refusal.specs.Number.{numberOf, verdictNumber};
 ghost use Rattle.model.specs.Disc.{disc as discOf};
 ghost use Rattle.model.specs.Examine.{setting};
-ghost use Rattle.model.specs.Told.{replyNumber, openedNumber, givenNumber};
-ghost use Rattle.call_numbers.specs.Numbers.{effectOf, cutOf, recordOf, numbersOf, recordAfter, recordOpened, lengthRefusal};
+ghost use Rattle.model.specs.Told.{replyNumber, openedNumber, givenNumber, forecastNumber};
+ghost use Rattle.call_numbers.specs.Numbers.{effectOf, cutOf, recordOf, numbersOf, recordAfter, recordOpened, forecastAfter, lengthRefusal};
 
 // The numbers of a record, and the place of each.
 pub const RECORD: usize = 5;
@@ -31,6 +33,9 @@ const NEXT_AT: usize = 2;
 const LAST_AT: usize = 3;
 
 const PASSED_AT: usize = 4;
+
+// The numbers of a forecast.
+pub const FORECAST: usize = 3;
 
 // The kinds.
 pub const WRITE_ONCE: u32 = 0;
@@ -192,6 +197,37 @@ pub fn keep_opened(kept: &mut [u32], o: Opened)
             put_record(kept, handed, passed);
         }
         Opened::Refused(_) => {}
+    }
+}
+
+// ---- a forecast
+
+// Puts its numbers into a lent result.
+fn put_three(result: &mut [u32], a: u32, b: u32, c: u32)
+    requires { ⌜ length (now result) ≡ 3 ⌝ }
+    ensures { λ _. ⌜ now (result .exit) ≡ a ∷ b ∷ c ∷ [] ⌝ }
+{
+    result[0] = a;
+    result[1] = b;
+    result[2] = c;
+}
+
+// What a forecast leaves there, and the number that is returned.
+pub fn tell_forecast(result: &mut [u32], f: Forecast) -> u32
+    requires { ⌜ length (now result) ≡ 3 ⌝ }
+    ensures { λ n. ⌜ n ≡ forecastNumber f ⌝ }
+    ensures { λ _. ⌜ now (result .exit) ≡ forecastAfter f (now (result .entry)) ⌝ }
+{
+    match f {
+        Forecast::Ends { next, entries } => {
+            put_three(result, DONE, next, entries);
+            DONE
+        }
+        Forecast::Stops { index, why } => {
+            put_three(result, refusal::number(why), index, 0);
+            DONE
+        }
+        Forecast::Refused(why) => refusal::number(why),
     }
 }
 

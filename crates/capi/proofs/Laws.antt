@@ -11,16 +11,18 @@ use Rattle.model.specs.declared.Record.{Record}
 use Rattle.model.specs.declared.Reply.{Reply}
 use Rattle.model.specs.declared.Opened.{Opened}
 use Rattle.model.specs.declared.Given.{Given}
+use Rattle.model.specs.declared.Forecast.{Forecast}
 use Rattle.model.specs.Disc.{Disc}
 use Rattle.model.specs.Examine.{Setting}
 use Rattle.model.specs.Plan.{Plan, refuse, replyOf, discAfter, tableAfter, Meets}
 use Rattle.model.specs.Both.{opening, openedTable, reading, readBytes}
+use Rattle.model.specs.Forecast.{forecast}
 use Rattle.once_open.specs.declared.Measured.{Measured}
 use Rattle.once_open.specs.Calls.{fullnessOf, measuredNumber}
-use Rattle.model.specs.Told.{replyNumber, openedNumber, givenNumber}
-use Rattle.call_numbers.specs.Numbers.{recordOf, recordAfter, recordOpened, lengthRefusal}
+use Rattle.model.specs.Told.{replyNumber, openedNumber, givenNumber, forecastNumber}
+use Rattle.call_numbers.specs.Numbers.{recordOf, recordAfter, recordOpened, forecastAfter, lengthRefusal}
 use Rattle.call_lists.proofs.Listing.{one-set}
-use Rattle.capi.specs.Calls.{lentPlan, SeenWrite, lentOpening, lentOpenedTable, lentReading, lentReadBytes, lentFullness, measuredAfter}
+use Rattle.capi.specs.Calls.{lentPlan, SeenWrite, lentOpening, lentOpenedTable, lentReading, lentReadBytes, bothLent, lentFullness, measuredAfter, lentForecast}
 
 -- ---- the writing calls
 
@@ -90,41 +92,71 @@ module _ (e : Setting) (d : Disc) (t k : List ℕ) (v : ℕ) (out : List ℕ) wh
       let a = eq-eqb (length k) 5 h in
       rw (a, ← w) (hn ∙ ap givenNumber q, ho)
 
--- ---- fullness
+-- ---- fullness and the forecast
 
-module _ (e : Setting) (d : Disc) (t k result : List ℕ) where
+-- what is seen of an answer: the number that is returned and the lent result
+abbrev Seen : {A : Type 0} → (A → ℕ) → (A → List ℕ → List ℕ) → A → List ℕ → ℕ → List ℕ → Type 0
+Seen number after a result n out = (n ≡ number a) × (out ≡ after a result)
+
+-- of one that is named otherwise
+seen-as : {A : Type 0} (number : A → ℕ) (after : A → List ℕ → List ℕ) {a m : A} {result : List ℕ} {n : ℕ} {out : List ℕ} → a ≡ m → n ≡ number m → out ≡ after m result → Seen number after a result n out
+seen-as number after q hn ho = rw q (hn, ho)
+
+-- a is the answer of a call that is lent the record k and a result of s numbers, b its refusal where one has another length
+module _ {A : Type 0} (s : ℕ) (k result : List ℕ) (a b : A) where
   -- a record of another length
-  full-record : (length k ≡ 5 → ⊥) → lentFullness e d t k result ≡ Measured.Refused (lengthRefusal e d)
-  unfolding lentFullness
-  full-record h = let a = ne-eqb (length k) 5 h in rw a
+  other-record : (length k ≡ 5 → ⊥) → bothLent s k result a b ≡ b
+  other-record h = let x = ne-eqb (length k) 5 h in rw x
 
   -- a result of another length
-  full-result : length k ≡ 5 → (length result ≡ 1 → ⊥) → lentFullness e d t k result ≡ Measured.Refused (lengthRefusal e d)
-  unfolding lentFullness
-  full-result g h = let a = eq-eqb (length k) 5 g in let b = ne-eqb (length result) 1 h in rw (a, b)
+  other-result : length k ≡ 5 → (length result ≡ s → ⊥) → bothLent s k result a b ≡ b
+  other-result g h = let x = eq-eqb (length k) 5 g in let y = ne-eqb (length result) s h in rw (x, y)
 
   -- both as stated
-  full-lent : {held : Record} → length k ≡ 5 → length result ≡ 1 → held ≡ recordOf k → lentFullness e d t k result ≡ fullnessOf e d t held
+  both-stated : length k ≡ 5 → length result ≡ s → bothLent s k result a b ≡ a
+  both-stated g h = let x = eq-eqb (length k) 5 g in let y = eq-eqb (length result) s h in rw (x, y)
+
+module _ (e : Setting) (d : Disc) (t k result : List ℕ) where
+  -- what is seen of fullness
+  abbrev Fullness : ℕ → List ℕ → Type 0
+  Fullness = Seen measuredNumber measuredAfter (lentFullness e d t k result) result
+
+  pub full-no-record : {n : ℕ} → (length k ≡ 5 → ⊥) → n ≡ numberOf (lengthRefusal e d) → Fullness n result
   unfolding lentFullness
-  full-lent g h q = let a = eq-eqb (length k) 5 g in let b = eq-eqb (length result) 1 h in rw (a, b, q)
+  full-no-record h q = seen-as measuredNumber measuredAfter (other-record 1 k result _ _ h) q refl
 
-  -- what is seen of an answer: the number that is returned and the lent result
-  full-seen : {m : Measured} {n : ℕ} {out : List ℕ} → lentFullness e d t k result ≡ m → n ≡ measuredNumber m → out ≡ measuredAfter m result → (n ≡ measuredNumber (lentFullness e d t k result)) × (out ≡ measuredAfter (lentFullness e d t k result) result)
-  full-seen q hn ho = rw q (hn, ho)
-
-  -- of a record of another length
-  pub full-no-record : {n : ℕ} → (length k ≡ 5 → ⊥) → n ≡ numberOf (lengthRefusal e d) → (n ≡ measuredNumber (lentFullness e d t k result)) × (result ≡ measuredAfter (lentFullness e d t k result) result)
-  full-no-record h q = full-seen (full-record h) q refl
-
-  -- of a result of another length
-  pub full-no-result : {n : ℕ} → length k ≡ 5 → (length result ≡ 1 → ⊥) → n ≡ numberOf (lengthRefusal e d) → (n ≡ measuredNumber (lentFullness e d t k result)) × (result ≡ measuredAfter (lentFullness e d t k result) result)
-  full-no-result g h q = full-seen (full-result g h) q refl
+  pub full-no-result : {n : ℕ} → length k ≡ 5 → (length result ≡ 1 → ⊥) → n ≡ numberOf (lengthRefusal e d) → Fullness n result
+  unfolding lentFullness
+  full-no-result g h q = seen-as measuredNumber measuredAfter (other-result 1 k result _ _ g h) q refl
 
   module _ {held : Record} {m : Measured} (g : length k ≡ 5) (h : length result ≡ 1) (w : held ≡ recordOf k) (q : m ≡ fullnessOf e d t held) where
-    -- of fullness
-    pub full-told : {x : ℕ} → m ≡ Measured.PerMille x → (0 ≡ measuredNumber (lentFullness e d t k result)) × (set result 0 x ≡ measuredAfter (lentFullness e d t k result) result)
-    full-told {x} is = full-seen (full-lent g h w ∙ sym q ∙ is) refl (one-set result x h)
+    -- its answer
+    full-lent : lentFullness e d t k result ≡ m
+    unfolding lentFullness
+    full-lent = both-stated 1 k result _ _ g h ∙ sym (q ∙ ap (fullnessOf e d t) w)
 
-    -- of its refusal
-    pub full-refused : {why : Refusal} {n : ℕ} → m ≡ Measured.Refused why → n ≡ numberOf why → (n ≡ measuredNumber (lentFullness e d t k result)) × (result ≡ measuredAfter (lentFullness e d t k result) result)
-    full-refused is hn = full-seen (full-lent g h w ∙ sym q ∙ is) hn refl
+    -- told
+    pub full-told : {x : ℕ} → m ≡ Measured.PerMille x → Fullness 0 (set result 0 x)
+    full-told {x} is = seen-as measuredNumber measuredAfter (full-lent ∙ is) refl (one-set result x h)
+
+    -- refused
+    pub full-refused : {why : Refusal} {n : ℕ} → m ≡ Measured.Refused why → n ≡ numberOf why → Fullness n result
+    full-refused is hn = seen-as measuredNumber measuredAfter (full-lent ∙ is) hn refl
+
+module _ (e : Setting) (d : Disc) (t k xs result : List ℕ) where
+  -- what is seen of the forecast
+  abbrev Forecasting : ℕ → List ℕ → Type 0
+  Forecasting = Seen forecastNumber forecastAfter (lentForecast e d t k xs result) result
+
+  pub forecast-no-record : {n : ℕ} → (length k ≡ 5 → ⊥) → n ≡ numberOf (lengthRefusal e d) → Forecasting n result
+  unfolding lentForecast
+  forecast-no-record h q = seen-as forecastNumber forecastAfter (other-record 3 k result _ _ h) q refl
+
+  pub forecast-no-result : {n : ℕ} → length k ≡ 5 → (length result ≡ 3 → ⊥) → n ≡ numberOf (lengthRefusal e d) → Forecasting n result
+  unfolding lentForecast
+  forecast-no-result g h q = seen-as forecastNumber forecastAfter (other-result 3 k result _ _ g h) q refl
+
+  pub forecast-seen : {held : Record} {f : Forecast} {n : ℕ} {out : List ℕ} → length k ≡ 5 → length result ≡ 3 → held ≡ recordOf k → f ≡ forecast e d t held xs → n ≡ forecastNumber f → out ≡ forecastAfter f result → Forecasting n out
+  unfolding lentForecast
+  forecast-seen g h w q hn ho =
+      seen-as forecastNumber forecastAfter (both-stated 3 k result _ _ g h ∙ sym (q ∙ ap (λ (r : Record). forecast e d t r xs) w)) hn ho

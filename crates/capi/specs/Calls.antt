@@ -10,6 +10,7 @@ use lib.Dec.{eqb}
 use Rattle.model.specs.declared.Cut.{Cut}
 use Rattle.model.specs.declared.Opened.{Opened}
 use Rattle.model.specs.declared.Given.{Given}
+use Rattle.model.specs.declared.Forecast.{Forecast}
 use Rattle.model.specs.Disc.{Disc}
 use Rattle.model.specs.Examine.{Setting}
 use Rattle.model.specs.Plan.{Plan, refuse, replyOf, discAfter, tableAfter}
@@ -19,6 +20,7 @@ use Rattle.model.specs.Lent.{Lent}
 use Rattle.model.specs.Once.{savePlan, freePlan, commitPlan}
 use Rattle.model.specs.Rewrite.{saveBlockPlan, savePacketPlan, sparePlan}
 use Rattle.model.specs.Both.{opening, openedTable, reading, readBytes}
+use Rattle.model.specs.Forecast.{forecast}
 use Rattle.once_open.specs.declared.Measured.{Measured}
 use Rattle.once_open.specs.Calls.{fullnessOf, measuredValues}
 use Rattle.call_numbers.specs.Numbers.{recordOf, recordAfter, lengthRefusal}
@@ -92,16 +94,21 @@ lentReading e d t k v out = cond (isRecord k) (reading e d t (recordOf k) v out)
 unfoldable pub lentReadBytes : Setting → Disc → List ℕ → List ℕ → ℕ → List ℕ → List ℕ
 lentReadBytes e d t k v out = cond (isRecord k) (readBytes e d t (recordOf k) v out) out
 
--- ---- fullness: one number
+-- ---- fullness and the forecast, which are lent a result
+
+-- what a call answers that is lent the record k and a result of n numbers: a, or b where one has another length
+abbrev pub bothLent : {A : Type 0} → ℕ → List ℕ → List ℕ → A → A → A
+bothLent n k result a b = cond (isRecord k && eqb (length result) n) a b
+
+-- fullness, one number, that is lent the table t
+unfoldable pub lentFullness : Setting → Disc → List ℕ → List ℕ → List ℕ → Measured
+lentFullness e d t k result = bothLent 1 k result (fullnessOf e d t (recordOf k)) (Measured.Refused (lengthRefusal e d))
 
 -- the lent result after it
 abbrev pub measuredAfter : Measured → List ℕ → List ℕ
 measuredAfter (Measured.PerMille n) result = measuredValues (Measured.PerMille n)
 measuredAfter (Measured.Refused why) result = result
 
--- what fullness answers that is lent the table t, the record k and the result
-unfoldable pub lentFullness : Setting → Disc → List ℕ → List ℕ → List ℕ → Measured
-lentFullness e d t k result =
-    cond (isRecord k && eqb (length result) 1)
-    (fullnessOf e d t (recordOf k))
-    (Measured.Refused (lengthRefusal e d))
+-- the forecast, three numbers, that is lent the table t and the items xs
+unfoldable pub lentForecast : Setting → Disc → List ℕ → List ℕ → List ℕ → List ℕ → Forecast
+lentForecast e d t k xs result = bothLent 3 k result (forecast e d t (recordOf k) xs) (Forecast.Refused (lengthRefusal e d))

@@ -13,14 +13,14 @@ ghost use Rattle.model.specs.Disc.{disc as discOf};
 ghost use Rattle.model.specs.Examine.{setting};
 ghost use Rattle.model.specs.Both.{makeVerdict, made};
 ghost use Rattle.model.specs.Lent.{lent};
-ghost use Rattle.model.specs.Told.{openedNumber, givenNumber};
+ghost use Rattle.model.specs.Told.{openedNumber, givenNumber, forecastNumber};
 ghost use Rattle.refusal.specs.Number.{verdictNumber};
 ghost use Rattle.tag.specs.Crc.{byteStep, crcFrom};
 ghost use Rattle.address.specs.Told.{logicalNumber};
 ghost use Rattle.once_open.specs.Calls.{measuredNumber};
-ghost use Rattle.call_numbers.specs.Numbers.{cutOf, recordOpened};
+ghost use Rattle.call_numbers.specs.Numbers.{cutOf, recordOpened, forecastAfter};
 ghost use Rattle.call_lists.specs.Lists.{mapsVerdict, volumeAfter, volumeFor, lentVerdict, lentLookUp, logicalAfter};
-ghost use Rattle.capi.specs.Calls.{SeenSave, SeenFree, SeenCommit, SeenSaveBlock, SeenSavePacket, SeenSpare, lentOpening, lentOpenedTable, lentReading, lentReadBytes, lentFullness, measuredAfter};
+ghost use Rattle.capi.specs.Calls.{SeenSave, SeenFree, SeenCommit, SeenSaveBlock, SeenSavePacket, SeenSpare, lentOpening, lentOpenedTable, lentReading, lentReadBytes, lentFullness, measuredAfter, lentForecast};
 ghost use Rattle.capi.specs.Run.{SeenRuns, SeenDemand, SeenWait};
 
 // ---- both kinds
@@ -208,6 +208,37 @@ pub extern "C" fn tuormik_fullness(
         }
         Measured::Refused(why) => refusal::number(why),
     }
+}
+
+// Tells what a list of saves and commits would come to.
+#[no_mangle]
+pub extern "C" fn tuormik_forecast(
+    disc: &[u8],
+    marks: &[u8],
+    maps: &[u8],
+    s: u32,
+    l: u32,
+    table: &[u32],
+    kept: &[u32],
+    items: &[u32],
+    result: &mut [u32],
+) -> u32
+    ensures { λ r. ⌜ r ≡ forecastNumber (lentForecast (setting (now (maps .entry)) s l)
+        (discOf (now (disc .entry)) (now (marks .entry))) (now (table .entry)) (now (kept .entry)) (now (items .entry))
+        (now (result .entry))) ⌝ }
+    ensures { λ _. ⌜ now (result .exit) ≡ forecastAfter (lentForecast (setting (now (maps .entry)) s l)
+        (discOf (now (disc .entry)) (now (marks .entry))) (now (table .entry)) (now (kept .entry)) (now (items .entry))
+        (now (result .entry))) (now (result .entry)) ⌝ }
+{
+    if kept.len() != call_numbers::RECORD {
+        return call_numbers::number_of_lengths(disc, marks, maps, s, l);
+    }
+    if result.len() != call_numbers::FORECAST {
+        return call_numbers::number_of_lengths(disc, marks, maps, s, l);
+    }
+    let held = call_numbers::read_record(kept);
+    let told = blocks::forecast(disc, marks, maps, s, l, table, held, items);
+    call_numbers::tell_forecast(result, told)
 }
 
 // ---- rewritable
