@@ -18,7 +18,7 @@ ICB = (
 def tables():
     icb = bytes.fromhex(ICB)
     p("# Worked discs of document 01. A line prepares a disc or what is lent, or it is a call: make, open, read, save, free,")
-    p("# commit, fullness, change (save a block), packet (save a packet), spare. The sources say what each name means.")
+    p("# commit, fullness, forecast, change (save a block), packet (save a packet), spare. The sources say what each name means.")
     p("# 004, table 14: the partition starts at sector 257; the VAT ICB is another writer's")
     p("clear")
     p("span 257 31")
@@ -336,6 +336,59 @@ def rooms():
         p("fullness")
 
 
+def forecasts():
+    def start(l, n):
+        p("# L %d, N %d, NWA 2" % (l, n))
+        p("clear")
+        p("span 2 %d" % l)
+        p("make")
+        p("bytes 17")
+        p("put 3 1")
+        p("fill none none none none")
+        p("held %d 2 0" % n)
+
+    def ask(v, step, *counts, saves=9999):
+        for c in counts:
+            p("forecast %s %d %d %d" % (v, step, c, saves))
+
+    p("# 02, slip 9: first number, 0 for the same again, how many items, how many saves before each commit; none, all commits")
+    start(9, 2)
+    p("forecast")
+    ask(0, 0, 7, 8, saves=0)
+    p("# replacing, and one more each time")
+    ask(0, 0, 6, 7)
+    ask(2, 1, 5, 6, 7)
+    p("# line 12: above N, and on a full disc too; 2,147,483,647 is a number")
+    ask(3, 1, 1)
+    ask("2147483647", 0, 1)
+    ask(2, 1, 8, saves=1)
+    p("held 2 3 0")
+    ask(2, 1, 1)
+    p("# what is forecast, and then carried out")
+    p("held 2 2 0")
+    ask(2, 1, 5, 6, saves=2)
+    for c in ("save 2", "save 3", "commit", "save 4", "save 5", "commit"):
+        p(c)
+    ask(0, 0, 1)
+    ask(7, 0, 1)
+    p("commit")
+    ask(0, 0, 0)
+    p("# d for the N after a save")
+    for l, n, counts in ((20, 457, (1, 2, 16, 17)), (20, 458, (1, 15, 16)), (20, 502, (1, 2, 15, 16))):
+        start(l, n)
+        ask(n, 1, *counts)
+        ask(n, 1, 4, 12, saves=1)
+    start(60, 4093)
+    ask(4093, 1, 3, 4)
+    ask(4095, 0, 1)
+    ask(0, 0, 48, 49, 50)
+    ask(4092, 1, 5, 9, saves=1)
+    start(2142, 0)
+    ask(0, 1, 2135, 2136, 2140)
+    ask(0, 1, 600, 4352, saves=99)
+    ask(0, 1, 4352, saves=1)
+
+
 def refused():
     def start():
         p("clear")
@@ -347,7 +400,7 @@ def refused():
         p("commit")
 
     def every(make=True):
-        for c in ("read 0", "fullness", "free 0", "save 0", "commit"):
+        for c in ("read 0", "fullness", "forecast 0 0 1 1", "free 0", "save 0", "commit"):
             p(c)
         if make:
             p("open")
@@ -784,7 +837,7 @@ def sized():
     p("open")
 
 
-GROUPS = ["tables", "sizes", "cuts", "forged", "rooms", "refused", "spared", "turned", "unrecorded", "counting", "sized"]
+GROUPS = ["tables", "sizes", "cuts", "forged", "rooms", "forecasts", "refused", "spared", "turned", "unrecorded", "counting", "sized"]
 
 if __name__ == "__main__":
     for name in sys.argv[1:] or GROUPS:

@@ -201,6 +201,23 @@ class Machine:
     def do_fullness(self, n, w):
         return self.call(lambda d, m, s, l, t: ": per mille %d" % Once.fullness(d, m, s, l, t, self.rec))
 
+    def do_forecast(self, n, w):
+        v, step, count, saves = (n + [0] * 4)[:4]
+        items, at = [], v
+        while len(items) < count:
+            if (len(items) + 1) % (saves + 1) == 0:
+                items.append(0x80000000 + len(items))
+            else:
+                items.append(at)
+                at = (at + (step != 0)) % (1 << 32)
+
+        def g(d, m, s, l, t):
+            try:
+                return ": ends at NWA %d, N %d" % Once.forecast(d, m, s, l, t, self.rec, items)
+            except Item as e:
+                return ": item %d refused %d" % (e.i, e.n)
+        return self.call(g)
+
     def do_change(self, n, w):
         return self.writing(lambda d, m, s, l, t: Rw.save(d, m, s, l, t, self.rec, n[0], self.lent_block(), self.cut))
 

@@ -30,6 +30,13 @@ class Refuse(Exception):
         self.n = n
 
 
+class Item(Exception):
+    """an item of a forecast that would be refused: its index, and the line"""
+
+    def __init__(self, i, n):
+        self.i, self.n = i, n
+
+
 class CutOff(Exception):
     pass
 
@@ -302,6 +309,23 @@ class Once:
         _, next, _ = Once.judge(d, maps, s, l, table, rec)
         # to the nearest, and of two to the even one, as Python rounds an exact fraction (02, slip 4)
         return round(Fraction(1000 * next, l))
+
+    @staticmethod
+    def forecast(d, maps, s, l, table, rec, items):
+        """NWA and N after the items, or raises Item (02, slip 9)"""
+        n, next, _ = Once.judge(d, maps, s, l, table, rec)
+        for i, x in enumerate(items):
+            if x >= 1 << 31:
+                next += dsec(n) + 1
+                if next > l:
+                    raise Item(i, 16)
+                continue
+            if x > min(n, 4095):
+                raise Item(i, 12)
+            n, next = max(n, x + 1), next + 1
+            if l - next <= dsec(n):
+                raise Item(i, 16)
+        return next, n
 
     @staticmethod
     def make(d, maps, s, l):

@@ -1,4 +1,5 @@
 // The calls, each with what came of it printed. Those that hand a record back leave it in the state.
+use crate::forecast;
 use crate::line;
 use crate::state;
 use crate::state::State;
@@ -25,18 +26,20 @@ const COMMIT: u32 = 0x6d6d6f63;
 
 const FULLNESS: u32 = 0x6c6c7566;
 
+const FORECAST: u32 = 0x65726f66;
+
 const CHANGE: u32 = 0x6e616863;
 
 const PACKET: u32 = 0x6b636170;
 
 const SPARE: u32 = 0x72617073;
 
-fn say_refused(why: Refusal) {
+pub fn say_refused(why: Refusal) {
     say::text(b": refused");
     say::decimal(refusal::number(why) as u64);
 }
 
-fn say_part(name: &[u8], n: u32) {
+pub fn say_part(name: &[u8], n: u32) {
     say::text(name);
     say::decimal(n as u64);
 }
@@ -336,7 +339,7 @@ fn look(
     }
 }
 
-// make, with the spares; and the calls above.
+// make, with the spares; forecast, with its items; and the calls above.
 pub fn call(
     disc: &mut [u8],
     marks: &mut [u8],
@@ -352,6 +355,10 @@ pub fn call(
     match name {
         MAKE => {
             make(disc, marks, list, state, words);
+            state
+        }
+        FORECAST => {
+            forecast::call(disc, marks, table, list, state, words);
             state
         }
         OPEN | READ | FULLNESS => look(disc, marks, table, list, block, state, n, name),

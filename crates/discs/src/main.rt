@@ -2,6 +2,7 @@
 // printed with what came of it; the file stdout has what document 01 gives. A line that begins with # is only
 // printed.
 mod calls;
+mod forecast;
 mod forge;
 mod lent;
 mod line;
