@@ -306,6 +306,38 @@ pub unsafe extern "C" fn tuormik_fullness(
 }
 
 #[no_mangle]
+pub unsafe extern "C" fn tuormik_forecast(
+    disc: *const u8,
+    disc_length: usize,
+    marks: *const u8,
+    marks_length: usize,
+    maps: *const u8,
+    maps_length: usize,
+    s: u32,
+    l: u32,
+    table: *const u32,
+    table_length: usize,
+    record: *const u32,
+    record_length: usize,
+    items: *const u32,
+    items_length: usize,
+    result: *mut u32,
+    result_length: usize,
+) -> u32 {
+    plain::forecast(
+        lent(disc, disc_length),
+        lent(marks, marks_length),
+        lent(maps, maps_length),
+        s,
+        l,
+        lent(table, table_length),
+        lent(record, record_length),
+        lent(items, items_length),
+        lent_mut(result, result_length),
+    )
+}
+
+#[no_mangle]
 pub unsafe extern "C" fn tuormik_read_maps(maps: *const u8, maps_length: usize, result: *mut u32, result_length: usize) -> u32 {
     plain::read_maps(lent(maps, maps_length), lent_mut(result, result_length))
 }

@@ -1084,6 +1084,43 @@ pub fn fullness(disc: &[u8], marks: &[u8], maps: &[u8], s: u32, l: u32, table: &
     number(answer)
 }
 
+/// From here on an item is a commit; one below is a save of that block (02, slip 9).
+const COMMIT_ITEM: u32 = 0x8000_0000;
+
+/// What a list of saves and commits would come to: it is carried out, up to a first refusal, on copies of all that is lent. The blocks are
+/// zeros, which have no tag and so are never refused by line 15.
+pub fn forecast(
+    disc: &[u8],
+    marks: &[u8],
+    maps: &[u8],
+    s: u32,
+    l: u32,
+    table: &[u32],
+    record: &[u32],
+    items: &[u32],
+    result: &mut [u32],
+) -> u32 {
+    let lent = result.len() == 3;
+    if let Err(line) = examine_once(disc, marks, maps, s, l, table, record, lent) {
+        return line;
+    }
+    let (mut disc, mut marks, mut table, mut record) = (disc.to_vec(), marks.to_vec(), table.to_vec(), record.to_vec());
+    let (d, m, t, r) = (&mut disc, &mut marks, &mut table, &mut record);
+    for (i, &item) in items.iter().enumerate() {
+        let answer = if item < COMMIT_ITEM {
+            save_virtual(d, m, maps, s, l, t, r, item, &[0; SECTOR], 0, 0)
+        } else {
+            commit(d, m, maps, s, l, t, r, 0, 0)
+        };
+        if answer != 0 {
+            result.copy_from_slice(&[answer, i as u32, 0]);
+            return 0;
+        }
+    }
+    result.copy_from_slice(&[0, r[2], r[1]]);
+    0
+}
+
 /// Tells what a map list says.
 pub fn read_maps(maps: &[u8], result: &mut [u32]) -> u32 {
     let mut call = || -> Answer<()> {

@@ -23,6 +23,8 @@ use step::{Call, Start, Step, World};
 
 /// The name under which the calls of a list are counted.
 pub const IN_A_LIST: &str = "in a list";
+/// The name under which it is counted what forecasts tell: that all fits, or why an item does not.
+pub const FORECAST_TELLS: &str = "told";
 
 /// How often each call answered each number.
 #[derive(Clone, Default)]
@@ -33,8 +35,13 @@ pub struct Tally {
 
 impl Tally {
     fn add(&mut self, call: &'static str, answer: u32) {
-        *self.counts.entry((call, answer)).or_default() += 1;
+        self.note(call, answer);
         self.calls += 1;
+    }
+
+    /// What is counted and is no call of its own.
+    fn note(&mut self, what: &'static str, told: u32) {
+        *self.counts.entry((what, told)).or_default() += 1;
     }
 
     fn add_all(&mut self, other: &Tally) {
@@ -188,10 +195,14 @@ fn compare_step(a: &Layer, b: &Layer, step: &Step, ours: &mut World, theirs: &mu
         }
         if let Step::Call(call) | Step::Oddly(_, call) = step {
             tally.add(call.name(), one.number);
-            if let (Call::Run { calls, replies, .. }, 0) = (call, one.number) {
-                for &reply in one.lent.iter().take(calls.len().min(*replies)) {
-                    tally.add(IN_A_LIST, reply);
+            match call {
+                Call::Run { calls, replies, .. } if one.number == 0 => {
+                    for &reply in one.lent.iter().take(calls.len().min(*replies)) {
+                        tally.add(IN_A_LIST, reply);
+                    }
                 }
+                Call::Forecast { .. } if one.number == 0 => tally.note(FORECAST_TELLS, one.lent[0]),
+                _ => {}
             }
         }
     }

@@ -1,4 +1,4 @@
-//! The same fourteen calls of two implementations, side by side.
+//! The same fifteen calls of two implementations, side by side.
 
 use crate::plain;
 use tuormik::calls;
@@ -13,6 +13,7 @@ type SavePacket = fn(&mut [u8], &mut [u8], &[u8], u32, u32, &[u32], &mut [u32], 
 type SparePacket = fn(&mut [u8], &mut [u8], &[u8], u32, u32, &mut [u32], &mut [u32], u32, &[u8], u32, u32) -> u32;
 type Make = fn(&mut [u8], &mut [u8], &[u8], u32, u32, &[u32]) -> u32;
 type Fullness = fn(&[u8], &[u8], &[u8], u32, u32, &[u32], &[u32], &mut [u32]) -> u32;
+type Forecast = fn(&[u8], &[u8], &[u8], u32, u32, &[u32], &[u32], &[u32], &mut [u32]) -> u32;
 type ReadMaps = fn(&[u8], &mut [u32]) -> u32;
 type WriteMaps = fn(u32, u16, u32, &[u32], &mut [u8]) -> u32;
 type LookUp = fn(&[u8], u32, &mut [u32]) -> u32;
@@ -43,6 +44,8 @@ pub struct Layer {
     pub make: Make,
     /// `tuormik_fullness`.
     pub fullness: Fullness,
+    /// `tuormik_forecast`.
+    pub forecast: Forecast,
     /// `tuormik_read_maps`.
     pub read_maps: ReadMaps,
     /// `tuormik_write_maps`.
@@ -66,6 +69,7 @@ pub static PROVED: Layer = Layer {
     spare_packet: calls::spare_packet,
     make: calls::make,
     fullness: calls::fullness,
+    forecast: calls::forecast,
     read_maps: calls::read_maps,
     write_maps: calls::write_maps,
     look_up: calls::look_up,
@@ -85,6 +89,7 @@ pub static PLAIN: Layer = Layer {
     spare_packet: plain::spare_packet,
     make: plain::make,
     fullness: plain::fullness,
+    forecast: plain::forecast,
     read_maps: plain::read_maps,
     write_maps: plain::write_maps,
     look_up: plain::look_up,

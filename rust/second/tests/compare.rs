@@ -2,8 +2,8 @@
 //!
 //! `TUORMIK_SEED` and `TUORMIK_CASES` choose another seed and number of cases; the program `compare` does the same with progress.
 
-use tuormik::{BLANK, PACKET, RECORDED};
-use tuormik_second::compare::{compare_cases, Tally, IN_A_LIST};
+use tuormik::{BLANK, COMMIT, NONE, PACKET, RECORDED};
+use tuormik_second::compare::{compare_cases, Tally, FORECAST_TELLS, IN_A_LIST};
 use tuormik_second::layer::{Layer, PLAIN, PROVED};
 
 const SEED: u64 = 20_040_182;
@@ -22,7 +22,7 @@ fn compared() -> Tally {
 }
 
 /// What each call can answer: lines of 01 and 02, 0 done and 255 cut.
-const ANSWERS: [(&str, &[u32]); 15] = [
+const ANSWERS: [(&str, &[u32]); 17] = [
     ("open", &[0, 1, 2, 3, 4, 5, 6, 8, 9, 10]),
     ("read", &[0, 1, 2, 3, 4, 5, 6, 8, 10, 11, 12, 13, 14, 25]),
     ("save_virtual", &[0, 1, 2, 3, 4, 5, 6, 7, 11, 12, 15, 16, 255]),
@@ -33,6 +33,8 @@ const ANSWERS: [(&str, &[u32]); 15] = [
     ("spare_packet", &[0, 1, 2, 3, 4, 5, 6, 7, 8, 10, 11, 12, 17, 18, 19, 20, 255]),
     ("make", &[0, 1, 2, 4, 5, 6, 21]),
     ("fullness", &[0, 1, 2, 3, 4, 5, 6, 7, 11]),
+    ("forecast", &[0, 1, 2, 3, 4, 5, 6, 7, 11]),
+    (FORECAST_TELLS, &[0, 12, 16]),
     ("read_maps", &[0, 3, 4, 5, 6]),
     ("write_maps", &[0, 3, 5, 6]),
     ("look_up", &[0, 3, 8, 9, 12, 13]),
@@ -195,6 +197,82 @@ fn other_rules_for_blank_and_unreadable_are_found() {
         match compare_cases(&layer, &PLAIN, SEED, 0..1_000, |_, _| {}) {
             Ok(_) => panic!("{}: no difference was found", layer.name),
             Err(difference) => assert!(difference.to_string().contains(&format!("then: {} answers", layer.name)), "{difference}"),
+        }
+    }
+}
+
+// ---- layers that forecast by another rule
+
+/// What is wrong with a forecast.
+#[derive(Clone, Copy)]
+enum Forecasting {
+    /// 0x80000000 is a save; 0xffffffff is one
+    CommitAbove,
+    NoneIsASave,
+    /// 16 is tested before 12
+    RoomFirst,
+    IndexFromOne,
+    Exchanged,
+    /// where it is refused, the result is zeros
+    ResultCleared,
+}
+
+/// The plain forecast, but for one rule.
+#[allow(clippy::too_many_arguments)]
+fn forecast_by<const BY: usize>(
+    disc: &[u8],
+    marks: &[u8],
+    maps: &[u8],
+    s: u32,
+    l: u32,
+    table: &[u32],
+    record: &[u32],
+    items: &[u32],
+    result: &mut [u32],
+) -> u32 {
+    use Forecasting::*;
+    let by = [CommitAbove, NoneIsASave, RoomFirst, IndexFromOne, Exchanged, ResultCleared][BY];
+    let mut items = items.to_vec();
+    let wrongly_saved = match by {
+        CommitAbove => Some(COMMIT),
+        NoneIsASave => Some(NONE),
+        _ => None,
+    };
+    items.iter_mut().filter(|item| Some(**item) == wrongly_saved).for_each(|item| *item = COMMIT - 1);
+    let answer = (PLAIN.forecast)(disc, marks, maps, s, l, table, record, &items, result);
+    match (by, answer, &mut *result) {
+        (ResultCleared, 1.., told) => told.fill(0),
+        (IndexFromOne, 0, [12 | 16, index, _]) => *index += 1,
+        (Exchanged, 0, [0, next, entries]) => std::mem::swap(next, entries),
+        (RoomFirst, 0, told @ [12, _, _]) => {
+            // where not even a commit fits there is no room for a save
+            let at = told[1] as usize;
+            let with_commit = [&items[..at], &[COMMIT]].concat();
+            (PLAIN.forecast)(disc, marks, maps, s, l, table, record, &with_commit, told);
+            let line = if told[0] == 16 { 16 } else { 12 };
+            told.copy_from_slice(&[line, at as u32, 0]);
+        }
+        _ => {}
+    }
+    answer
+}
+
+/// The random lists have items that tell a forecast by another rule.
+#[test]
+fn other_rules_for_forecasts_are_found() {
+    let by = |name, forecast| Layer { name, forecast, ..PLAIN };
+    let wrong = [
+        by("0x80000000 as a save", forecast_by::<0>),
+        by("0xffffffff as a save", forecast_by::<1>),
+        by("16 before 12", forecast_by::<2>),
+        by("an index from 1", forecast_by::<3>),
+        by("N and NWA exchanged", forecast_by::<4>),
+        by("a result cleared where it is refused", forecast_by::<5>),
+    ];
+    for layer in wrong {
+        match compare_cases(&layer, &PLAIN, SEED, 0..2_000, |_, _| {}) {
+            Ok(_) => panic!("{}: no difference was found", layer.name),
+            Err(difference) => assert!(difference.to_string().contains("then: what is handed back differs"), "{difference}"),
         }
     }
 }

@@ -9,7 +9,7 @@ use std::hint::black_box;
 use std::process::ExitCode;
 use std::time::{Duration, Instant};
 use tuormik::numbers::grouped;
-use tuormik::{BLANK, MOST_ENTRIES, NONE, PACKET, PACKET_BYTES, RECORDED, SECTOR};
+use tuormik::{BLANK, COMMIT, MOST_ENTRIES, NONE, PACKET, PACKET_BYTES, RECORDED, SECTOR};
 use tuormik_second::layer::{Layer, PLAIN, PROVED};
 use tuormik_second::plain;
 
@@ -228,6 +228,7 @@ fn measure_once(sectors: usize, rows: &mut Rows) -> Result<(), String> {
     rows.add("free_virtual", measure(&mut world, free, |w| w.table[1] = 31 % next))?;
     let full = |y: &Layer, w: &mut World| (y.fullness)(&w.disc, &w.marks, &w.maps, w.s, w.l, &w.table, &w.record, &mut [0]);
     rows.add("fullness", measure(&mut world, full, nothing))?;
+    measure_forecast(sectors, rows)?;
     for n in [1, 458, 4096] {
         put_back(&mut world, next, n);
         let commit = |y: &Layer, w: &mut World| (y.commit)(&mut w.disc, &mut w.marks, &w.maps, w.s, w.l, &w.table, &mut w.record, 0, 0);
@@ -251,6 +252,21 @@ fn measure_once(sectors: usize, rows: &mut Rows) -> Result<(), String> {
         world.disc[at..at + SECTOR].copy_from_slice(&wrong_crc(k));
     }
     rows.add("open, dirty: right tags with wrong CRCs passed over", measure(&mut world, open, nothing))
+}
+
+/// A forecast, which the plain implementation makes by carrying the list out on a copy of the disc: from an empty disc on, 4,095 new blocks,
+/// or as many as fit, and a commit.
+fn measure_forecast(sectors: usize, rows: &mut Rows) -> Result<(), String> {
+    let mut world = once(sectors, 1, 0)?;
+    let most = (MOST_ENTRIES as u32 - 1).min(world.l - 16);
+    let items: Vec<u32> = (0..most).chain([COMMIT]).collect();
+    let forecast = |y: &Layer, w: &mut World| {
+        let mut result = [0; 3];
+        let answer = (y.forecast)(&w.disc, &w.marks, &w.maps, w.s, w.l, &w.table, &w.record, &items, &mut result);
+        // an item that is refused counts as a refusal here
+        answer.max(result[0])
+    };
+    rows.add("forecast of up to 4,095 new blocks and a commit", measure(&mut world, forecast, |_| ()))
 }
 
 const SPARES: u32 = 64;

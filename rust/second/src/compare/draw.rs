@@ -4,7 +4,7 @@ use super::bytes::{Allocation, Bytes, Copy, Entries, File, Icb, Random, Twist, C
 use super::step::{Call, Fail, Odd, Start, Step, World};
 use crate::plain;
 use std::collections::VecDeque;
-use tuormik::{BLANK, MOST_ENTRIES, NONE, PACKET, PACKET_BYTES, SECTOR, UNREADABLE};
+use tuormik::{BLANK, COMMIT, MOST_ENTRIES, NONE, PACKET, PACKET_BYTES, SECTOR, UNREADABLE};
 
 /// What a case is drawn by.
 pub struct Drawer {
@@ -68,9 +68,10 @@ impl Drawer {
 
     /// A call on a disc, mostly one for its kind.
     fn call(&mut self, random: &mut Random, world: &World) -> Call {
-        let call = match (self.is_once() != random.once_in(40), random.below(16)) {
+        let call = match (self.is_once() != random.once_in(40), random.below(17)) {
             (_, 0) => Call::Open,
             (_, 1) => Call::Fullness,
+            (_, 16) => Call::Forecast { items: self.items(random, world, world.record[1]) },
             (_, 2) if random.once_in(6) => Call::Make { spares: self.odd_spares(random) },
             (_, 2..=4) => Call::Read { number: self.number(random, world) },
             (true, 5..=11) => {
@@ -88,6 +89,31 @@ impl Drawer {
             self.queue.push_back(Step::Call(Call::Open));
         }
         call
+    }
+
+    /// A list to be forecast on a disc of n blocks: blocks that it has, new ones, some above these, and commits; at times more than fit.
+    fn items(&self, random: &mut Random, world: &World, n: u32) -> Vec<u32> {
+        let mut n = n.min(MOST_ENTRIES as u32);
+        let new_in = random.pick(&[1, 2, 4]);
+        let commit_in = random.pick(&[3, 12, 100]);
+        let count = match random.below(4) {
+            0 => random.below(4),
+            1 | 2 => random.below(30),
+            _ => random.below(world.l + 8),
+        };
+        let item = |_| match random.below(60) {
+            0 => random.odd_number(n),
+            1 => n.saturating_add(random.between(1, 3)),
+            2 => random.pick(&[MOST_ENTRIES as u32 - 1, MOST_ENTRIES as u32, COMMIT - 1, NONE, COMMIT + 1]),
+            _ if random.once_in(commit_in) => COMMIT | random.pick(&[0, 0, 1, 2, 0x7fff_ffff]),
+            _ if random.once_in(40) => COMMIT | random.next() as u32,
+            _ if random.once_in(new_in) => {
+                n += 1;
+                n - 1
+            }
+            _ => random.below(n),
+        };
+        (0..count).map(item).collect()
     }
 
     fn virtual_number(&self, random: &mut Random, world: &World) -> u32 {
@@ -148,7 +174,7 @@ impl Drawer {
             }),
             5 => Odd::TableLength(random.pick(&[0, 1, 499, MOST_ENTRIES - 1, MOST_ENTRIES])),
             6 => Odd::RecordLength(random.pick(&[0, 1, 3, 4, 5, 6, 8])),
-            7 => Odd::OutLength(random.pick(&[0, 1, 2, 7, 8, 9, 2047, 2048, 2049, 65535, 65536, 65537])),
+            7 => Odd::OutLength(random.pick(&[0, 1, 2, 3, 4, 7, 8, 9, 2047, 2048, 2049, 65535, 65536, 65537])),
             _ => Odd::Maps(self.odd_maps(random, world)),
         }
     }
@@ -256,9 +282,12 @@ impl Drawer {
                 Step::SetTable { at, to }
             }
             2 if self.is_once() => {
+                let count = random.pick(&COUNTS).wrapping_add(random.pick(&[0, 0, 0, 1])).min(MOST_ENTRIES as u32);
+                if random.once_in(2) {
+                    self.queue.push_back(Step::Call(Call::Forecast { items: self.items(random, world, count) }));
+                }
                 self.queue.push_back(Step::Call(Call::Commit { fail: fail(random, 9) }));
                 self.queue.push_back(Step::Call(Call::Open));
-                let count = random.pick(&COUNTS).wrapping_add(random.pick(&[0, 0, 0, 1])).min(MOST_ENTRIES as u32);
                 Step::FillTable(Entries { count, below: world.record[2].min(1 << 20), seed: random.next() })
             }
             _ => {

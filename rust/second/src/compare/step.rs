@@ -125,6 +125,7 @@ pub enum Call {
     SparePacket { b: u32, packet: Bytes, fail: Fail },
     Make { spares: Vec<u32> },
     Fullness,
+    Forecast { items: Vec<u32> },
     ReadMaps,
     WriteMaps { kind: u32, partition: u16, table_bytes: u32, tables: Vec<u32>, length: usize },
     LookUp { file: File, v: u32 },
@@ -254,16 +255,20 @@ impl Step {
 
     /// Steps that do a little less.
     pub fn simpler(&self) -> Vec<Step> {
-        let Step::Call(Call::Run { calls, left_over, pool, replies }) = self else {
-            return Vec::new();
+        let without = |call: &Call, i: usize| {
+            let mut fewer = call.clone();
+            match &mut fewer {
+                Call::Run { calls, .. } => drop(calls.remove(i)),
+                Call::Forecast { items } => drop(items.remove(i)),
+                _ => {}
+            }
+            Step::Call(fewer)
         };
-        (0..calls.len())
-            .map(|i| {
-                let mut fewer = calls.clone();
-                fewer.remove(i);
-                Step::Call(Call::Run { calls: fewer, left_over: *left_over, pool: pool.clone(), replies: *replies })
-            })
-            .collect()
+        match self {
+            Step::Call(call @ Call::Run { calls, .. }) => (0..calls.len()).map(|i| without(call, i)).collect(),
+            Step::Call(call @ Call::Forecast { items }) => (0..items.len()).map(|i| without(call, i)).collect(),
+            _ => Vec::new(),
+        }
     }
 }
 
@@ -280,6 +285,7 @@ impl Call {
             Call::SparePacket { .. } => "spare_packet",
             Call::Make { .. } => "make",
             Call::Fullness => "fullness",
+            Call::Forecast { .. } => "forecast",
             Call::ReadMaps => "read_maps",
             Call::WriteMaps { .. } => "write_maps",
             Call::LookUp { .. } => "look_up",
@@ -355,6 +361,10 @@ impl Call {
             Call::Fullness => {
                 lent = vec![77; out_length.unwrap_or(1)];
                 (layer.fullness)(disc, marks, maps, s, l, table, record, &mut lent)
+            }
+            Call::Forecast { items } => {
+                lent = vec![77; out_length.unwrap_or(3)];
+                (layer.forecast)(disc, marks, maps, s, l, table, record, items, &mut lent)
             }
             Call::ReadMaps => {
                 lent = vec![77; out_length.unwrap_or(8)];
