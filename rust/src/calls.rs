@@ -300,6 +300,42 @@ pub fn fullness(disc: &[u8], marks: &[u8], maps: &[u8], s: u32, l: u32, table: &
     }
 }
 
+/// Tells what a list of saves and commits would come to on a write-once disc, without changing it (02, slip 9): an item below
+/// [`COMMIT`](crate::COMMIT) is a save of that block, any other a commit.
+pub fn forecast(
+    disc: &[u8],
+    marks: &[u8],
+    maps: &[u8],
+    s: u32,
+    l: u32,
+    table: &[u32],
+    record: &[u32],
+    items: &[u32],
+    result: &mut [u32],
+) -> u32 {
+    // SAFETY: each pointer and length are those of a slice, and a slice lent to be written is lent to nobody else.
+    unsafe {
+        ffi::tuormik_forecast(
+            disc.as_ptr(),
+            disc.len(),
+            marks.as_ptr(),
+            marks.len(),
+            maps.as_ptr(),
+            maps.len(),
+            s,
+            l,
+            table.as_ptr(),
+            table.len(),
+            record.as_ptr(),
+            record.len(),
+            items.as_ptr(),
+            items.len(),
+            result.as_mut_ptr(),
+            result.len(),
+        )
+    }
+}
+
 /// Reads a map list.
 pub fn read_maps(maps: &[u8], result: &mut [u32]) -> u32 {
     // SAFETY: each pointer and length are those of a slice, and a slice lent to be written is lent to nobody else.

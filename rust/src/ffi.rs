@@ -167,6 +167,24 @@ extern "C" {
         result: *mut u32,
         result_length: usize,
     ) -> u32;
+    pub fn tuormik_forecast(
+        disc: *const u8,
+        disc_length: usize,
+        marks: *const u8,
+        marks_length: usize,
+        maps: *const u8,
+        maps_length: usize,
+        s: u32,
+        l: u32,
+        table: *const u32,
+        table_length: usize,
+        record: *const u32,
+        record_length: usize,
+        items: *const u32,
+        items_length: usize,
+        result: *mut u32,
+        result_length: usize,
+    ) -> u32;
     pub fn tuormik_read_maps(maps: *const u8, maps_length: usize, result: *mut u32, result_length: usize) -> u32;
     pub fn tuormik_write_maps(
         kind: u32,

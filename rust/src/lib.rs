@@ -39,7 +39,7 @@ extern crate tuormik_plain as _;
 
 pub use calls::{crc, crc_by_bytes, crc_by_words, crc_word};
 pub use marks::marks_by_rule;
-pub use open::{look_up, read_maps, write_maps, Call, Disc, DiscRef, Maps, Open, OpenRef, Ran};
+pub use open::{look_up, read_maps, write_maps, Call, Disc, DiscRef, Forecast, Maps, Open, OpenRef, Ran};
 pub use passed::possible_icbs;
 pub use refusal::{Error, Refusal};
 
@@ -55,6 +55,9 @@ pub const MOST_SECTORS: usize = 1 << 20;
 pub const MOST_ENTRIES: usize = 4096;
 /// An unused entry; a free spare; no previous ICB.
 pub const NONE: u32 = u32::MAX;
+
+/// A commit, in a list that is to be forecast; any number above it is one too, and a number below it is a save of that virtual block.
+pub const COMMIT: u32 = 0x8000_0000;
 
 /// The mark of a blank sector.
 pub const BLANK: u8 = 0;

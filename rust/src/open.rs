@@ -1,6 +1,6 @@
 //! The calls of document 01 on a lent disc, with types.
 
-use crate::{calls, possible_icbs, Cut, Error, Held, Record, MOST_ENTRIES, SECTOR};
+use crate::{calls, possible_icbs, Cut, Error, Held, Record, Refusal, MOST_ENTRIES, SECTOR};
 
 /// A disc that is lent to be read: 2,048 bytes and a mark byte a sector, the map list, and the partition's first sector and number of
 /// sectors.
@@ -179,6 +179,25 @@ pub struct Ran {
     pub replies: Vec<Result<(), Error>>,
 }
 
+/// What a list of saves and commits would come to on a write-once disc (document 02, slip 9).
+#[derive(Clone, Copy, Debug, PartialEq, Eq)]
+pub enum Forecast {
+    /// Every item would be carried out.
+    Fits {
+        /// NWA after the last of them.
+        next: u32,
+        /// N after the last of them.
+        entries: u32,
+    },
+    /// An item would be refused.
+    Stops {
+        /// The index of the first such item, counted from 0.
+        index: u32,
+        /// Why: [`NumberOutside`](crate::Refusal::NumberOutside) or [`NoRoom`](crate::Refusal::NoRoom).
+        why: Refusal,
+    },
+}
+
 /// What an opening found: the lent table, and the record that goes with it.
 struct Found {
     table: Vec<u32>,
@@ -210,6 +229,19 @@ impl Found {
         let DiscRef { bytes, marks, maps, start, length } = disc;
         Error::check(calls::fullness(bytes, marks, maps, start, length, &self.table, &record, &mut result))?;
         Ok(result[0])
+    }
+
+    fn forecast(&self, disc: DiscRef, items: &[u32]) -> Result<Forecast, Error> {
+        let mut result = [0; 3];
+        let record = self.record.numbers();
+        let DiscRef { bytes, marks, maps, start, length } = disc;
+        Error::check(calls::forecast(bytes, marks, maps, start, length, &self.table, &record, items, &mut result))?;
+        let [number, next_or_index, entries] = result;
+        Ok(match Error::check(number) {
+            Ok(()) => Forecast::Fits { next: next_or_index, entries },
+            Err(Error::Refused(why)) => Forecast::Stops { index: next_or_index, why },
+            Err(other) => return Err(other),
+        })
     }
 }
 
@@ -245,6 +277,11 @@ impl<'a> OpenRef<'a> {
     /// How full a write-once disc is, in per mille to the nearest, an exact half going to the even number.
     pub fn fullness(&self) -> Result<u32, Error> {
         self.found.fullness(self.disc)
+    }
+
+    /// What a list of saves and commits would come to, as [`Open::forecast`] tells it.
+    pub fn forecast(&self, items: &[u32]) -> Result<Forecast, Error> {
+        self.found.forecast(self.disc, items)
     }
 
     /// The logical blocks that were passed over and may be a newer VAT than the one that was found, as [`possible_icbs`] finds them.
@@ -327,6 +364,28 @@ impl<'a> Open<'a> {
     pub fn fullness(&self) -> Result<u32, Error> {
         self.need_power()?;
         self.found.fullness(self.disc.to_read())
+    }
+
+    /// What a list of saves and commits would come to on a write-once disc (document 02, slip 9): an item below
+    /// [`COMMIT`](crate::COMMIT) is [`Open::save_virtual`] of that number, any other is [`Open::commit`]. The disc is only read.
+    ///
+    /// It is the forecast of a run in which the power does not fail and no block is refused as
+    /// [`PassesAsIcb`](crate::Refusal::PassesAsIcb), which depends on the blocks' bytes: carrying the items out one after the other, up
+    /// to a first refusal, then comes to exactly this. Where the call itself is refused, so is the first item, for the same reason.
+    ///
+    /// ```
+    /// # use tuormik::{write_maps, Disc, Error, Forecast, Maps, COMMIT};
+    /// # let maps = write_maps(&Maps::WriteOnce { partition: 0 })?;
+    /// # let (mut bytes, mut marks) = (vec![0; 2048 * 100], vec![0; 100]);
+    /// # let mut disc = Disc { bytes: &mut bytes, marks: &mut marks, maps: &maps, start: 0, length: 100 };
+    /// # disc.make(&[])?;
+    /// let mut open = disc.open()?;
+    /// assert_eq!(open.forecast(&[0, 1, 0, COMMIT])?, Forecast::Fits { next: 5, entries: 2 });
+    /// # Ok::<(), Error>(())
+    /// ```
+    pub fn forecast(&self, items: &[u32]) -> Result<Forecast, Error> {
+        self.need_power()?;
+        self.found.forecast(self.disc.to_read(), items)
     }
 
     /// Saves a virtual block; the number N adds one.

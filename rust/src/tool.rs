@@ -7,6 +7,7 @@ mod commits;
 mod demo;
 mod diff;
 mod export;
+mod fit;
 mod found;
 mod info;
 mod json;
@@ -132,7 +133,7 @@ const CUT_HELP: &str = "
   --cut WRITE:EFFECT   the power fails at this sector write, counted from 1, which becomes old, unreadable or whole
 ";
 
-const ENTRIES: [Entry; 15] = [
+const ENTRIES: [Entry; 16] = [
     Entry {
         name: "info",
         line: "what kind of disc this is, and how full",
@@ -185,12 +186,29 @@ read (unreadable).
         run: commands::read,
     },
     Entry {
-        name: "save",
-        line: "blocks saved from a file",
-        help: "tuormik save IMAGE NUMBER FILE [--no-commit] [--packet]
+        name: "fit",
+        line: "whether saves and commits fit, before they are made",
+        help: "tuormik fit IMAGE ITEM..
 
-Saves the bytes of FILE ('-': the standard input) as blocks from NUMBER on; the last one is filled up with zeros. On a write-once disc
-NUMBER may be 'new', which adds blocks, and a commit follows; without it what was saved is not found again.
+Tells whether a list of saves and commits fits on a write-once disc, in this order, and what it takes and leaves; the image is only read.
+Where it does not fit the message names the first item that would be refused, counted from 1, and why. Each ITEM is
+  NUMBER               a save of that block
+  new                  a save of a new block; 'new*40', in quotes for the shell, stands for 40 of them
+  commit               a commit
+It is the forecast of a run in which the power does not fail. That the bytes of a block would pass as a VAT ICB (01, line 15) is not
+foreseen.
+",
+        run: fit::fit,
+    },
+    Entry {
+        name: "save",
+        line: "blocks saved from files",
+        help: "tuormik save IMAGE NUMBER FILE.. [--no-commit] [--packet]
+
+Saves the bytes of each FILE ('-': the standard input), one after the other, as blocks from NUMBER on; the last block of each is filled up
+with zeros. On a write-once disc NUMBER may be 'new', which adds blocks, and a commit follows; without it what was saved is not found
+again. Several blocks and their commit are forecast there, as by 'fit', before anything is written: the first line tells what they take.
+Where they do not all fit, none is saved, and the message tells how many would fit.
   --no-commit          no commit after the saves
   --packet             whole packets of a rewritable disc, all 32 blocks of each replaced: FILE has 65,536 bytes for each
   --force              commits also where a sector that was passed over may be a newer VAT

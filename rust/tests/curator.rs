@@ -44,7 +44,10 @@ fn info_in_a_curators_words() {
     folder.write("fits", &[7; 100 * SECTOR]);
     folder.write("too-many", &[7; 101 * SECTOR]);
     let words = folder.refuses(16, &["save", "d.img", "new", "too-many"]);
-    assert_eq!(words, "no room for block 103: 1 sector is free, and the save and its commit need 2");
+    let expected =
+        "no room for block 103: 1 sector is free, and the save and its commit need 2; of 101 blocks the first 100 would fit, and \
+                    nothing was written";
+    assert_eq!(words, expected);
     folder.does(&["save", "d.img", "new", "fits"]);
     has(&folder.does(&["info", "d.img"]), "room no new block fits");
     folder.does(&["make", "e.img", "--sectors", "400", "--write-once"]);

@@ -42,7 +42,7 @@ fn the_page_has_the_commands_of_the_help() {
     let named: Vec<String> = sections.lines().filter_map(|line| line.strip_prefix(".SS ")).map(str::to_string).collect();
     let listed = commands(&folder.does(&["--help"]));
     assert_eq!(named, listed);
-    assert_eq!(listed.len(), 15);
+    assert_eq!(listed.len(), 16);
 }
 
 #[test]

@@ -182,6 +182,15 @@ fn no_room() {
         (&["commit", "d.img"], "no room for the commit: no sector is free, and it needs 1"),
     ];
     refuse(&folder, 16, &cases);
+    let cases: [(&[&str], &str); 3] = [
+        (&["fit", "d.img", "0"], "item 1 (save 0): no room for block 0: no sector is free, and the save and its commit need 2"),
+        (&["fit", "d.img", "new"], "item 1 (save 1): no room for block 1: no sector is free, and the save and its commit need 2"),
+        (&["fit", "d.img", "commit"], "item 1 (commit): no room for the commit: no sector is free, and it needs 1"),
+    ];
+    refuse(&folder, 16, &cases);
+    // line 12 is asked first
+    let sentence = "item 1 (save 2): block 2 cannot be saved yet: the disc has 1 block, 0, and the next new one is 1";
+    refuse(&folder, 12, &[(&["fit", "d.img", "2", "commit"], sentence)]);
     // one sector is free, which a commit would take
     folder.does(&["make", "e.img", "--sectors", "290", "--write-once"]);
     let sentence = "no room for block 0: 1 sector is free, and the save and its commit need 2";
@@ -192,6 +201,42 @@ fn no_room() {
     folder.does(&["save", "f.img", "new", "many"]);
     let sentence = "no room for block 458: 2 sectors are free, and the save and its commit need 3";
     refuse(&folder, 16, &[(&["save", "f.img", "new", "text"], sentence)]);
+    // of a list the numbers are those at the refused item
+    let cases: [(&[&str], &str); 3] = [
+        (
+            &["fit", "f.img", "7", "new"],
+            "item 2 (save 458), after the one before it: no room for block 458: 1 sector is free, and the save and its commit need 3",
+        ),
+        (
+            &["fit", "f.img", "7", "commit", "commit"],
+            "item 3 (commit), after the 2 before it: no room for the commit: no sector is free, and it needs 1",
+        ),
+        (&["fit", "f.img", "new", "7"], "item 1 (save 458): no room for block 458: 2 sectors are free, and the save and its commit need 3"),
+    ];
+    refuse(&folder, 16, &cases);
+}
+
+#[test]
+fn items_that_are_not_there() {
+    let folder = Folder::with_disc("refusal-items");
+    let cases: [(&[&str], &str); 4] = [
+        (&["fit", "d.img", "1"], "item 1 (save 1): block 1 cannot be saved yet: the disc has no blocks yet, and the next new one is 0"),
+        (
+            &["fit", "d.img", "new*3", "commit", "4"],
+            "item 5 (save 4), after the 4 before it: block 4 cannot be saved yet: the disc has 3 blocks, 0 to 2, and the next new one is 3",
+        ),
+        // a number that stands for a commit in the layer's list is a block number here
+        (
+            &["fit", "d.img", "0x80000000"],
+            "item 1 (save 2,147,483,648): block 2,147,483,648 cannot be saved: a write-once disc holds at most 4,096 blocks",
+        ),
+        (
+            &["fit", "d.img", "commit", "4,294,967,295"],
+            "item 2 (save 4,294,967,295), after the one before it: block 4,294,967,295 cannot be saved: a write-once disc holds at most 4,096 \
+             blocks",
+        ),
+    ];
+    refuse(&folder, 12, &cases);
 }
 
 #[test]
@@ -207,7 +252,8 @@ fn calls_for_the_other_kind() {
     ];
     refuse(&folder, 7, &cases);
     let folder = rewritable("refusal-kind-rewritable");
-    let cases: [(&[&str], &str); 4] = [
+    let cases: [(&[&str], &str); 5] = [
+        (&["fit", "d.img", "new", "commit"], "the forecast of saves and commits is for a write-once disc, and this one is rewritable"),
         (&["commit", "d.img"], "the commit is for a write-once disc, and this one is rewritable"),
         (&["free", "d.img", "3"], "the freeing of block 3 is for a write-once disc, and this one is rewritable"),
         (&["history", "d.img"], "a history of commits is for a write-once disc, and this one is rewritable"),

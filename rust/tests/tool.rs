@@ -5,8 +5,10 @@ mod folder;
 use folder::{ended, has, Folder};
 use std::path::Path;
 
-const COMMANDS: [&str; 15] =
-    ["info", "verify", "list", "read", "save", "free", "commit", "spare", "make", "export", "diff", "report", "history", "map", "demo"];
+const COMMANDS: [&str; 16] = [
+    "info", "verify", "list", "read", "fit", "save", "free", "commit", "spare", "make", "export", "diff", "report", "history", "map",
+    "demo",
+];
 
 #[test]
 fn every_command_has_help() {
@@ -85,6 +87,116 @@ fn what_is_not_committed_is_passed_over() {
     folder.is_cut(&["save", "d.img", "new", "text", "--cut", "1:unreadable"], "write 1 of the commit, which became unreadable");
     has(&folder.does(&["info", "d.img"]), "passed over 2");
     assert!(folder.names().contains(&"d.img.marks".to_string()));
+}
+
+/// What `fit` tells is what the commands then come to, and the image is left alone.
+#[test]
+fn a_list_that_fits() {
+    let folder = Folder::with_disc("fit");
+    let before = folder.files();
+    let out = folder.does(&["fit", "d.img", "new*40", "commit"]);
+    assert_eq!(
+        out,
+        "fits: 41 sectors for 40 saves and 1 commit\nthen: N 40, NWA 42, 70 sectors left, 69 new blocks fit, committed together\n"
+    );
+    let out = folder.does(&["fit", "d.img", "0", "new", "1", "commit", "0", "2", "new"]);
+    let expected = "fits: 7 sectors for 6 saves and 1 commit\n\
+                    then: N 4, NWA 8, 104 sectors left, 103 new blocks fit, committed together\n\
+                    what is saved last is not committed: a commit takes 1 sector more\n";
+    assert_eq!(out, expected);
+    has(&folder.does(&["fit", "d.img", "commit"]), "fits: 1 sector for 1 commit");
+    has(&folder.does(&["fit", "d.img", "new*0"]), "fits: 0 sectors for an empty list");
+    has(&folder.does(&["fit", "d.img", "new*109", "commit"]), "then: N 109, NWA 111, 1 sector left, no new block fits");
+    assert_eq!(folder.files(), before);
+    folder.write("forty", &[7; 40 * 2048]);
+    let out = folder.does(&["save", "d.img", "new", "forty"]);
+    let expected = "fits: 41 sectors for 40 saves and 1 commit\nsaved 40 blocks from 0 on\ncommitted: N 40, NWA 42, last ICB 41\n";
+    assert_eq!(out, expected);
+    has(&folder.does(&["info", "d.img"]), "room 69 new blocks fit, committed together");
+    has(&folder.does(&["fit", "d.img", "new", "commit"]), "then: N 41, NWA 44, 68 sectors left, 67 new blocks fit, committed together");
+    // 458 blocks are the last that fit into the ICB
+    folder.does(&["make", "e.img", "--sectors", "2,000", "--write-once"]);
+    has(&folder.does(&["fit", "e.img", "new*458", "commit", "new", "commit"]), "fits: 462 sectors for 459 saves and 2 commits");
+    // what an opening passed over is told as by the other commands
+    folder.does(&["save", "d.img", "0", "text", "--no-commit"]);
+    assert!(folder.does(&["fit", "d.img", "commit"]).contains("warning       1 sector was passed over"));
+}
+
+#[test]
+fn wrong_items() {
+    let folder = Folder::with_disc("fit-usage");
+    for word in ["news", "new*", "new*x", "new40", "commits", "-1", "1.5", "*", ""] {
+        folder.usage(&["fit", "d.img", "0", word]);
+    }
+    assert!(folder.usage(&["fit", "d.img"]).starts_with("ITEM is missing"));
+    assert!(folder.usage(&["fit", "d.img", "old"]).starts_with("ITEM: old is no block number, and not new, new*COUNT or commit\n"));
+}
+
+/// Several blocks that do not all fit are refused before any is saved.
+#[test]
+fn saves_that_do_not_fit() {
+    let folder = Folder::with_disc("save-fit");
+    folder.write("some", &[7; 100 * 2048]);
+    folder.does(&["save", "d.img", "new", "some"]);
+    folder.write("many", &[8; 12 * 2048]);
+    folder.turns_away(
+        &["save", "d.img", "new", "many"],
+        &["no room for block 109: 1 sector is free, and the save and its commit need 2; of 12 blocks the first 9 would fit, and nothing was written\n"],
+    );
+    folder.turns_away(&["save", "d.img", "50", "many", "--no-commit"], &["no room for block 59: ", "of 12 blocks the first 9 would fit"]);
+    folder.turns_away(&["save", "d.img", "new", "many", "--cut", "1:old"], &["no room for block 109: ", "(01, line 16)\n"]);
+    // numbers that are not there, from the first block on
+    folder.turns_away(
+        &["save", "d.img", "101", "many"],
+        &["block 101 cannot be saved yet: the disc has 100 blocks, 0 to 99, and the next new one is 100\n"],
+    );
+    folder.turns_away(&["save", "d.img", "0x80000000", "many"], &["block 2,147,483,648 cannot be saved", "(01, line 12)\n"]);
+    folder.turns_away(&["save", "d.img", "0xffffffff", "many"], &["block 4,294,967,295 cannot be saved", "(01, line 12)\n"]);
+    folder.write("nine", &[8; 9 * 2048]);
+    has(&folder.does(&["save", "d.img", "new", "nine"]), "committed: N 109, NWA 112, last ICB 111");
+}
+
+/// Of several files each begins at a block of its own; they are forecast together.
+#[test]
+fn several_files() {
+    let folder = Folder::with_disc("save-files");
+    folder.write("long", &[7; 2049]);
+    folder.write("short", b"two");
+    let out = folder.does(&["save", "d.img", "new", "text", "long", "short"]);
+    assert_eq!(out, "fits: 5 sectors for 4 saves and 1 commit\nsaved 4 blocks from 0 on\ncommitted: N 4, NWA 6, last ICB 5\n");
+    let out = folder.does(&["read", "d.img", "0", "4", "--output", "all"]);
+    assert_eq!(out, "");
+    let filled = |bytes: &[u8], length: usize| [bytes, &vec![0; length - bytes.len()]].concat();
+    assert_eq!(folder.bytes("all"), [filled(b"one", 2048), filled(&[7; 2049], 4096), filled(b"two", 2048)].concat());
+    let out = folder.does(&["save", "d.img", "1", "short", "text", "--no-commit"]);
+    assert_eq!(out, "fits: 2 sectors for 2 saves\nsaved 2 blocks from 1 on; not committed, so an opening does not find it\n");
+    // a second file that is not there, or does not fit
+    folder.turns_away(&["save", "d.img", "new", "text", "none"], &["none"]);
+    folder.write("most", &[7; 102 * 2048]);
+    folder.turns_away(
+        &["save", "d.img", "new", "text", "most", "text"],
+        &["no room for block 107: 1 sector is free, and the save and its commit need 2; of 104 blocks the first 103 would fit, and nothing was written\n"],
+    );
+    // on a rewritable disc too, where nothing is forecast
+    folder.does(&["make", "r.img", "--sectors", "640", "--tables", "0,32", "--spares", "64,96,128,160"]);
+    let out = folder.does(&["save", "r.img", "3", "text", "short"]);
+    assert_eq!(out, "saved 2 blocks from 3 on\n");
+}
+
+/// A disc holds 4,096 blocks.
+#[test]
+fn more_blocks_than_a_disc_holds() {
+    let folder = Folder::new("save-most");
+    folder.does(&["make", "d.img", "--sectors", "9,000", "--write-once"]);
+    has(&folder.does(&["fit", "d.img", "new*4,096", "commit"]), "fits: 4,106 sectors for 4,096 saves and 1 commit");
+    let line = folder.refuses(12, &["fit", "d.img", "new*4294967295"]);
+    let sentence = "block 4,096 cannot be saved: a write-once disc holds at most 4,096 blocks";
+    assert_eq!(line, format!("item 4,097 (save 4,096), after the 4,096 before it: {sentence}"));
+    folder.write("some", &[7; 10 * 2048]);
+    folder.write("most", &[7; 4_090 * 2048]);
+    folder.does(&["save", "d.img", "new", "most"]);
+    let words = folder.refuses(12, &["save", "d.img", "new", "some"]);
+    assert_eq!(words, format!("{sentence}; of 10 blocks the first 6 would fit, and nothing was written"));
 }
 
 #[test]

@@ -1,8 +1,8 @@
 //! The safe wrapper: records, cuts, refusals, lists of calls, the CRC.
 
 use tuormik::{
-    crc, crc_by_bytes, crc_by_words, crc_word, look_up, read_maps, write_maps, Call, Cut, Disc, DiscRef, Effect, Error, Held, Maps, Open,
-    Record, Refusal, BLANK, NONE, PACKET_BYTES, SECTOR, UNREADABLE,
+    crc, crc_by_bytes, crc_by_words, crc_word, look_up, read_maps, write_maps, Call, Cut, Disc, DiscRef, Effect, Error, Forecast, Held,
+    Maps, Open, Record, Refusal, BLANK, COMMIT, NONE, PACKET_BYTES, SECTOR, UNREADABLE,
 };
 
 struct Memory {
@@ -74,6 +74,7 @@ fn after_a_cut_the_disc_is_opened_again() {
     assert_eq!(open.read(0), Err(Error::PowerOff));
     assert_eq!(open.commit(), Err(Error::PowerOff));
     assert_eq!(open.fullness(), Err(Error::PowerOff));
+    assert_eq!(open.forecast(&[]), Err(Error::PowerOff));
     assert_eq!(open.open_again(), Ok(()));
     assert_eq!(open.record(), once(1, 4, 2, 1));
     assert_eq!(open.read(0), Ok([1; SECTOR]));
@@ -99,6 +100,43 @@ fn a_rewritable_disc() {
     assert_eq!(open.free_virtual(0), Err(refused(Refusal::OtherKind)));
     assert_eq!(open.commit(), Err(refused(Refusal::OtherKind)));
     assert_eq!(open.fullness(), Err(refused(Refusal::OtherKind)));
+    for items in [&[][..], &[0], &[COMMIT]] {
+        assert_eq!(open.forecast(items), Err(refused(Refusal::OtherKind)));
+    }
+}
+
+/// What a list would come to is told without changing the disc, and is what carrying it out comes to (document 02, slip 9).
+#[test]
+fn a_forecast() {
+    let mut memory = Memory::once();
+    let before = (memory.bytes.clone(), memory.marks.clone());
+    let mut open = memory.disc().open().expect("it opens");
+    let fits = |next, entries| Ok(Forecast::Fits { next, entries });
+    let stops = |index, why| Ok(Forecast::Stops { index, why });
+    assert_eq!(open.forecast(&[]), fits(1, 0));
+    assert_eq!(open.forecast(&[0, 1, 0, COMMIT]), fits(5, 2));
+    assert_eq!(open.forecast(&[NONE, COMMIT + 1, 0, COMMIT]), fits(5, 1));
+    assert_eq!(open.forecast(&[0, 2, 1]), stops(1, Refusal::NumberOutside));
+    assert_eq!(open.forecast(&[COMMIT - 1]), stops(0, Refusal::NumberOutside));
+    // of 50 sectors one is recorded: 48 saves leave one for the commit
+    let new: Vec<u32> = (0..60).collect();
+    assert_eq!(open.forecast(&new), stops(48, Refusal::NoRoom));
+    assert_eq!(open.forecast(&[&new[..48], &[COMMIT]].concat()), fits(50, 48));
+    assert_eq!(open.forecast(&[&new[..48], &[COMMIT, COMMIT]].concat()), stops(49, Refusal::NoRoom));
+    // line 12 stands before line 16
+    assert_eq!(open.forecast(&[&new[..48], &[49]].concat()), stops(48, Refusal::NumberOutside));
+    assert_eq!(open.forecast(&vec![COMMIT; 100_000]), stops(49, Refusal::NoRoom));
+    assert_eq!((open.disc().bytes.to_vec(), open.disc().marks.to_vec()), before);
+    assert_eq!((open.record(), open.table()), (once(0, 1, 0, 0), [].as_slice()));
+
+    for v in [0, 1, 0] {
+        assert_eq!(open.save_virtual(v, &[9; SECTOR]), Ok(()));
+    }
+    assert_eq!(open.commit(), Ok(()));
+    assert_eq!(open.record(), once(2, 5, 4, 0));
+    assert_eq!(open.disc().to_read().open().expect("it opens").forecast(&[2, COMMIT]), fits(7, 3));
+    let open = Open::resume(memory.disc(), &[], once(2, 4, 0, 0));
+    assert_eq!(open.forecast(&[]), Err(refused(Refusal::StaleRecord)));
 }
 
 /// A block that was never recorded is not told as one that cannot be read (document 02, slip 5).

@@ -2,6 +2,7 @@
 
 use super::args::{Args, EFFECTS};
 use super::commits::{self, chain};
+use super::fit::{self, Told};
 use super::media::Layout;
 use super::passed::{need_force, Passed};
 use super::picture::Picture;
@@ -33,7 +34,7 @@ pub fn load(args: &Args, path: &Path) -> Result<Image, Failure> {
 }
 
 /// The image that a command's first word names.
-fn load_next(args: &mut Args) -> Result<Image, Failure> {
+pub fn load_next(args: &mut Args) -> Result<Image, Failure> {
     let path = args.next_path("IMAGE")?;
     load(args, &path)
 }
@@ -240,19 +241,44 @@ pub fn save(args: &mut Args, out: &mut dyn Write) -> Done {
     known(args, &["--no-commit", "--packet", "--cut", "--force"])?;
     let mut image = load_to_write(args)?;
     let word = args.next_word().ok_or_else(|| Failure::Usage("NUMBER is missing".into()))?;
-    let path = args.next_path("FILE")?;
-    args.end()?;
+    let mut paths = vec![args.next_path("FILE")?];
+    paths.extend(std::iter::from_fn(|| args.next_word()).map(PathBuf::from));
     let cut = args.cut()?;
     let (packet, commits) = (args.has("--packet"), !args.has("--no-commit"));
     let is_forced = args.has("--force") || !commits;
-    let mut bytes = input_for(&image, &path, packet)?;
-    bytes.resize(bytes.len().next_multiple_of(SECTOR), 0);
-    let save = |open| save_all(open, &word.to_string_lossy(), &bytes, packet, commits, cut);
+    let mut bytes = Vec::new();
+    for path in &paths {
+        bytes.extend(input_for(&image, path, packet)?);
+        bytes.resize(bytes.len().next_multiple_of(SECTOR), 0);
+    }
+    let save = |open| save_all(open, &word.to_string_lossy(), &bytes, packet, commits, cut, out);
     let answer = open_to_commit(&mut image, is_forced).and_then(save);
     finish(&mut image, answer, cut, out)
 }
 
-fn save_all(mut open: Open, word: &str, bytes: &[u8], packet: bool, commits: bool, cut: Cut) -> Result<String, Failure> {
+/// Blocks that are saved together, with their commit, must all fit: where one does not, nothing is written. Tells what they take.
+fn need_fit(open: &Open, first: u32, count: usize, commits: bool) -> Result<String, Failure> {
+    let saves = (0..count as u32).map(|i| Asked::SaveVirtual(first.saturating_add(i)));
+    let calls: Vec<Asked> = saves.chain(commits.then_some(Asked::Commit)).collect();
+    match fit::ask(open.into(), |items| open.forecast(items), &calls)? {
+        Told::Fits { next, .. } => Ok(fit::takes_words(open.into(), &calls, next)),
+        Told::Stops { index: 0, words, why } => Err(Failure::Refused(words, why)),
+        Told::Stops { index, words, why } => {
+            let would_fit = format!("of {} the first {} would fit, and nothing was written", counted(count, "block"), grouped(index));
+            Err(Failure::Refused(format!("{words}; {would_fit}"), why))
+        }
+    }
+}
+
+fn save_all(
+    mut open: Open,
+    word: &str,
+    bytes: &[u8],
+    packet: bool,
+    commits: bool,
+    cut: Cut,
+    out: &mut dyn Write,
+) -> Result<String, Failure> {
     let is_once = View::from(&open).is_write_once();
     let first = match word {
         "new" if is_once => open.record().entries(),
@@ -260,6 +286,10 @@ fn save_all(mut open: Open, word: &str, bytes: &[u8], packet: bool, commits: boo
     };
     let unit = if packet { PACKET_BYTES } else { SECTOR };
     let count = bytes.len() / unit;
+    if is_once && !packet && count > 1 {
+        writeln!(out, "{}", need_fit(&open, first, count, commits)?)?;
+        out.flush()?;
+    }
     let mut progress = Progress::new("blocks saved");
     // the cut is in the last call that writes
     let cut_of = |is_last: bool| if is_last { cut } else { Cut::NONE };

@@ -18,6 +18,7 @@ pub enum Asked {
     /// a packet's first block, and the bytes that are given for it
     SparePacket(u32, usize),
     Fullness,
+    Forecast,
 }
 
 impl Asked {
@@ -30,14 +31,15 @@ impl Asked {
             Asked::SavePacket(n) => format!("the save of the packet of block {}", grouped(n)),
             Asked::SparePacket(n, _) => format!("the sparing of the packet of block {}", grouped(n)),
             Asked::Fullness => "the question how full the disc is".to_string(),
+            Asked::Forecast => "the forecast of saves and commits".to_string(),
         }
     }
 
-    fn number(self) -> u32 {
+    pub fn number(self) -> u32 {
         match self {
             Asked::Read(n) | Asked::SaveVirtual(n) | Asked::Free(n) => n,
             Asked::SaveBlock(n) | Asked::SavePacket(n) | Asked::SparePacket(n, _) => n,
-            Asked::Commit | Asked::Fullness => 0,
+            Asked::Commit | Asked::Fullness | Asked::Forecast => 0,
         }
     }
 }

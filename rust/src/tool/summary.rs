@@ -288,7 +288,8 @@ fn blocks_json(blocks: Counts) -> [(&'static str, Json); 3] {
     ]
 }
 
-fn room_words(entries: usize, fits: usize) -> String {
+/// How many new blocks fit.
+pub fn room_words(entries: usize, fits: usize) -> String {
     match fits {
         0 if entries == tuormik::MOST_ENTRIES => format!("no new block: a disc holds at most {}", grouped(entries)),
         0 => "no new block fits".to_string(),
