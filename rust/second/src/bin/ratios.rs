@@ -97,7 +97,7 @@ struct Rows {
 impl Rows {
     fn add(&mut self, name: &str, times: Result<Times, String>) -> Result<(), String> {
         let times = times.map_err(|why| format!("{name}: {why}"))?;
-        eprintln!("  {name}: {:.2}", times.ratio());
+        eprintln!("  {name}: {}", shown(times.ratio()));
         let at = match self.rows.iter().position(|row| row.0 == name) {
             Some(at) => at,
             None => {
@@ -120,6 +120,12 @@ fn duration(time: Duration) -> String {
         _ if ns < 1e9 => format!("{:.1} ms", ns / 1e6),
         _ => format!("{:.2} s", ns / 1e9),
     }
+}
+
+/// A ratio to two places; below a hundredth to two digits.
+fn shown(ratio: f64) -> String {
+    let places = if ratio > 0.0 && ratio < 0.01 { (1.0 - ratio.log10().floor()) as usize } else { 2 };
+    format!("{ratio:.places$}")
 }
 
 /// User data: bytes that no sector of which has a tag.
@@ -420,12 +426,12 @@ fn print_crcs(rows: &[CrcTimes]) {
 }
 
 fn print_tables(sizes: &[usize], rows: &Rows, crc: Times) {
-    let shown = sizes.iter().position(|&n| n == 333_000).unwrap_or(sizes.len() - 1);
-    println!("| call, on a disc of {} sectors | plain | proved | ratio |", grouped(sizes[shown]));
+    let column = sizes.iter().position(|&n| n == 333_000).unwrap_or(sizes.len() - 1);
+    println!("| call, on a disc of {} sectors | plain | proved | ratio |", grouped(sizes[column]));
     println!("|---|---:|---:|---:|");
     for (name, times) in &rows.rows {
-        if let Some(Some(t)) = times.get(shown) {
-            println!("| {name} | {} | {} | {:.2} |", duration(t.plain), duration(t.proved), t.ratio());
+        if let Some(Some(t)) = times.get(column) {
+            println!("| {name} | {} | {} | {} |", duration(t.plain), duration(t.proved), shown(t.ratio()));
         }
     }
     println!(
@@ -440,7 +446,7 @@ fn print_tables(sizes: &[usize], rows: &Rows, crc: Times) {
     println!("|---|{}", "---:|".repeat(sizes.len()));
     for (name, times) in &rows.rows {
         let cells = (0..sizes.len()).map(|i| match times.get(i) {
-            Some(Some(t)) => format!("{} ({:.2})", duration(t.proved), t.ratio()),
+            Some(Some(t)) => format!("{} ({})", duration(t.proved), shown(t.ratio())),
             _ => String::new(),
         });
         println!("| {name} | {} |", cells.collect::<Vec<_>>().join(" | "));
