@@ -89,7 +89,7 @@ pub fn commit(
         return Reply::Refused(why);
     }
     let span = seen.volume.span;
-    if !once_room::has_commit_room(span.length, held) {
+    if !room::has_commit_room(span.length, held) {
         return Reply::Refused(Refusal::NoRoom);
     }
     write_vat(disc, marks, span.start, table, held, cut);
@@ -97,5 +97,5 @@ pub fn commit(
     if disc_writes::is_struck(cut, vat_file_written::data_sectors(n) + 1) {
         return Reply::Cut;
     }
-    Reply::Done(once_room::committed(held))
+    Reply::Done(room::committed(held))
 }

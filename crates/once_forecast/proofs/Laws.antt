@@ -23,7 +23,7 @@ use Rattle.model.specs.Once.{entriesHeld, nextHeld, onceVerdict, countAfter, nu
 use Rattle.model.specs.Forecast.{isCommit, itemTests, itemRecord, itemBy, forecastFrom, forecastBy, forecast}
 use Rattle.model.proofs.Basics.{by-bool}
 use Rattle.model.proofs.OnceSave.{saved-few}
-use Rattle.once_room.proofs.Laws.{number-low}
+use Rattle.room.proofs.Laws.{number-low}
 
 -- ---- an item
 

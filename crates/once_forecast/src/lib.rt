@@ -1,5 +1,5 @@
 // Will this trial fit (02, slip 9): what a list of saves and commits would come to on a write-once disc. It relies on
-// once_room for what each of them takes, as the calls themselves do, and looks at marks and table once, however long
+// room for what each of them takes, as the calls themselves do, and looks at marks and table once, however long
 // the list is. It writes nothing, and has no requires.
 use address::VirtualAddress;
 use model::Forecast;
@@ -31,16 +31,16 @@ fn judge_item(l: u32, held: Record, x: u32) -> Verdict
     ensures { λ r. ⌜ ((maps : List ℕ) (s : ℕ) → r ≡ first (itemTests (setting maps s l) held x)) ⌝ }
 {
     if is_commit(x) {
-        if !once_room::has_commit_room(l, held) {
+        if !room::has_commit_room(l, held) {
             return Verdict::Stop(Refusal::NoRoom);
         }
         return Verdict::Go;
     }
     let v = VirtualAddress(x);
-    if !once_room::is_number(held, v) {
+    if !room::is_number(held, v) {
         return Verdict::Stop(Refusal::NumberOutside);
     }
-    if !once_room::has_room(l, held, v) {
+    if !room::has_room(l, held, v) {
         return Verdict::Stop(Refusal::NoRoom);
     }
     Verdict::Go
@@ -52,9 +52,9 @@ fn after_item(held: Record, x: u32) -> Record
     ensures { λ r. ⌜ r ≡ itemRecord held x ⌝ }
 {
     if is_commit(x) {
-        return once_room::committed(held);
+        return room::committed(held);
     }
-    once_room::saved(held, VirtualAddress(x))
+    room::saved(held, VirtualAddress(x))
 }
 
 // Goes through the items up to the first that would be refused. Each before it raises NWA, which stays within L: so the

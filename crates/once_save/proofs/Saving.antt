@@ -23,7 +23,7 @@ use Rattle.model.specs.Once.{entriesHeld, nextHeld, countAfter, numberFits, roo
 use Rattle.model.proofs.Basics.{and-true}
 use Rattle.vat_read.specs.File.{Lent}
 use Rattle.examine.proofs.Calls.{Common}
-use Rattle.once_room.proofs.Laws.{number-low}
+use Rattle.room.proofs.Laws.{number-low}
 
 -- ---- line 3 of a save
 

@@ -34,14 +34,14 @@ fn judge_save(
     requires { ⌜ entriesHeld held ≤ 4096 ⌝ }
     ensures { λ r. ⌜ ((maps : List ℕ) → r ≡ first (saveTests (setting maps (span .start) (span .length)) (discOf (now (disc .entry)) (now (marks .entry))) held (v .0) (now (block .entry)))) ⌝ }
 {
-    if !once_room::is_number(held, v) {
+    if !room::is_number(held, v) {
         return Verdict::Stop(Refusal::NumberOutside);
     }
     let next = examine::next_held(held);
     if vat_read::passes(disc, marks, span.start, next, block) {
         return Verdict::Stop(Refusal::PassesAsIcb);
     }
-    if !once_room::has_room(span.length, held, v) {
+    if !room::has_room(span.length, held, v) {
         return Verdict::Stop(Refusal::NoRoom);
     }
     Verdict::Go
@@ -82,5 +82,5 @@ pub fn save_virtual(
         return Reply::Cut;
     }
     table[v.0 as usize] = next.0;
-    Reply::Done(once_room::saved(held, v))
+    Reply::Done(room::saved(held, v))
 }

@@ -7,7 +7,7 @@ use Rattle.model.specs.Examine.{Setting, setting, lentTable}
 use Rattle.model.specs.Once.{onceVerdict, commitTests}
 use Rattle.model.proofs.Plans.{refused}
 use Rattle.examine.proofs.Calls.{table-long}
-use Rattle.once_room.proofs.Laws.{data-few}
+use Rattle.room.proofs.Laws.{data-few}
 use Rattle.once_commit.proofs.Commits.{commit-stops, commit-few, commit-full, commit-fits, Commits, commits, commit-refused, commit-start, commit-cut, commit-done}
 use borrow.Author.Needs.{needs}
 use Rattle.once_commit.proofs.commit.Statement.{statement}

@@ -2,7 +2,7 @@
 use mathlib.Core.Path.{sym, _∙_}
 use borrow.Author.Needs.{needs}
 use borrow.Author.Tests.{not-false}
-use Rattle.once_room.proofs.Laws.{number-low}
+use Rattle.room.proofs.Laws.{number-low}
 use Rattle.once_forecast.proofs.Laws.{commit-full, commit-fits, save-outside, save-full, save-fits}
 use Rattle.once_forecast.proofs.judge_item.Statement.{statement}
 use Rattle.once_forecast.proofs.judge_item.Tie as tie

@@ -6,7 +6,7 @@ use borrow.Author.Needs.{needs}
 use borrow.Author.Tests.{not-false}
 use Rattle.model.specs.Disc.{Disc, disc}
 use Rattle.model.specs.Examine.{Setting, setting}
-use Rattle.once_room.proofs.Laws.{number-low}
+use Rattle.room.proofs.Laws.{number-low}
 use Rattle.once_save.proofs.Saving.{save-outside, save-passes, save-full, save-fits}
 use Rattle.once_save.proofs.judge_save.Statement.{statement}
 use Rattle.once_save.proofs.judge_save.Tie as tie

@@ -1,9 +1,9 @@
--- `once_room::committed` meets its contract. Assumes nothing.
+-- `room::committed` meets its contract. Assumes nothing.
 use native.Mathlib.Omega.{arith}
 use borrow.Author.Needs.{needs}
-use Rattle.once_room.proofs.Laws.{icb-near, committed-same}
-use Rattle.once_room.proofs.committed.Statement.{statement}
-use Rattle.once_room.proofs.committed.Tie as tie
+use Rattle.room.proofs.Laws.{icb-near, committed-same}
+use Rattle.room.proofs.committed.Statement.{statement}
+use Rattle.room.proofs.committed.Tie as tie
 
 entries-held-requires : tie.Need-entries-held-requires
 entries-held-requires c κs = search needs

@@ -1,11 +1,11 @@
--- `once_room::has_room` meets its contract. Assumes nothing.
+-- `room::has_room` meets its contract. Assumes nothing.
 use Prim.Native.Nat.{_≤_}
 use native.Mathlib.Omega.{arith}
 use borrow.Author.Needs.{needs}
 use Rattle.model.proofs.OnceSave.{saved-few}
-use Rattle.once_room.proofs.Laws.{room-after}
-use Rattle.once_room.proofs.has_room.Statement.{statement}
-use Rattle.once_room.proofs.has_room.Tie as tie
+use Rattle.room.proofs.Laws.{room-after}
+use Rattle.room.proofs.has_room.Statement.{statement}
+use Rattle.room.proofs.has_room.Tie as tie
 
 entries-held-requires : tie.Need-entries-held-requires
 entries-held-requires c κs = search needs

@@ -1,8 +1,8 @@
--- `once_room::is_number` meets its contract. Assumes nothing.
+-- `room::is_number` meets its contract. Assumes nothing.
 use borrow.Author.Needs.{needs}
-use Rattle.once_room.proofs.Laws.{number-beyond, number-known}
-use Rattle.once_room.proofs.is_number.Statement.{statement}
-use Rattle.once_room.proofs.is_number.Tie as tie
+use Rattle.room.proofs.Laws.{number-beyond, number-known}
+use Rattle.room.proofs.is_number.Statement.{statement}
+use Rattle.room.proofs.is_number.Tie as tie
 
 entries-held-requires : tie.Need-entries-held-requires
 entries-held-requires c κs = search needs

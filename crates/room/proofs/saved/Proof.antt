@@ -1,8 +1,8 @@
--- `once_room::saved` meets its contract. Assumes nothing.
+-- `room::saved` meets its contract. Assumes nothing.
 use borrow.Author.Needs.{needs}
-use Rattle.once_room.proofs.Laws.{saved-same}
-use Rattle.once_room.proofs.saved.Statement.{statement}
-use Rattle.once_room.proofs.saved.Tie as tie
+use Rattle.room.proofs.Laws.{saved-same}
+use Rattle.room.proofs.saved.Statement.{statement}
+use Rattle.room.proofs.saved.Tie as tie
 
 entries-held-requires : tie.Need-entries-held-requires
 entries-held-requires c κs = search needs

@@ -1,8 +1,8 @@
--- `once_room::count_after` meets its contract. Assumes nothing.
+-- `room::count_after` meets its contract. Assumes nothing.
 use borrow.Author.Needs.{needs}
-use Rattle.once_room.proofs.Laws.{count-adds, count-keeps}
-use Rattle.once_room.proofs.count_after.Statement.{statement}
-use Rattle.once_room.proofs.count_after.Tie as tie
+use Rattle.room.proofs.Laws.{count-adds, count-keeps}
+use Rattle.room.proofs.count_after.Statement.{statement}
+use Rattle.room.proofs.count_after.Tie as tie
 
 add-result : tie.Need-add-result
 add-result c = search needs

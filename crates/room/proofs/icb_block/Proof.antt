@@ -1,9 +1,9 @@
--- `once_room::icb_block` meets its contract. Assumes nothing.
+-- `room::icb_block` meets its contract. Assumes nothing.
 use native.Mathlib.Omega.{arith}
-use Rattle.once_room.proofs.Laws.{data-few, icb-same}
+use Rattle.room.proofs.Laws.{data-few, icb-same}
 use borrow.Author.Needs.{needs}
-use Rattle.once_room.proofs.icb_block.Statement.{statement}
-use Rattle.once_room.proofs.icb_block.Tie as tie
+use Rattle.room.proofs.icb_block.Statement.{statement}
+use Rattle.room.proofs.icb_block.Tie as tie
 
 next-held-requires : tie.Need-next-held-requires
 next-held-requires c κs = search needs
