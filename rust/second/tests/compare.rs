@@ -3,7 +3,7 @@
 //! `TUORMIK_SEED` and `TUORMIK_CASES` choose another seed and number of cases; the program `compare` does the same with progress.
 
 use tuormik::{BLANK, COMMIT, NONE, PACKET, RECORDED};
-use tuormik_second::compare::{compare_cases, Tally, FORECAST_TELLS, IN_A_LIST};
+use tuormik_second::compare::{compare_cases, Difference, Tally, FORECAST_TELLS, IN_A_LIST};
 use tuormik_second::layer::{Layer, PLAIN, PROVED};
 
 const SEED: u64 = 20_040_182;
@@ -81,11 +81,17 @@ fn a_difference_is_found_and_cut_down() {
         answer
     }
     let wrong = Layer { name: "wrong", commit: commit_that_forgets, ..PLAIN };
-    match compare_cases(&wrong, &PLAIN, SEED, 0..200, |_, _| {}) {
-        Ok(_) => panic!("no difference was found"),
+    let difference = is_found(&wrong, 200, "the record differs");
+    assert!(difference.steps() <= 3, "{difference}");
+}
+
+/// In so many cases a difference to the plain implementation is found, told with these words.
+fn is_found(wrong: &Layer, cases: u64, words: &str) -> Box<Difference> {
+    match compare_cases(wrong, &PLAIN, SEED, 0..cases, |_, _| {}) {
+        Ok(_) => panic!("{}: no difference was found", wrong.name),
         Err(difference) => {
-            assert!(difference.steps() <= 3, "{difference}");
-            assert!(difference.to_string().contains("the record differs"), "{difference}");
+            assert!(difference.to_string().contains(words), "{difference}");
+            difference
         }
     }
 }
@@ -194,10 +200,7 @@ fn other_rules_for_blank_and_unreadable_are_found() {
         read_by("no blank on a rewritable disc", read_without_blank::<64>),
     ];
     for layer in wrong {
-        match compare_cases(&layer, &PLAIN, SEED, 0..1_000, |_, _| {}) {
-            Ok(_) => panic!("{}: no difference was found", layer.name),
-            Err(difference) => assert!(difference.to_string().contains(&format!("then: {} answers", layer.name)), "{difference}"),
-        }
+        is_found(&layer, 1_000, &format!("then: {} answers", layer.name));
     }
 }
 
@@ -270,9 +273,6 @@ fn other_rules_for_forecasts_are_found() {
         by("a result cleared where it is refused", forecast_by::<5>),
     ];
     for layer in wrong {
-        match compare_cases(&layer, &PLAIN, SEED, 0..2_000, |_, _| {}) {
-            Ok(_) => panic!("{}: no difference was found", layer.name),
-            Err(difference) => assert!(difference.to_string().contains("then: what is handed back differs"), "{difference}"),
-        }
+        is_found(&layer, 2_000, "then: what is handed back differs");
     }
 }
