@@ -5,6 +5,10 @@
 //! What the lists come to is also worked out by a formula from document 01's words, and by formulas that are wrong in one place: each of
 //! these is contradicted by a list that is tried here, so a forecast that was wrong there would be found.
 
+#[path = "lists/random.rs"]
+mod random;
+
+use random::Random;
 use tuormik::{BLANK, COMMIT, MOST_ENTRIES, NONE, RECORDED, SECTOR, UNREADABLE};
 use tuormik_second::layer::{Layer, PLAIN, PROVED};
 use tuormik_second::plain;
@@ -14,24 +18,9 @@ const OUTSIDE: u32 = 12;
 const PASSES_AS_ICB: u32 = 15;
 const NO_ROOM: u32 = 16;
 
-/// A random sequence (xorshift64*).
-struct Random(u64);
-
-impl Random {
-    fn next(&mut self) -> u64 {
-        self.0 ^= self.0 >> 12;
-        self.0 ^= self.0 << 25;
-        self.0 ^= self.0 >> 27;
-        self.0.wrapping_mul(0x2545_f491_4f6c_dd1d)
-    }
-
-    fn below(&mut self, n: u32) -> u32 {
-        ((self.next() >> 33) % u64::from(n.max(1))) as u32
-    }
-
-    fn pick<T: Copy>(&mut self, from: &[T]) -> T {
-        from[self.below(from.len() as u32) as usize]
-    }
+/// One of some.
+fn pick<T: Copy>(random: &mut Random, from: &[T]) -> T {
+    from[random.below(from.len() as u32) as usize]
 }
 
 /// All that is lent.
@@ -402,19 +391,19 @@ fn random_lists() {
             0 => random.below(12),
             1 => random.below(MOST + 1),
             2 => MOST - random.below(4),
-            _ => (random.pick(&STEPS) + random.below(6)).saturating_sub(4).min(MOST),
+            _ => (pick(&mut random, &STEPS) + random.below(6)).saturating_sub(4).min(MOST),
         };
         let next = 1 + random.below(30);
-        let room = random.pick(&[1, 4, 12, 60]);
+        let room = pick(&mut random, &[1, 4, 12, 60]);
         let world = World::new(n, next, next + random.below(room) + 1);
-        let (mut known, commit_in) = (n, random.pick(&[2, 5, 30]));
+        let (mut known, commit_in) = (n, pick(&mut random, &[2, 5, 30]));
         let count = random.below(50);
         let items: Vec<u32> = (0..count)
             .map(|_| match random.below(40) {
                 0 => random.next() as u32,
                 1 => known + 1 + random.below(2),
-                2 => random.pick(&[MOST - 1, MOST, MOST + 1, COMMIT - 1]),
-                _ if random.below(commit_in) == 0 => COMMIT | random.pick(&[0, 0, 1, 7, MOST, 0x7fff_ffff]),
+                2 => pick(&mut random, &[MOST - 1, MOST, MOST + 1, COMMIT - 1]),
+                _ if random.below(commit_in) == 0 => COMMIT | pick(&mut random, &[0, 0, 1, 7, MOST, 0x7fff_ffff]),
                 _ if random.below(2) == 0 => {
                     known += 1;
                     known - 1

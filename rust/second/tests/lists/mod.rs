@@ -1,27 +1,14 @@
 //! Random lists of calls, the discs that they are run on, and the plain store of document 01 ("The plain store"), which document 02,
 //! slip 5, gives blank as a fourth reading. It is fed each call's arguments and cut and whether the call was accepted.
 
+mod random;
+
+pub use random::Random;
 use tuormik::{BLANK, MOST_ENTRIES, NONE, PACKET, PACKET_BYTES, RECORDED, SECTOR};
 use tuormik_second::layer::Layer;
 
 /// The reply of a call that was cut.
 pub const CUT: u32 = 255;
-
-/// A random sequence (xorshift64*).
-pub struct Random(pub u64);
-
-impl Random {
-    pub fn next(&mut self) -> u64 {
-        self.0 ^= self.0 >> 12;
-        self.0 ^= self.0 << 25;
-        self.0 ^= self.0 >> 27;
-        self.0.wrapping_mul(0x2545_f491_4f6c_dd1d)
-    }
-
-    pub fn below(&mut self, n: u32) -> u32 {
-        ((self.next() >> 33) % u64::from(n.max(1))) as u32
-    }
-}
 
 /// What the store has of a block.
 #[derive(Clone, PartialEq, Debug)]
