@@ -29,7 +29,9 @@ use Rattle.model.specs.Examples.{zeros}
 use Rattle.model.proofs.Basics.{by-bool}
 use Rattle.model.proofs.Verdicts.{by-verdict, once-stops, once-goes}
 use Rattle.model.proofs.Steps.{plan-stopped, plan-cut, plan-done}
-use Rattle.model.proofs.OnceFits.{Fits, fits, fits-go, saved-fits, committed-fits}
+use Rattle.model.proofs.OnceFits.{Fits, fits, fits-go}
+use Rattle.model.proofs.OnceSave.{saved-fits}
+use Rattle.model.proofs.OnceCommit.{committed-fits}
 
 -- ---- the tests of a save, with line 15 and without it
 
@@ -63,7 +65,7 @@ data Became (e : Setting) (st : State) (x : ℕ) (b : List ℕ) (c : Cut) (r : R
 became-plan : (e : Setting) (st : State) (x : ℕ) (b : List ℕ) (v : Verdict) (ws : List Write) (t : List ℕ) (r : Record) (k : Cut)
     → v ≡ first (itemTests e (st .held) x)
     → r ≡ itemRecord (st .held) x
-    → (first (itemTests e (st .held) x) ≡ Go → struck k (length ws) ≡ false → Fits e (record { disc = writes 1 k ws (st .disc); table = t; held = r }))
+    → (v ≡ Go → struck k (length ws) ≡ false → Fits e (record { disc = writes 1 k ws (st .disc); table = t; held = r }))
     → Became e st x b k (carried (unless v (carry ws t r)) k st)
 became-plan e st x b v ws t r k is left keeps =
     by-verdict v
@@ -73,7 +75,7 @@ became-plan e st x b v ws t r k is left keeps =
     (λ s.
     let all = plan-done ws t r k st g s in
     went (sym is ∙ g) r (ap (λ (y : Result). y .answer) all) (ap (λ (y : Result). y .state .held) all ∙ left)
-    (subst (λ (y : Result). Fits e (y .state)) (sym all) (keeps (sym is ∙ g) s))))
+    (subst (λ (y : Result). Fits e (y .state)) (sym all) (keeps g s))))
     (λ why g. stopped why (sym is ∙ g) (plan-stopped ws t r k st g))
 
 -- a block of 2,048 bytes leaves line 3 to the table
@@ -111,13 +113,13 @@ module _ (e : Setting) (st : State) where
         (λ p q. passing (not-false _ p) (plan-stopped _ _ _ c st (own ∙ q)))
         (λ q.
         became-plan e st v b _ _ _ _ c (own ∙ q ∙ sym (rw not-one)) (sym (rw not-one))
-        (λ g s. saved-fits e st f c v b long (rw not-one at g) s))
+        (λ g s. saved-fits e st v b c g s))
 
     became-commit : (x : ℕ) (b : List ℕ) (c : Cut) → isCommit x ≡ true → Became e st x b c (step e st (commit c))
     unfolding step commitPlan itemTests itemRecord
     became-commit x b c is-one =
         became-plan e st x b _ _ _ _ c (once-goes e d (st .table) _ (st .held) _ common ∙ sym (rw is-one)) (sym (rw is-one))
-        (λ g s. committed-fits e st f c (rw is-one at g) s)
+        (λ g s. committed-fits e st c g s)
 
     became : (x : ℕ) (b : List ℕ) (c : Cut) → length b ≡ 2048 → Became e st x b c (step e st (itemCall x b c))
     unfolding itemCall

@@ -10,6 +10,7 @@ pub mod WrittenVat
 pub mod WrittenVatFile
 pub mod WrittenVatIcb
 pub mod Once
+pub mod OnceFits
 pub mod OnceRead
 pub mod Steps
 pub mod OnceSave
@@ -17,7 +18,6 @@ pub mod OnceOpen
 pub mod OnceCommit
 pub mod OnceDemand
 pub mod OnceRises
-pub mod OnceFits
 pub mod Foretold
 pub mod Wait
 pub mod SparingLists

@@ -126,36 +126,51 @@ kept-write lg s l i b d {a} {bs} κ r z e p =
           ∙ κ .same;
     }
 
--- what a run of writes upward from the first blank block leaves
-pub record Ran (s l i k : ℕ) (d′ d : Disc) (a : ℕ) (bs : List Slot) : Type 0 where
-  pub kept : Kept s l d′ a bs
+-- what a run of writes upward from the first blank block leaves, however it is cut
+pub record Ran (s l i k : ℕ) (d′ d : Disc) : Type 0 where
+  pub shape : shapely d′ ≡ true
+  pub within : inside d′ s l ≡ true
   pub blank : BlankFrom s l d′ (i + k)
   pub agree : Agree s i d′ d
 
--- a run none of whose sectors has the tag of an ICB keeps the VAT, however it is cut
-pub kept-run : (k n : ℕ) (c : Cut) (s l i : ℕ) (b : List ℕ) (at : ℕ) (d : Disc) {a : ℕ} {bs : List Slot} → Kept s l d a bs → i + k ≤ l → BlankFrom s l d i
-    → at + 2048 * k ≤ length b → ((j : ℕ) → j < k → (q : ℕ) → tagFits q (part b (at + 2048 * j) 2048) ≡ false)
-    → Ran s l i k (writes n c (upward k (s + i) b at) d) d a bs
-unfolding upward writes write passes
-kept-run zero n c s l i b at d κ r z e p =
+pub ran-upward : (k n : ℕ) (c : Cut) (s l i : ℕ) (b : List ℕ) (at : ℕ) (d : Disc) → shapely d ≡ true → inside d s l ≡ true → i + k ≤ l → BlankFrom s l d i
+    → at + 2048 * k ≤ length b → Ran s l i k (writes n c (upward k (s + i) b at) d) d
+unfolding upward writes write
+ran-upward zero n c s l i b at d shape within r z e =
     let q : i + 0 ≡ i = omega arith in
-    record { kept = κ; blank = rw q z; agree = record { sectors = λ j h. refl; marks = λ j h. refl } }
-kept-run (suc k) n c s l i b at d {a} {bs} κ r z e p =
+    record { shape = shape; within = within; blank = rw q z; agree = record { sectors = λ j h. refl; marks = λ j h. refl } }
+ran-upward (suc k) n c s l i b at d shape within r z e =
     let x : List ℕ = part b at 2048 in
     let lx : length x ≡ 2048 = length-part b at 2048 (omega arith) in
+    let on : s + i < length (d .marks) = on-disc s l d i within (omega arith) in
     let d₁ : Disc = landed (landing n c) (s + i) x d in
-    let none-here : passes d s i x ≡ false =
-    let q : at + 2048 * 0 ≡ at = omega arith in and-false-left _ (rw q at (p 0 (omega arith) i)) in
-    let κ₁ : Kept s l d₁ a bs = kept-write (landing n c) s l i x d κ (omega arith) z lx (λ _. none-here) in
-    let z₁ : BlankFrom s l d₁ (i + 1) = blank-landed (landing n c) s l i x d z in
     let up : s + i + 1 ≡ s + (i + 1) = omega arith in
     let more : i + 1 + k ≡ i + suc k = omega arith in
-    let rec : Ran s l (i + 1) k (writes (n + 1) c (upward k (s + (i + 1)) b (at + 2048)) d₁) d₁ a bs =
-    kept-run k (n + 1) c s l (i + 1) b (at + 2048) d₁ κ₁ (omega arith) z₁ (omega arith)
-    (λ j h q. let w : at + 2048 + 2048 * j ≡ at + 2048 * suc j = omega arith in rw w (p (suc j) (omega arith) q)) in
+    let rec : Ran s l (i + 1) k (writes (n + 1) c (upward k (s + (i + 1)) b (at + 2048)) d₁) d₁ =
+    ran-upward k (n + 1) c s l (i + 1) b (at + 2048) d₁
+    (landed-shapely (landing n c) (s + i) x d lx on shape) (sym (landed-inside (landing n c) (s + i) x d s l) ∙ within)
+    (omega arith) (blank-landed (landing n c) s l i x d z) (omega arith) in
     rw up
     (record {
-      kept = rec .kept;
+      shape = rec .shape;
+      within = rec .within;
       blank = rw (← more) (rec .blank);
-      agree = agree-trans (agree-less i (omega arith) (rec .agree)) (agree-landed (landing n c) s i x d lx (on-disc s l d i (κ .within) (omega arith)) (shapely-made d (κ .shape)));
+      agree = agree-trans (agree-less i (omega arith) (rec .agree)) (agree-landed (landing n c) s i x d lx on (shapely-made d shape));
     })
+
+-- a run none of whose sectors has the tag of an ICB keeps the VAT
+pub kept-run : (k n : ℕ) (c : Cut) (s l i : ℕ) (b : List ℕ) (at : ℕ) (d : Disc) {a : ℕ} {bs : List Slot} → Kept s l d a bs → i + k ≤ l → BlankFrom s l d i
+    → at + 2048 * k ≤ length b → ((j : ℕ) → j < k → (q : ℕ) → tagFits q (part b (at + 2048 * j) 2048) ≡ false)
+    → Kept s l (writes n c (upward k (s + i) b at) d) a bs
+unfolding upward writes write passes
+kept-run zero n c s l i b at d κ r z e p = κ
+kept-run (suc k) n c s l i b at d κ r z e p =
+    let x : List ℕ = part b at 2048 in
+    let none-here : passes d s i x ≡ false =
+    let q : at + 2048 * 0 ≡ at = omega arith in and-false-left _ (rw q at (p 0 (omega arith) i)) in
+    let up : s + i + 1 ≡ s + (i + 1) = omega arith in
+    rw up
+    (kept-run k (n + 1) c s l (i + 1) b (at + 2048) (landed (landing n c) (s + i) x d)
+    (kept-write (landing n c) s l i x d κ (omega arith) z (length-part b at 2048 (omega arith)) (λ _. none-here))
+    (omega arith) (blank-landed (landing n c) s l i x d z) (omega arith)
+    (λ j h q. let w : at + 2048 + 2048 * j ≡ at + 2048 * suc j = omega arith in rw w (p (suc j) (omega arith) q)))

@@ -14,12 +14,12 @@ use Rattle.fields.proofs.Laws.{part-all}
 use Rattle.model.specs.declared.Cut.{Cut}
 use Rattle.model.specs.declared.Landing.{Landing}
 use Rattle.model.specs.declared.Record.{Record}
-use Rattle.model.specs.Disc.{Disc, recordedRun, joined, nwa}
+use Rattle.model.specs.Disc.{Disc, recordedRun, joined, nwa, shapely, inside}
 use Rattle.model.specs.Writes.{Write, landing, landed, writes, upward, struck}
 use Rattle.model.specs.Vat.{allBelow, belowOrNone, passes, vatIcb, vatFile, entriesOf, previousOf, fileOf}
 use Rattle.model.specs.VatWritten.{dataSectors, writtenFile, writtenData, writtenIcb}
 use Rattle.model.specs.Examine.{Setting, lentTable}
-use Rattle.model.specs.Once.{nextOn, entriesHeld, nextHeld, lastHeld, onceVerdict, roomToCommit, commitTests, icbBlock, commitWrites, commitPlan}
+use Rattle.model.specs.Once.{nextOn, entriesHeld, nextHeld, lastHeld, onceVerdict, roomToCommit, commitTests, icbBlock, commitWrites, committedRecord, commitPlan}
 use Rattle.model.specs.Calls.{commit, State, step}
 use Rattle.model.specs.Store.{Slot, entrySlots, Store, store, Shape, cutIn, writesIn, wasCut, wholeAt, taken}
 use Rattle.model.specs.Consequences.{laysIcb}
@@ -29,14 +29,15 @@ use Rattle.model.proofs.Scan.{below-mono, not-recorded, slots-agree}
 use Rattle.model.proofs.Sectors.{Made, shapely-made, shapely-most, inside-fits, landed-shapely, landed-inside, sector-done, recorded-done, writes-append, writes-one, landing-uncut, landing-done-before}
 use Rattle.model.proofs.SectorsRuns.{joined-agree, recordedRun-agree, length-upward, upward-joined, upward-recordedRun}
 use Rattle.model.proofs.WrittenVat.{length-data, data-enough, length-icb, file-count, file-entries, file-previous, icb-file, icb-passes, data-never}
-use Rattle.model.proofs.Once.{Kept, BlankFrom, Ran, on-disc, agree-landed, blank-landed, next-done, kept-write, kept-run}
-use Rattle.model.proofs.OnceRead.{onceHeld, Live, live-blank, live-last, live-length}
+use Rattle.model.proofs.Once.{Kept, BlankFrom, Ran, on-disc, agree-landed, blank-landed, next-done, kept-write, ran-upward, kept-run}
+use Rattle.model.proofs.OnceFits.{onceHeld, Fits, goes-fits, fits-blank, blocksOf}
+use Rattle.model.proofs.OnceRead.{Live, live-length, live-fits}
 use Rattle.model.proofs.Cuts.{whole-lands, broken-lands, choice-same}
 use Rattle.model.proofs.OnceSave.{OnceOk, once-tells}
 use Rattle.model.proofs.Steps.{Told, told-plan, Sound, sound-plan, sound-carried}
 
 -- a commit of the first n entries of t, from block i₀ on, naming the ICB at `last`
-module _ (s l : ℕ) (d : Disc) (c : Cut) (t : List ℕ) (i₀ last : ℕ) {a : ℕ} {old : List Slot} (κ : Kept s l d a old) (z : BlankFrom s l d i₀)
+module _ (s l : ℕ) (d : Disc) (c : Cut) (t : List ℕ) (i₀ last : ℕ) (shape : shapely d ≡ true) (within : inside d s l ≡ true) (z : BlankFrom s l d i₀)
     (few : length t ≤ 4096) (fresh : allBelow i₀ t ≡ true) (before : last < i₀) (room : i₀ + dataSectors (length t) + 1 ≤ l) where
   -- the number of data sectors, the block of the ICB, the data and the ICB
   abbrev D : ℕ
@@ -59,7 +60,7 @@ module _ (s l : ℕ) (d : Disc) (c : Cut) (t : List ℕ) (i₀ last : ℕ) {a : 
   d₂ = landed (landing (1 + D) c) (s + k) icb d₁
 
   small : k < 1048576
-  small = omega (arith, inside-fits d s l (κ .within) .1, shapely-most d (κ .shape))
+  small = omega (arith, inside-fits d s l within .1, shapely-most d shape)
 
   below-k : allBelow k t ≡ true
   below-k = below-mono i₀ k t (omega arith) fresh
@@ -71,21 +72,24 @@ module _ (s l : ℕ) (d : Disc) (c : Cut) (t : List ℕ) (i₀ last : ℕ) {a : 
   enough : 2048 * D ≤ length body
   enough = data-enough t last
 
-  ran : Ran s l i₀ D d₁ d a old
-  ran = kept-run D 1 c s l i₀ body 0 d κ (omega arith) z (omega (arith, enough)) (λ j h q. let w : 0 + 2048 * j ≡ 2048 * j = omega arith in rw w (data-never t last k below-k before-k small j q))
+  ran : Ran s l i₀ D d₁ d
+  ran = ran-upward D 1 c s l i₀ body 0 d shape within (omega arith) z (omega (arith, enough))
 
   on-k : s + k < length (d₁ .marks)
-  on-k = on-disc s l d₁ k (ran .kept .within) (omega arith)
+  on-k = on-disc s l d₁ k (ran .within) (omega arith)
 
   made₁ : Made d₁
-  made₁ = shapely-made d₁ (ran .kept .shape)
+  made₁ = shapely-made d₁ (ran .shape)
 
   long-icb : length icb ≡ 2048
   long-icb = length-icb t last k
 
   -- where the ICB is not whole the VAT before it is kept
-  pub torn-kept : landing (1 + D) c ≢ Landing.Done → Kept s l d₂ a old
-  torn-kept broken = kept-write (landing (1 + D) c) s l k icb d₁ (ran .kept) (omega arith) (ran .blank) long-icb (λ q. absurd (broken q))
+  pub torn-kept : {a : ℕ} {old : List Slot} → Kept s l d a old → landing (1 + D) c ≢ Landing.Done → Kept s l d₂ a old
+  torn-kept κ broken =
+      kept-write (landing (1 + D) c) s l k icb d₁
+      (kept-run D 1 c s l i₀ body 0 d κ (omega arith) z (omega (arith, enough)) (λ j h q. let w : 0 + 2048 * j ≡ 2048 * j = omega arith in rw w (data-never t last k below-k before-k small j q)))
+      (omega arith) (ran .blank) long-icb (λ q. absurd (broken q))
 
   -- where it is whole the new VAT is found
   module _ (whole : landing (1 + D) c ≡ Landing.Done) where
@@ -105,14 +109,14 @@ module _ (s l : ℕ) (d : Disc) (c : Cut) (t : List ℕ) (i₀ last : ℕ) {a : 
     back = omega arith
 
     fits : s + i₀ + D ≤ length (d .marks)
-    fits = omega (arith, inside-fits d s l (κ .within) .1)
+    fits = omega (arith, inside-fits d s l within .1)
 
     held : 1 ≤ D → joined d₃ (s + (k - D)) D ≡ body
     held h =
         ap (λ (p : ℕ). joined d₃ p D) back
         ∙ joined-agree d₃ d₁ (s + i₀) D
         (λ i q. let w : s + i₀ + i ≡ s + (i₀ + i) = omega arith in rw w (agree₁ .sectors (i₀ + i) (omega arith)))
-        ∙ upward-joined D 1 c (s + i₀) body 0 d (shapely-made d (κ .shape)) fits (omega (arith, enough)) all-done
+        ∙ upward-joined D 1 c (s + i₀) body 0 d (shapely-made d shape) fits (omega (arith, enough)) all-done
         ∙ part-all body (2048 * D) (omega (arith, length-data t last h))
 
     run : recordedRun d₃ (s + (k - D)) D ≡ true
@@ -142,8 +146,8 @@ module _ (s l : ℕ) (d : Disc) (c : Cut) (t : List ℕ) (i₀ last : ℕ) {a : 
     kept₃ : Kept s l d₃ k (entrySlots d s t)
     kept₃ =
         record {
-          shape = landed-shapely Landing.Done (s + k) icb d₁ long-icb on-k (ran .kept .shape);
-          within = sym (landed-inside Landing.Done (s + k) icb d₁ s l) ∙ ran .kept .within;
+          shape = landed-shapely Landing.Done (s + k) icb d₁ long-icb on-k (ran .shape);
+          within = sym (landed-inside Landing.Done (s + k) icb d₁ s l) ∙ ran .within;
           newest = record {
             here = here;
             below = omega arith;
@@ -234,7 +238,9 @@ module _ (e : Setting) (t : List ℕ) (held : Record) (count : entriesHeld held 
       let s : dataSectors (entriesHeld held) ≡ 0 = ap dataSectors count ∙ none in
       no-run _ _ _ _ _ (omega arith) ∙ same-one _ _ _ _ (omega arith) (same-icb _ _ _ _ _ _ (omega arith) (cc) (omega arith))
 
-module _ (e : Setting) (h : Shape) (st : State) (σ : Store) (i : Live e st σ) (c : Cut)
+-- ---- a commit, from any disc, table and record
+
+module _ (e : Setting) (st : State) (c : Cut)
     (goes : onceVerdict e (st .disc) (st .table) (lentTable (st .table)) (st .held) (commitTests e (st .held)) ≡ Go) where
   abbrev t′ : List ℕ
   t′ = take (entriesHeld (st .held)) (st .table)
@@ -245,8 +251,11 @@ module _ (e : Setting) (h : Shape) (st : State) (σ : Store) (i : Live e st σ) 
   abbrev ws : List Write
   ws = commitWrites e t′ (st .held)
 
+  pub commit-from : Fits e st
+  commit-from = goes-fits e st _ _ (λ q. q) goes
+
   count : length t′ ≡ entriesHeld (st .held)
-  count = length-take-le (entriesHeld (st .held)) (st .table) (omega (arith, i .few, i .lent))
+  count = length-take-le (entriesHeld (st .held)) (st .table) (omega (arith, commit-from .few, commit-from .lent))
 
   space : nextHeld (st .held) + D′ + 1 ≤ e .span
   unfolding commitTests roomToCommit
@@ -256,9 +265,9 @@ module _ (e : Setting) (h : Shape) (st : State) (σ : Store) (i : Live e st σ) 
       omega (arith, ap dataSectors count)
 
   few′ : length t′ ≤ 4096
-  few′ = omega (arith, count, i .few)
+  few′ = omega (arith, count, commit-from .few)
 
-  is-disc : writes 1 c ws (st .disc) ≡ d₂ (e .start) (e .span) (st .disc) c t′ (nextHeld (st .held)) (lastHeld (st .held)) (i .kept) (live-blank e st σ i) few′ (i .fresh) (live-last e st σ i) space
+  is-disc : writes 1 c ws (st .disc) ≡ d₂ (e .start) (e .span) (st .disc) c t′ (nextHeld (st .held)) (lastHeld (st .held)) (commit-from .shape) (commit-from .within) (fits-blank e st commit-from) few′ (commit-from .fresh) (commit-from .last) space
   is-disc = commit-disc e t′ (st .held) (sym count) c (st .disc)
 
   number : length ws ≡ D′ + 1
@@ -267,55 +276,107 @@ module _ (e : Setting) (h : Shape) (st : State) (σ : Store) (i : Live e st σ) 
   pub commit-fits : nextHeld (st .held) + length ws ≤ e .span
   commit-fits = omega (arith, number, space)
 
-  told : writesIn h σ (commit c) ≡ D′ + 1
+  -- where its ICB is whole, its VAT is the topmost,
+  whole-commit : landing (1 + D′) c ≡ Landing.Done → Kept (e .start) (e .span) (writes 1 c ws (st .disc)) (nextHeld (st .held) + D′) (blocksOf e st)
+  whole-commit q =
+      rw is-disc
+      (whole-kept (e .start) (e .span) (st .disc) c t′ (nextHeld (st .held)) (lastHeld (st .held)) (commit-from .shape) (commit-from .within) (fits-blank e st commit-from) few′ (commit-from .fresh) (commit-from .last) space q)
+
+  -- and names the one before it,
+  whole-names : landing (1 + D′) c ≡ Landing.Done → previousOf (vatFile (writes 1 c ws (st .disc)) (e .start) (nextHeld (st .held) + D′)) ≡ lastHeld (st .held)
+  whole-names q =
+      rw is-disc
+      (whole-previous (e .start) (e .span) (st .disc) c t′ (nextHeld (st .held)) (lastHeld (st .held)) (commit-from .shape) (commit-from .within) (fits-blank e st commit-from) few′ (commit-from .fresh) (commit-from .last) space q)
+
+  -- NWA is one past it,
+  whole-top : landing (1 + D′) c ≡ Landing.Done → nextOn e (writes 1 c ws (st .disc)) ≡ nextHeld (st .held) + D′ + 1
+  unfolding nextOn
+  whole-top q =
+      rw is-disc
+      (sym (whole-next (e .start) (e .span) (st .disc) c t′ (nextHeld (st .held)) (lastHeld (st .held)) (commit-from .shape) (commit-from .within) (fits-blank e st commit-from) few′ (commit-from .fresh) (commit-from .last) space q))
+
+  -- and the blocks are as before it
+  whole-now : landing (1 + D′) c ≡ Landing.Done → entrySlots (writes 1 c ws (st .disc)) (e .start) t′ ≡ blocksOf e st
+  whole-now q =
+      rw is-disc
+      (slots-agree t′
+      (whole-agree (e .start) (e .span) (st .disc) c t′ (nextHeld (st .held)) (lastHeld (st .held)) (commit-from .shape) (commit-from .within) (fits-blank e st commit-from) few′ (commit-from .fresh) (commit-from .last) space q)
+      (commit-from .fresh))
+
+  -- uncut, the invariant holds after it, whatever was before
+  pub committed-live : struck c (length ws) ≡ false
+      → Live e (record { disc = writes 1 c ws (st .disc); table = st .table; held = committedRecord (st .held) }) (store (blocksOf e st) (blocksOf e st))
+  unfolding onceHeld entriesHeld nextHeld lastHeld icbBlock
+  committed-live q =
+      let w : landing (1 + D′) c ≡ Landing.Done = landing-uncut (1 + D′) (length ws) c q (omega arith) (omega (arith, number)) in
+      let k′ : nextHeld (st .held) + D′ ≡ icbBlock (st .held) = omega (arith, ap dataSectors count) in
+      record {
+        once = refl;
+        kept = subst (λ (x : ℕ). Kept (e .start) (e .span) (writes 1 c ws (st .disc)) x (blocksOf e st)) k′ (whole-commit w);
+        top = ap (λ (x : ℕ). x + 1) (sym k′) ∙ sym (whole-top w);
+        fresh = below-mono (nextHeld (st .held)) _ t′ (omega arith) (commit-from .fresh);
+        few = commit-from .few;
+        lent = commit-from .lent;
+        now = whole-now w;
+      }
+
+  -- and so do lines 1 to 7 and 11
+  pub committed-fits : struck c (length ws) ≡ false → Fits e (record { disc = writes 1 c ws (st .disc); table = st .table; held = committedRecord (st .held) })
+  committed-fits q = live-fits e (commit-from .kind) (commit-from .maps) _ _ (committed-live q)
+
+-- ---- a commit, between calls
+
+module _ (e : Setting) (h : Shape) (st : State) (σ : Store) (i : Live e st σ) (c : Cut)
+    (goes : onceVerdict e (st .disc) (st .table) (lentTable (st .table)) (st .held) (commitTests e (st .held)) ≡ Go) where
+  abbrev D″ : ℕ
+  D″ = D′ e st c goes
+
+  told : writesIn h σ (commit c) ≡ D″ + 1
   unfolding writesIn
-  told = ap (λ (n : ℕ). dataSectors n + 1) (live-length e st σ i ∙ sym count)
+  told = ap (λ (n : ℕ). dataSectors n + 1) (live-length e st σ i ∙ sym (count e st c goes))
 
   -- the plain store counts the writes of a commit
-  pub commit-count : writesIn h σ (commit c) ≡ length ws
-  commit-count = told ∙ sym number
+  pub commit-count : writesIn h σ (commit c) ≡ length (ws e st c goes)
+  commit-count = told ∙ sym (number e st c goes)
 
-  whole-commit : landing (1 + D′) c ≡ Landing.Done → Kept (e .start) (e .span) (writes 1 c ws (st .disc)) (nextHeld (st .held) + D′) (σ .blocks)
-  whole-commit q =
-      rw (is-disc, ← i .now)
-      (whole-kept (e .start) (e .span) (st .disc) c t′ (nextHeld (st .held)) (lastHeld (st .held)) (i .kept) (live-blank e st σ i) few′ (i .fresh) (live-last e st σ i) space q)
+  abbrev d″ : Disc
+  d″ = writes 1 c (ws e st c goes) (st .disc)
 
-  torn-commit : landing (1 + D′) c ≢ Landing.Done → Kept (e .start) (e .span) (writes 1 c ws (st .disc)) (lastHeld (st .held)) (σ .copy)
+  whole-blocks : landing (1 + D″) c ≡ Landing.Done → Kept (e .start) (e .span) d″ (nextHeld (st .held) + D″) (σ .blocks)
+  whole-blocks q = rw (← i .now) (whole-commit e st c goes q)
+
+  torn-commit : landing (1 + D″) c ≢ Landing.Done → Kept (e .start) (e .span) d″ (lastHeld (st .held)) (σ .copy)
   torn-commit q =
-      rw is-disc
-      (torn-kept (e .start) (e .span) (st .disc) c t′ (nextHeld (st .held)) (lastHeld (st .held)) (i .kept) (live-blank e st σ i) few′ (i .fresh) (live-last e st σ i) space q)
+      let f = commit-from e st c goes in
+      rw (is-disc e st c goes)
+      (torn-kept (e .start) (e .span) (st .disc) c (t′ e st c goes) (nextHeld (st .held)) (lastHeld (st .held)) (f .shape) (f .within) (fits-blank e st f) (few′ e st c goes) (f .fresh) (f .last) (space e st c goes) (i .kept) q)
 
   -- a commit whose ICB is whole
-  pub laid : laysIcb h σ (commit c) ≡ true → landing (1 + D′) c ≡ Landing.Done
+  pub laid : laysIcb h σ (commit c) ≡ true → landing (1 + D″) c ≡ Landing.Done
   unfolding laysIcb wasCut cutIn
   laid q =
-      let m : 1 + D′ ≡ writesIn h σ (commit c) = omega (arith, told) in
+      let m : 1 + D″ ≡ writesIn h σ (commit c) = omega (arith, told) in
       rw m
       (or-cases (not (struck c (writesIn h σ (commit c)))) _ q
       (λ w. landing-uncut _ _ c (not-true _ w) (omega (arith, told)) (omega arith))
       (λ w. whole-lands _ c (omega (arith, told)) w))
 
   -- its VAT is the topmost, and names the one before it
-  pub laid-kept : laysIcb h σ (commit c) ≡ true → Kept (e .start) (e .span) (writes 1 c ws (st .disc)) (nextHeld (st .held) + D′) (σ .blocks)
-  laid-kept q = whole-commit (laid q)
+  pub laid-kept : laysIcb h σ (commit c) ≡ true → Kept (e .start) (e .span) d″ (nextHeld (st .held) + D″) (σ .blocks)
+  laid-kept q = whole-blocks (laid q)
 
-  pub laid-previous : laysIcb h σ (commit c) ≡ true → previousOf (vatFile (writes 1 c ws (st .disc)) (e .start) (nextHeld (st .held) + D′)) ≡ lastHeld (st .held)
-  laid-previous q =
-      rw is-disc
-      (whole-previous (e .start) (e .span) (st .disc) c t′ (nextHeld (st .held)) (lastHeld (st .held)) (i .kept) (live-blank e st σ i) few′ (i .fresh) (live-last e st σ i) space (laid q))
+  pub laid-previous : laysIcb h σ (commit c) ≡ true → previousOf (vatFile d″ (e .start) (nextHeld (st .held) + D″)) ≡ lastHeld (st .held)
+  laid-previous q = whole-names e st c goes (laid q)
 
   -- and NWA is one past it
-  pub laid-next : laysIcb h σ (commit c) ≡ true → nextOn e (writes 1 c ws (st .disc)) ≡ nextHeld (st .held) + D′ + 1
-  unfolding nextOn
-  laid-next q =
-      rw is-disc
-      (sym (whole-next (e .start) (e .span) (st .disc) c t′ (nextHeld (st .held)) (lastHeld (st .held)) (i .kept) (live-blank e st σ i) few′ (i .fresh) (live-last e st σ i) space (laid q)))
+  pub laid-next : laysIcb h σ (commit c) ≡ true → nextOn e d″ ≡ nextHeld (st .held) + D″ + 1
+  laid-next q = whole-top e st c goes (laid q)
 
   -- one whose ICB is not whole
-  not-laid : laysIcb h σ (commit c) ≡ false → landing (1 + D′) c ≢ Landing.Done
+  not-laid : laysIcb h σ (commit c) ≡ false → landing (1 + D″) c ≢ Landing.Done
   unfolding laysIcb wasCut cutIn struck
   not-laid q =
-      let m : 1 + D′ ≡ writesIn h σ (commit c) = omega (arith, told) in
+      let m : 1 + D″ ≡ writesIn h σ (commit c) = omega (arith, told) in
       rw m
       (by-bool (wasCut h σ (commit c))
       (λ w.
@@ -325,51 +386,35 @@ module _ (e : Setting) (h : Shape) (st : State) (σ : Store) (i : Live e st σ) 
       (λ w. let x : not (wasCut h σ (commit c)) ≡ true = rw w in differ (or-left (wholeAt (writesIn h σ (commit c)) c) x) q))
 
   -- leaves the VAT before it the topmost
-  pub left-kept : laysIcb h σ (commit c) ≡ false → Kept (e .start) (e .span) (writes 1 c ws (st .disc)) (lastHeld (st .held)) (σ .copy)
+  pub left-kept : laysIcb h σ (commit c) ≡ false → Kept (e .start) (e .span) (d″) (lastHeld (st .held)) (σ .copy)
   left-kept q = torn-commit (not-laid q)
 
   -- the last write of a cut commit, its ICB, decides
-  commit-choice : taken h σ (commit c) true ≡ cond (wholeAt (1 + D′) c) (store (σ .blocks) (σ .blocks)) σ
+  commit-choice : taken h σ (commit c) true ≡ cond (wholeAt (1 + D″) c) (store (σ .blocks) (σ .blocks)) σ
   unfolding taken writesIn
   commit-choice =
-      let m : writesIn h σ (commit c) ≡ D′ + 1 = told in
+      let m : writesIn h σ (commit c) ≡ D″ + 1 = told in
       choice-same _ _ c _ _ (omega arith)
 
   -- it has copied exactly if its ICB is whole
-  copied : (P : Store → Type 0) → 1 ≤ c .at → (landing (1 + D′) c ≡ Landing.Done → P (store (σ .blocks) (σ .blocks))) → (landing (1 + D′) c ≢ Landing.Done → P σ)
+  copied : (P : Store → Type 0) → 1 ≤ c .at → (landing (1 + D″) c ≡ Landing.Done → P (store (σ .blocks) (σ .blocks))) → (landing (1 + D″) c ≢ Landing.Done → P σ)
       → P (taken h σ (commit c) true)
   copied P cut f g =
       rw commit-choice
-      (cond-elim P (wholeAt (1 + D′) c) (λ w. f (whole-lands (1 + D′) c (omega arith) w)) (λ w. g (broken-lands (1 + D′) c (omega arith) cut w)))
+      (cond-elim P (wholeAt (1 + D″) c) (λ w. f (whole-lands (1 + D″) c (omega arith) w)) (λ w. g (broken-lands (1 + D″) c (omega arith) cut w)))
 
-  cut-commit : struck c (length ws) ≡ true
-      → OnceOk e true (record { disc = writes 1 c ws (st .disc); table = st .table; held = st .held }) (taken h σ (commit c) true)
+  cut-commit : struck c (length (ws e st c goes)) ≡ true
+      → OnceOk e true (record { disc = d″; table = st .table; held = st .held }) (taken h σ (commit c) true)
   unfolding OnceOk struck
   cut-commit q =
       let p = and-true (leb 1 (c .at)) _ q in
-      copied (OnceOk e true (record { disc = writes 1 c ws (st .disc); table = st .table; held = st .held })) (leb-true _ _ (p .0))
-      (λ w. (nextHeld (st .held) + D′, whole-commit w, i .lent))
+      copied (OnceOk e true (record { disc = d″; table = st .table; held = st .held })) (leb-true _ _ (p .0))
+      (λ w. (nextHeld (st .held) + D″, whole-blocks w, i .lent))
       (λ w. (lastHeld (st .held), torn-commit w, i .lent))
 
-  done-commit : struck c (length ws) ≡ false
-      → Live e (record { disc = writes 1 c ws (st .disc); table = st .table; held = Record.WriteOnce (entriesHeld (st .held)) (icbBlock (st .held) + 1) (icbBlock (st .held)) })
-      (record { blocks = σ .blocks; copy = σ .blocks })
-  unfolding onceHeld entriesHeld nextHeld lastHeld icbBlock nextOn
-  done-commit q =
-      let w : landing (1 + D′) c ≡ Landing.Done = landing-uncut (1 + D′) (length ws) c q (omega arith) (omega (arith, number)) in
-      let n = nextHeld (st .held) in
-      let a = whole-agree (e .start) (e .span) (st .disc) c t′ n (lastHeld (st .held)) (i .kept) (live-blank e st σ i) few′ (i .fresh) (live-last e st σ i) space w in
-      let m = whole-next (e .start) (e .span) (st .disc) c t′ n (lastHeld (st .held)) (i .kept) (live-blank e st σ i) few′ (i .fresh) (live-last e st σ i) space w in
-      let k′ : n + D′ ≡ icbBlock (st .held) = omega (arith, ap dataSectors count) in
-      record {
-        once = refl;
-        kept = subst (λ (x : ℕ). Kept (e .start) (e .span) (writes 1 c ws (st .disc)) x (σ .blocks)) k′ (whole-commit w);
-        top = ap (λ (x : ℕ). x + 1) (sym k′) ∙ m ∙ ap (λ (x : Disc). nwa x (e .start) (e .span)) (sym is-disc);
-        fresh = below-mono n _ t′ (omega arith) (i .fresh);
-        few = i .few;
-        lent = i .lent;
-        now = ap (λ (x : Disc). entrySlots x (e .start) t′) is-disc ∙ slots-agree t′ a (i .fresh) ∙ i .now;
-      }
+  done-commit : struck c (length (ws e st c goes)) ≡ false
+      → Live e (record { disc = d″; table = st .table; held = committedRecord (st .held) }) (record { blocks = σ .blocks; copy = σ .blocks })
+  done-commit q = subst (λ (l : List Slot). Live e (record { disc = d″; table = st .table; held = committedRecord (st .held) }) (store l l)) (i .now) (committed-live e st c goes q)
 
 -- a commit, refused, cut or carried out
 pub sound-commit : (e : Setting) (h : Shape) (st : State) (σ : Store) → Live e st σ → (c : Cut) → Sound (OnceOk e) h σ (commit c) (step e st (commit c))

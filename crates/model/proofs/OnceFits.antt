@@ -1,38 +1,60 @@
--- Lines 1 to 7 and 11 of a call on a write-once disc taken apart, and that a save or a commit that is carried out uncut leaves them so, from any disc,
--- table and record (02, slip 9). Assumes nothing.
-use Prim.Native.Nat.{ℕ, _+_, _*_, _≤_, _<_}
-use mathlib.Core.Bool.{true, false}
+-- Lines 1 to 7 and 11 of a call on a write-once disc taken apart: what they tell of any disc, table and record, be they of an opening or not, and
+-- what reading then shows. Assumes nothing.
+use Prim.Native.Nat.{ℕ, zero, suc, _+_, _≤_, _<_}
+use mathlib.Core.Bool.{Bool, true, false, not, _&&_}
 use mathlib.Core.Path.{_≡_, refl, sym, ap, _∙_}
 use mathlib.Core.List.{List, [], _∷_}
 use native.Mathlib.Omega.{arith}
-use lib.Dec.{leb, eqb}
-use lib.ListN.{length, set, take, length-set}
-use lib.Seq.{length-take-le}
-use borrow.Author.Tests.{ltb-true, leb-true, eqb-true, lt-ltb, le-leb, eq-eqb}
-use Rattle.refusal.specs.declared.Refusal.the-variants.{OtherKind, StaleRecord}
-use Rattle.refusal.specs.declared.Verdict.the-variants.{Go}
-use Rattle.refusal.specs.Tests.{test, first, need}
+use lib.Dec.{leb, ltb, eqb}
+use lib.ListN.{length, getD, take, List·getD-map}
+use lib.Seq.{getD-take, length-take-le}
+use borrow.Author.Tests.{ltb-true, leb-true, eqb-true, lt-ltb, le-ltb, le-leb, eq-eqb}
+use Rattle.refusal.specs.declared.Refusal.the-variants.{OtherKind, StaleRecord, NumberOutside, UnusedEntry}
+use Rattle.refusal.specs.declared.Verdict.{Verdict}
+use Rattle.refusal.specs.declared.Verdict.the-variants.{Go, Stop}
+use Rattle.refusal.specs.Tests.{Test, test, first, need}
 use Rattle.refusal.proofs.Laws.{passed}
 use Rattle.maps.specs.Kinds.{readMaps}
-use Rattle.model.specs.declared.Cut.{Cut}
 use Rattle.model.specs.declared.Record.{Record}
-use Rattle.model.specs.Disc.{Disc, shapely, inside}
-use Rattle.model.specs.Writes.{Write, writes, upward, struck}
-use Rattle.model.specs.Vat.{allBelow}
-use Rattle.model.specs.VatWritten.{dataSectors, writtenData}
+use Rattle.model.specs.Disc.{Disc, sector, mark, markTests, shapely, inside}
+use Rattle.model.specs.Vat.{none, allBelow}
 use Rattle.model.specs.Examine.{Setting, writeOnce, examined, lentTable}
-use Rattle.model.specs.Once.{nextOn, entriesHeld, nextHeld, lastHeld, heldFits, onceVerdict, countAfter, roomToSave, numberFits, numberTest, roomTest, savedRecord, roomToCommit, commitTests, icbBlock, commitWrites, committedRecord, heldVerdict}
+use Rattle.model.specs.Once.{nextOn, entriesHeld, nextHeld, lastHeld, heldFits, onceVerdict, heldVerdict, entryTests}
+use Rattle.model.specs.Both.{readVerdict, readBytes, readLent, readOnceTests, entrySector, blockSector, blockBy}
 use Rattle.model.specs.Calls.{State}
-use Rattle.model.proofs.Basics.{and-true, both}
+use Rattle.model.specs.Store.{Slot, unused, entrySlot, entrySlots, Store, seenAs, look}
+use Rattle.model.specs.Demand.{seen, seenBy}
+use Rattle.model.proofs.Basics.{by-bool, by-lt, and-true, both}
 use Rattle.model.proofs.Verdicts.{then-go, go-then, examined-tells, examined-go}
-use Rattle.model.proofs.Scan.{below-mono}
-use Rattle.model.proofs.Sectors.{Placed, placed-one, placed-append, writes-shapely, writes-inside, inside-fits}
-use Rattle.model.proofs.SectorsRuns.{placed-upward}
-use Rattle.model.proofs.WrittenVat.{data-enough, length-icb}
-use Rattle.model.proofs.OnceRead.{onceHeld, held-once}
-use Rattle.model.proofs.OnceSave.{saved-few, saved-fresh}
-use Rattle.model.proofs.OnceCommit.{commit-number}
-use Rattle.model.proofs.OnceRises.{Rising, rising-one, rising-commit, rises-all}
+use Rattle.model.proofs.Marks.{sector-shown}
+use Rattle.model.proofs.Scan.{length-slots, slot-none}
+use Rattle.model.proofs.Once.{BlankFrom, blank-next}
+
+-- ---- the record
+
+-- one of a write-once disc
+unfoldable pub onceHeld : Record → Bool
+onceHeld (Record.WriteOnce n next last) = true
+onceHeld (Record.Rewritable n sequence) = false
+
+-- line 11 for such a record
+held-once : (e : Setting) (d : Disc) (t : List ℕ) (r : Record) → onceHeld r ≡ true
+    → heldFits e d t r ≡ eqb (nextHeld r) (nextOn e d) && (leb (entriesHeld r) 4096 && (allBelow (nextHeld r) (take (entriesHeld r) t) && ltb (lastHeld r) (nextHeld r)))
+unfolding onceHeld heldFits entriesHeld nextHeld lastHeld
+held-once e d t (Record.WriteOnce n next last) h = refl
+held-once e d t (Record.Rewritable n sequence) h = let z : _≡_ {A = ℕ} 0 1 = cc in absurd (omega arith)
+
+-- it holds
+pub held-true : (e : Setting) (d : Disc) (t : List ℕ) (r : Record) → onceHeld r ≡ true → nextHeld r ≡ nextOn e d → entriesHeld r ≤ 4096
+    → allBelow (nextHeld r) (take (entriesHeld r) t) ≡ true → lastHeld r < nextHeld r → heldFits e d t r ≡ true
+held-true e d t r once top few fresh last =
+    held-once e d t r once ∙ both (eq-eqb _ _ top) (both (le-leb _ _ few) (both fresh (lt-ltb _ _ last)))
+
+-- one of the other kind never passes it
+held-kind : (e : Setting) (d : Disc) (t : List ℕ) (r : Record) → heldFits e d t r ≡ true → onceHeld r ≡ true
+unfolding heldFits onceHeld
+held-kind e d t (Record.WriteOnce n next last) h = refl
+held-kind e d t (Record.Rewritable n sequence) h = h
 
 -- ---- what the lines tell
 
@@ -48,19 +70,14 @@ pub record Fits (e : Setting) (st : State) : Type 0 where
   pub fresh : allBelow (nextHeld (st .held)) (take (entriesHeld (st .held)) (st .table)) ≡ true
   pub last : lastHeld (st .held) < nextHeld (st .held)
 
--- a record of the other kind never passes line 11
-held-kind : (e : Setting) (d : Disc) (t : List ℕ) (r : Record) → heldFits e d t r ≡ true → onceHeld r ≡ true
-unfolding heldFits onceHeld
-held-kind e d t (Record.WriteOnce n next last) h = refl
-held-kind e d t (Record.Rewritable n sequence) h = h
-
 module _ (e : Setting) (st : State) where
-  pub fits : heldVerdict e (st .disc) (st .table) (st .held) ≡ Go → Fits e st
-  unfolding heldVerdict onceVerdict lentTable
-  fits g =
-      let p = then-go (examined e (st .disc) (lentTable (st .table))) _ g in
-      let x = examined-tells e (st .disc) (lentTable (st .table)) (p .0) in
-      let q = passed (test (writeOnce e) OtherKind ∷ test (heldFits e (st .disc) (st .table) (st .held)) StaleRecord ∷ []) (p .1) in
+  -- a call that goes on has passed them
+  pub goes-fits : (lent : Bool) (own : List Test) → (lent ≡ true → lentTable (st .table) ≡ true) → onceVerdict e (st .disc) (st .table) lent (st .held) own ≡ Go → Fits e st
+  unfolding onceVerdict lentTable
+  goes-fits lent own table g =
+      let p = then-go (examined e (st .disc) lent) _ g in
+      let x = examined-tells e (st .disc) lent (p .0) in
+      let q = passed (test (writeOnce e) OtherKind ∷ test (heldFits e (st .disc) (st .table) (st .held)) StaleRecord ∷ own) (p .1) in
       let k = held-kind e (st .disc) (st .table) (st .held) (q .1 .0) in
       let a = and-true (eqb (nextHeld (st .held)) (nextOn e (st .disc))) _ (sym (held-once e (st .disc) (st .table) (st .held) k) ∙ q .1 .0) in
       let b = and-true (leb (entriesHeld (st .held)) 4096) _ (a .1) in
@@ -70,7 +87,7 @@ module _ (e : Setting) (st : State) where
         maps = x .maps;
         shape = x .shape;
         within = x .within;
-        lent = leb-true _ _ (x .lengths);
+        lent = leb-true _ _ (table (x .lengths));
         once = k;
         top = eqb-true _ _ (a .0);
         few = leb-true _ _ (b .0);
@@ -78,107 +95,88 @@ module _ (e : Setting) (st : State) where
         last = ltb-true _ _ (c .1);
       }
 
-  pub fits-go : Fits e st → heldVerdict e (st .disc) (st .table) (st .held) ≡ Go
-  unfolding heldVerdict onceVerdict lentTable need
-  fits-go f =
-      let held : heldFits e (st .disc) (st .table) (st .held) ≡ true =
-      held-once e (st .disc) (st .table) (st .held) (f .once)
-      ∙ both (eq-eqb _ _ (f .top)) (both (le-leb _ _ (f .few)) (both (f .fresh) (lt-ltb _ _ (f .last)))) in
-      go-then _ (examined-go e (st .disc) _ (record { shape = f .shape; within = f .within; lengths = le-leb _ _ (f .lent); maps = f .maps; places = rw (f .kind) }))
-      ∙ rw (f .kind, held)
+  pub fits : heldVerdict e (st .disc) (st .table) (st .held) ≡ Go → Fits e st
+  unfolding heldVerdict
+  fits g = goes-fits _ [] (λ q. q) g
 
--- ---- writes at NWA and upward, all of which are done
+  module _ (f : Fits e st) where
+    -- line 11
+    fits-held : heldFits e (st .disc) (st .table) (st .held) ≡ true
+    fits-held = held-true e (st .disc) (st .table) (st .held) (f .once) (f .top) (f .few) (f .fresh) (f .last)
 
--- they keep what the lines ask of the disc, and NWA rises by their number
-record Written (e : Setting) (d d′ : Disc) (w : ℕ) : Type 0 where
-  shape : shapely d′ ≡ true
-  within : inside d′ (e .start) (e .span) ≡ true
-  top : w ≡ nextOn e d′
+    -- lines 1 to 6, of a call that is lent what it asks for
+    fits-examined : (lent : Bool) → lent ≡ true → examined e (st .disc) lent ≡ Go
+    fits-examined lent q = examined-go e (st .disc) lent (record { shape = f .shape; within = f .within; lengths = q; maps = f .maps; places = rw (f .kind) })
 
-module _ (e : Setting) (st : State) (f : Fits e st) (c : Cut) where
-  abbrev W : ℕ
-  W = nextHeld (st .held)
+    pub fits-go : heldVerdict e (st .disc) (st .table) (st .held) ≡ Go
+    unfolding heldVerdict onceVerdict lentTable need
+    fits-go = go-then _ (fits-examined _ (le-leb _ _ (f .lent))) ∙ rw (f .kind, fits-held)
 
-  abbrev N : ℕ
-  N = entriesHeld (st .held)
+    -- the blocks from NWA on are blank
+    pub fits-blank : BlankFrom (e .start) (e .span) (st .disc) (nextHeld (st .held))
+    unfolding nextOn
+    fits-blank = blank-next (e .start) (e .span) (nextHeld (st .held)) (st .disc) (sym (f .top))
 
-  on : e .start + e .span ≤ length (st .disc .marks)
-  on = inside-fits (st .disc) (e .start) (e .span) (f .within) .1
+-- ---- the blocks of the first n entries of a table
 
-  written : (ws : List Write) → Rising (e .start + W) ws → Placed (length (st .disc .marks)) ws → W + length ws ≤ e .span → struck c (length ws) ≡ false
-      → Written e (st .disc) (writes 1 c ws (st .disc)) (W + length ws)
-  unfolding nextOn
-  written ws r p room uncut =
-      record {
-        shape = writes-shapely 1 c ws (st .disc) p (f .shape);
-        within = sym (writes-inside 1 c ws (st .disc) (e .start) (e .span)) ∙ f .within;
-        top = sym (rises-all (e .start) (e .span) ws 1 (length ws) c W (st .disc) r (sym (f .top)) room on uncut (omega arith) (omega arith));
-      }
+-- an element of a list is the same with any default
+default-other {ℓ} : {A : Type ℓ} (l : List A) (i : ℕ) (a b : A) → i < length l → getD l i a ≡ getD l i b
+default-other [] i a b h = absurd (omega arith)
+default-other (x ∷ l) zero a b h = refl
+default-other (x ∷ l) (suc i) a b h = default-other l i a b (omega arith)
 
-  -- ---- a save
+-- there are n
+pub slots-count : (d : Disc) (s n : ℕ) (t : List ℕ) → n ≤ length t → length (entrySlots d s (take n t)) ≡ n
+slots-count d s n t h = length-slots d s (take n t) ∙ length-take-le n t h
 
-  pub saved-fits : (v : ℕ) (b : List ℕ) → length b ≡ 2048 → first (numberTest (st .held) v ∷ roomTest e (st .held) v ∷ []) ≡ Go → struck c 1 ≡ false
-      → Fits e (record {
-        disc = writes 1 c (record { place = e .start + W; bytes = b } ∷ []) (st .disc);
-        table = set (st .table) v W;
-        held = savedRecord (st .held) v;
-      })
-  unfolding onceHeld nextHeld entriesHeld lastHeld numberFits roomToSave
-  saved-fits v b long go uncut =
-      let t = passed (numberTest (st .held) v ∷ roomTest e (st .held) v ∷ []) go in
-      let n = and-true (leb v N) _ (t .0) in
-      let most : v ≤ N = leb-true _ _ (n .0) in
-      let small : v < 4096 = ltb-true _ _ (n .1) in
-      let room : W + 1 + dataSectors (countAfter N v) + 1 ≤ e .span = leb-true _ _ (t .1 .0) in
-      let x = written (record { place = e .start + W; bytes = b } ∷ []) (rising-one _ b) (placed-one _ _ b (omega (arith, on)) long) (omega arith) uncut in
-      record {
-        kind = f .kind;
-        maps = f .maps;
-        shape = x .shape;
-        within = x .within;
-        lent = rw length-set (f .lent);
-        once = refl;
-        top = x .top;
-        few = saved-few N v (f .few) small;
-        fresh = saved-fresh N v W (st .table) most (omega (arith, f .lent)) (f .fresh);
-        last = omega (arith, f .last);
-      }
+-- block v is that of entry v
+pub slots-at : (d : Disc) (s n : ℕ) (t : List ℕ) (v : ℕ) → n ≤ length t → v < n → getD (entrySlots d s (take n t)) v unused ≡ entrySlot d s (getD t v 0)
+unfolding entrySlots
+slots-at d s n t v on h =
+    ap (λ (x : Slot). getD (entrySlots d s (take n t)) v x) (sym (slot-none d s))
+    ∙ List·getD-map (entrySlot d s) (take n t) v none
+    ∙ ap (entrySlot d s) (default-other (take n t) v none 0 (omega (arith, length-take-le n t on)) ∙ getD-take n t v 0 h)
 
-  -- ---- a commit
+-- those of a state: its record's N, its table and its disc
+abbrev pub blocksOf : Setting → State → List Slot
+blocksOf e st = entrySlots (st .disc) (e .start) (take (entriesHeld (st .held)) (st .table))
 
-  abbrev t′ : List ℕ
-  t′ = take N (st .table)
+-- ---- reading
 
-  abbrev ws : List Write
-  ws = commitWrites e t′ (st .held)
+module _ (e : Setting) (st : State) (f : Fits e st) (v : ℕ) (out : List ℕ) (long : length out ≡ 2048) where
+  read-tests : readVerdict e (st .disc) (st .table) (st .held) v out
+      ≡ first (test (ltb v (entriesHeld (st .held))) NumberOutside
+      ∷ test (not (eqb (getD (st .table) v 0) none)) UnusedEntry
+      ∷ markTests (mark (st .disc) (e .start + getD (st .table) v 0)))
+  unfolding readVerdict readOnceTests entryTests blockSector entrySector readLent lentTable need
+  read-tests =
+      go-then _ (fits-examined e st f _ (both (le-leb _ _ (f .lent)) (eq-eqb _ _ long)))
+      ∙ rw (f .kind, fits-held e st f)
 
-  count : N ≡ length t′
-  count = sym (length-take-le N (st .table) (omega (arith, f .few, f .lent)))
+  shown : (w : Verdict) → readVerdict e (st .disc) (st .table) (st .held) v out ≡ w
+      → seen e st v out ≡ seenBy w (blockBy w (sector (st .disc) (e .start + getD (st .table) v 0)) out)
+  unfolding seen readBytes blockSector entrySector
+  shown w h = rw (h, f .kind)
 
-  placed-commit : W + dataSectors N + 1 ≤ e .span → Placed (length (st .disc .marks)) ws
-  unfolding commitWrites icbBlock
-  placed-commit room =
-      let enough : 2048 * dataSectors (length t′) ≤ length (writtenData t′ (lastHeld (st .held))) = data-enough t′ (lastHeld (st .held)) in
-      placed-append _ (upward (dataSectors N) (e .start + W) (writtenData t′ (lastHeld (st .held))) 0) _
-      (placed-upward _ _ _ _ 0 (omega (arith, on)) (omega (arith, ap dataSectors count)))
-      (placed-one _ _ _ (omega (arith, on)) (length-icb t′ (lastHeld (st .held)) (icbBlock (st .held))))
-
-  pub committed-fits : first (commitTests e (st .held)) ≡ Go → struck c (length ws) ≡ false
-      → Fits e (record { disc = writes 1 c ws (st .disc); table = st .table; held = committedRecord (st .held) })
-  unfolding onceHeld nextHeld entriesHeld lastHeld commitTests roomToCommit icbBlock
-  committed-fits go uncut =
-      let room : W + dataSectors N + 1 ≤ e .span = leb-true _ _ (passed (commitTests e (st .held)) go .0) in
-      let number : length ws ≡ dataSectors N + 1 = commit-number e t′ (st .held) count ∙ ap (λ (n : ℕ). dataSectors n + 1) (sym count) in
-      let x = written ws (rising-commit e t′ (st .held)) (placed-commit room) (omega arith) uncut in
-      record {
-        kind = f .kind;
-        maps = f .maps;
-        shape = x .shape;
-        within = x .within;
-        lent = f .lent;
-        once = refl;
-        top = omega (arith, number, x .top);
-        few = f .few;
-        fresh = below-mono W _ t′ (omega arith) (f .fresh);
-        last = omega arith;
-      }
+  -- it shows the block, as a plain store of these blocks does
+  pub fits-read : (σ : Store) → blocksOf e st ≡ σ .blocks → seen e st v out ≡ look σ v
+  unfolding look seenBy blockBy entrySlot seenAs need
+  fits-read σ same =
+      let n = entriesHeld (st .held) in
+      let x = getD (st .table) v 0 in
+      let on : n ≤ length (st .table) = omega (arith, f .few, f .lent) in
+      let ln : length (σ .blocks) ≡ n = ap length (sym same) ∙ slots-count (st .disc) (e .start) n (st .table) on in
+      by-lt v n
+      (λ a.
+      let la : ltb v n ≡ true = lt-ltb v n a in
+      let bl : getD (σ .blocks) v unused ≡ entrySlot (st .disc) (e .start) x =
+      ap (λ (l : List Slot). getD l v unused) (sym same) ∙ slots-at (st .disc) (e .start) n (st .table) v on a in
+      by-bool (eqb x none)
+      (λ b. shown (Stop UnusedEntry) (read-tests ∙ rw (la, b)) ∙ sym (rw (ln, la, bl, b)))
+      (λ b.
+      shown (first (markTests (mark (st .disc) (e .start + x)))) (read-tests ∙ rw (la, b))
+      ∙ sector-shown (st .disc) (e .start + x) out
+      ∙ sym (rw (ln, la, bl, b))))
+      (λ a.
+      let la : ltb v n ≡ false = le-ltb v n a in
+      shown (Stop NumberOutside) (read-tests ∙ rw la) ∙ sym (rw (ln, la)))

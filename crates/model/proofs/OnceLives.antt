@@ -34,7 +34,8 @@ use Rattle.model.proofs.Sectors.{shapely-made, inside-fits, landed-shap
 use Rattle.model.proofs.WrittenVatFile.{file-count, file-entries}
 use Rattle.model.proofs.WrittenVatIcb.{length-icb, icb-file, icb-passes}
 use Rattle.model.proofs.Once.{Kept, BlankFrom, on-disc, blank-next, blank-landed, next-done}
-use Rattle.model.proofs.OnceRead.{onceHeld, Live, live-held, examined-once, read-once}
+use Rattle.model.proofs.OnceFits.{onceHeld}
+use Rattle.model.proofs.OnceRead.{Live, live-held, examined-once, read-once}
 use Rattle.model.proofs.OnceSave.{OnceOk, sound-save}
 use Rattle.model.proofs.OnceOpen.{length-entries, kept-newest, passed-kept, open-goes, reopened}
 use Rattle.model.proofs.OnceCommit.{sound-commit}

@@ -27,7 +27,8 @@ use Rattle.model.proofs.Verdicts.{Examined, examined-tells, then-go, go
 use Rattle.model.proofs.Scan.{newest-found, found-newest, entries-below, icb-recorded, not-recorded, below-mono}
 use Rattle.model.proofs.Sectors.{nwa-above, nwa-most, nwa-blank}
 use Rattle.model.proofs.Once.{Kept}
-use Rattle.model.proofs.OnceRead.{onceHeld, Live, examined-once}
+use Rattle.model.proofs.OnceFits.{onceHeld}
+use Rattle.model.proofs.OnceRead.{Live, examined-once}
 use Rattle.model.proofs.OnceSave.{OnceOk}
 use Rattle.model.proofs.Steps.{Sound}
 

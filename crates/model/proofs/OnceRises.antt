@@ -110,7 +110,7 @@ module _ (s l : ℕ) where
       ∙ omega arith)
 
   -- where it fails at none of m
-  pub rises-all : (ws : List Write) (n m : ℕ) (c : Cut) (i : ℕ) (d : Disc) → Rising (s + i) ws → nwa d s l ≡ i → i + length ws ≤ l → s + l ≤ length (d .marks)
+  rises-all : (ws : List Write) (n m : ℕ) (c : Cut) (i : ℕ) (d : Disc) → Rising (s + i) ws → nwa d s l ≡ i → i + length ws ≤ l → s + l ≤ length (d .marks)
       → struck c m ≡ false → 1 ≤ n → n + length ws ≤ m + 1
       → nwa (writes n c ws d) s l ≡ i + length ws
   unfolding Rising writes

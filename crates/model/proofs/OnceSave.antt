@@ -1,5 +1,5 @@
 -- Saving and freeing on a write-once disc keep the invariant. Assumes nothing.
-use Prim.Native.Nat.{ℕ, _+_, _-_, _≤_, _<_}
+use Prim.Native.Nat.{ℕ, _+_, _≤_, _<_}
 use mathlib.Core.Bool.{Bool, true, false, false≢true}
 use mathlib.Core.Path.{_≡_, refl, sym, ap, ap₂, _∙_}
 use mathlib.Core.List.{List, [], _∷_, _++_}
@@ -21,16 +21,17 @@ use Rattle.model.specs.Writes.{landing, landed, write, writes, struck, n
 use Rattle.model.specs.Vat.{none, allBelow, passes}
 use Rattle.model.specs.VatWritten.{dataSectors}
 use Rattle.model.specs.Examine.{Setting, writeOnce, examined, lentTable}
-use Rattle.model.specs.Once.{nextOn, entriesHeld, nextHeld, lastHeld, heldFits, onceVerdict, countAfter, roomToSave, numberFits, saveTests, saveLent, savePlan, entryTests, freePlan}
+use Rattle.model.specs.Once.{nextOn, entriesHeld, nextHeld, lastHeld, heldFits, onceVerdict, countAfter, roomToSave, numberFits, saveTests, savedRecord, saveLent, savePlan, entryTests, freePlan}
 use Rattle.model.specs.Calls.{saveVirtual, freeVirtual, State, step}
 use Rattle.model.specs.Store.{Slot, holds, entrySlot, entrySlots, slotAt, Store, Shape, cutIn, writesIn, put, taken}
 use Rattle.model.proofs.Basics.{by-eq, and-true}
 use Rattle.model.proofs.Verdicts.{Examined, examined-tells, then-go}
 use Rattle.model.proofs.Agree.{Agree}
 use Rattle.model.proofs.Scan.{below-mono, below-set, below-snoc, below-own, below-none, slots-agree, slot-none, slots-set, slots-snoc}
-use Rattle.model.proofs.Sectors.{Made, shapely-made, shapely-most, sector-done, recorded-done, landing-uncut}
+use Rattle.model.proofs.Sectors.{Made, shapely-made, shapely-most, landed-shapely, landed-inside, sector-done, recorded-done, landing-uncut}
 use Rattle.model.proofs.Once.{Kept, on-disc, agree-landed, next-done, kept-write}
-use Rattle.model.proofs.OnceRead.{onceHeld, Live, live-blank, live-length}
+use Rattle.model.proofs.OnceFits.{onceHeld, Fits, goes-fits, fits-blank, slots-count, blocksOf}
+use Rattle.model.proofs.OnceRead.{Live, live-blank}
 use Rattle.model.proofs.Steps.{Told, told-plan, Sound, sound-plan, sound-carried}
 
 -- N and NWA of a state
@@ -78,98 +79,136 @@ saved-fresh n v w t most on fresh =
     (λ q. rw (table-grown n v w t (omega arith) q) (below-snoc (w + 1) (take n t) w (below-own w) old))
     (λ q. rw (table-set n v w t (omega arith)) (below-set (w + 1) (take n t) v w (below-own w) old))
 
-module _ (e : Setting) (h : Shape) (st : State) (σ : Store) (i : Live e st σ) where
-  -- ---- save v
-  module _ (v : ℕ) (b : List ℕ) (c : Cut) (g : onceVerdict e (st .disc) (st .table) (saveLent (st .table) b) (st .held) (saveTests e (st .disc) (st .held) v b) ≡ Go) where
-    pub record Facts : Type 0 where
-      long : length b ≡ 2048
-      most : v ≤ N st
-      small : v < 4096
-      plain : passes (st .disc) (e .start) (W st) b ≡ false
-      pub room : W st + 1 + dataSectors (countAfter (N st) v) + 1 ≤ e .span
+-- ---- save v, from any disc, table and record
 
-    pub facts : Facts
-    unfolding numberFits saveTests roomToSave saveLent
-    facts =
-        let p = once-tells e (st .disc) (st .table) _ (st .held) (saveTests e (st .disc) (st .held) v b) g in
-        let q = and-true (lentTable (st .table)) _ (p .0 .lengths) in
-        let w = and-true (leb v (entriesHeld (st .held))) _ (p .1 .0) in
+module _ (e : Setting) (st : State) (v : ℕ) (b : List ℕ) (c : Cut)
+    (g : onceVerdict e (st .disc) (st .table) (saveLent (st .table) b) (st .held) (saveTests e (st .disc) (st .held) v b) ≡ Go) where
+  -- what its tests tell
+  pub record Facts : Type 0 where
+    pub fits : Fits e st
+    pub long : length b ≡ 2048
+    pub most : v ≤ N st
+    pub small : v < 4096
+    pub plain : passes (st .disc) (e .start) (W st) b ≡ false
+    pub room : W st + 1 + dataSectors (countAfter (N st) v) + 1 ≤ e .span
+
+  pub facts : Facts
+  unfolding numberFits saveTests roomToSave saveLent
+  facts =
+      let p = once-tells e (st .disc) (st .table) _ (st .held) (saveTests e (st .disc) (st .held) v b) g in
+      let q = and-true (lentTable (st .table)) _ (p .0 .lengths) in
+      let w = and-true (leb v (entriesHeld (st .held))) _ (p .1 .0) in
+      record {
+        fits = goes-fits e st _ _ (λ l. and-true (lentTable (st .table)) _ l .0) g;
+        long = eqb-true _ _ (q .1);
+        most = leb-true _ _ (w .0);
+        small = ltb-true _ _ (w .1);
+        plain = not-true _ (p .1 .1 .0);
+        room = leb-true _ _ (p .1 .1 .1 .0);
+      }
+
+  -- uncut, the sector is written
+  module _ (uncut : struck c 1 ≡ false) where
+    d′ : Disc
+    d′ = landed Landing.Done (e .start + W st) b (st .disc)
+
+    on : e .start + W st < length (st .disc .marks)
+    on = on-disc (e .start) (e .span) (st .disc) (W st) (facts .fits .within) (omega (arith, facts .room))
+
+    made : Made (st .disc)
+    made = shapely-made (st .disc) (facts .fits .shape)
+
+    is-done : writes 1 c (record { place = e .start + W st; bytes = b } ∷ []) (st .disc) ≡ d′
+    unfolding writes write d′
+    is-done = ap (λ (g : Landing). landed g (e .start + W st) b (st .disc)) (landing-uncut 1 1 c uncut (omega arith) (omega arith))
+
+    next-nwa : W st + 1 ≡ nextOn e d′
+    unfolding nextOn d′
+    next-nwa =
+        sym (next-done (e .start) (e .span) (W st) b (st .disc) (fits-blank e st (facts .fits)) (omega (arith, facts .room)) on)
+
+    agree : Agree (e .start) (W st) d′ (st .disc)
+    unfolding d′
+    agree = agree-landed Landing.Done (e .start) (W st) b (st .disc) (facts .long) on made
+
+    slot-new : entrySlot d′ (e .start) (W st) ≡ holds b
+    unfolding entrySlot slotAt d′ none
+    slot-new =
+        let w : eqb (W st) 0xffffffff ≡ false = ne-eqb (W st) 0xffffffff (λ q. omega (arith, on, shapely-most (st .disc) (facts .fits .shape))) in
+        rw (w, recorded-done (e .start + W st) b (st .disc) on, sector-done (e .start + W st) b (st .disc) (facts .long) on made)
+
+    slots-old : entrySlots d′ (e .start) (take (N st) (st .table)) ≡ blocksOf e st
+    slots-old = slots-agree (take (N st) (st .table)) agree (facts .fits .fresh)
+
+    slots-new : entrySlots d′ (e .start) (take (countAfter (N st) v) (set (st .table) v (W st))) ≡ put (blocksOf e st) v (holds b)
+    unfolding put
+    slots-new =
+        let ln : length (blocksOf e st) ≡ N st = slots-count (st .disc) (e .start) (N st) (st .table) (omega (arith, facts .fits .few, facts .fits .lent)) in
+        by-eq v (N st)
+        (λ q.
+        ap (entrySlots d′ (e .start)) (table-grown (N st) v (W st) (st .table) (omega (arith, facts .small, facts .fits .lent)) q)
+        ∙ slots-snoc d′ (e .start) (take (N st) (st .table)) (W st)
+        ∙ ap₂ (λ (l : List Slot) (x : Slot). l ++ (x ∷ [])) slots-old slot-new
+        ∙ sym (rw (ln, le-ltb v (N st) (omega arith))))
+        (λ q.
+        ap (entrySlots d′ (e .start)) (table-set (N st) v (W st) (st .table) (omega (arith, facts .most)))
+        ∙ slots-set d′ (e .start) (take (N st) (st .table)) v (W st)
+        ∙ ap₂ (λ (l : List Slot) (x : Slot). set l v x) slots-old slot-new
+        ∙ sym (rw (ln, lt-ltb v (N st) (omega (arith, facts .most)))))
+
+    -- the state after it
+    abbrev st′ : State
+    st′ = record {
+      disc = writes 1 c (record { place = e .start + W st; bytes = b } ∷ []) (st .disc);
+      table = set (st .table) v (W st);
+      held = savedRecord (st .held) v;
+    }
+
+    -- lines 1 to 7 and 11 hold of it,
+    pub saved-fits : Fits e st′
+    unfolding onceHeld nextHeld entriesHeld lastHeld d′
+    saved-fits =
+        let f = facts .fits in
         record {
-          long = eqb-true _ _ (q .1);
-          most = leb-true _ _ (w .0);
-          small = ltb-true _ _ (w .1);
-          plain = not-true _ (p .1 .1 .0);
-          room = leb-true _ _ (p .1 .1 .1 .0);
+          kind = f .kind;
+          maps = f .maps;
+          shape = rw is-done (landed-shapely Landing.Done (e .start + W st) b (st .disc) (facts .long) on (f .shape));
+          within = rw is-done (sym (landed-inside Landing.Done (e .start + W st) b (st .disc) (e .start) (e .span)) ∙ f .within);
+          lent = rw length-set (f .lent);
+          once = refl;
+          top = next-nwa ∙ ap (nextOn e) (sym is-done);
+          few = saved-few (N st) v (f .few) (facts .small);
+          fresh = saved-fresh (N st) v (W st) (st .table) (facts .most) (omega (arith, facts .small, f .lent)) (f .fresh);
+          last = omega (arith, f .last);
         }
 
+    -- and its blocks are those before it, with block v put
+    pub saved-blocks : blocksOf e st′ ≡ put (blocksOf e st) v (holds b)
+    unfolding entriesHeld
+    saved-blocks = ap (λ (x : Disc). entrySlots x (e .start) (take (countAfter (N st) v) (set (st .table) v (W st)))) is-done ∙ slots-new
+
+module _ (e : Setting) (h : Shape) (st : State) (σ : Store) (i : Live e st σ) where
+  -- ---- save v, between calls
+  module _ (v : ℕ) (b : List ℕ) (c : Cut) (g : onceVerdict e (st .disc) (st .table) (saveLent (st .table) b) (st .held) (saveTests e (st .disc) (st .held) v b) ≡ Go) where
     pub kept-saved : Kept (e .start) (e .span) (writes 1 c (record { place = e .start + W st; bytes = b } ∷ []) (st .disc)) (lastHeld (st .held)) (σ .copy)
     unfolding writes write
     kept-saved =
-        kept-write (landing 1 c) (e .start) (e .span) (W st) b (st .disc) (i .kept) (omega (arith, facts .room)) (live-blank e st σ i) (facts .long) (λ _. facts .plain)
+        let a = facts e st v b c g in
+        kept-write (landing 1 c) (e .start) (e .span) (W st) b (st .disc) (i .kept) (omega (arith, a .room)) (live-blank e st σ i) (a .long) (λ _. a .plain)
 
-    -- uncut, the sector is written
-    module _ (uncut : struck c 1 ≡ false) where
-      d′ : Disc
-      d′ = landed Landing.Done (e .start + W st) b (st .disc)
-
-      on : e .start + W st < length (st .disc .marks)
-      on = on-disc (e .start) (e .span) (st .disc) (W st) (i .kept .within) (omega (arith, facts .room))
-
-      made : Made (st .disc)
-      made = shapely-made (st .disc) (i .kept .shape)
-
-      is-done : writes 1 c (record { place = e .start + W st; bytes = b } ∷ []) (st .disc) ≡ d′
-      unfolding writes write d′
-      is-done = ap (λ (g : Landing). landed g (e .start + W st) b (st .disc)) (landing-uncut 1 1 c uncut (omega arith) (omega arith))
-
-      next-nwa : W st + 1 ≡ nextOn e d′
-      unfolding nextOn d′
-      next-nwa =
-          sym (next-done (e .start) (e .span) (W st) b (st .disc) (live-blank e st σ i) (omega (arith, facts .room)) on)
-
-      agree : Agree (e .start) (W st) d′ (st .disc)
-      unfolding d′
-      agree = agree-landed Landing.Done (e .start) (W st) b (st .disc) (facts .long) on made
-
-      slot-new : entrySlot d′ (e .start) (W st) ≡ holds b
-      unfolding entrySlot slotAt d′ none
-      slot-new =
-          let w : eqb (W st) 0xffffffff ≡ false = ne-eqb (W st) 0xffffffff (λ q. omega (arith, on, shapely-most (st .disc) (i .kept .shape))) in
-          rw (w, recorded-done (e .start + W st) b (st .disc) on, sector-done (e .start + W st) b (st .disc) (facts .long) on made)
-
-      slots-old : entrySlots d′ (e .start) (take (N st) (st .table)) ≡ σ .blocks
-      slots-old = slots-agree (take (N st) (st .table)) agree (i .fresh) ∙ i .now
-
-      slots-new : entrySlots d′ (e .start) (take (countAfter (N st) v) (set (st .table) v (W st))) ≡ put (σ .blocks) v (holds b)
-      unfolding put
-      slots-new =
-          let ln : length (σ .blocks) ≡ N st = live-length e st σ i in
-          by-eq v (N st)
-          (λ q.
-          ap (entrySlots d′ (e .start)) (table-grown (N st) v (W st) (st .table) (omega (arith, facts .small, i .lent)) q)
-          ∙ slots-snoc d′ (e .start) (take (N st) (st .table)) (W st)
-          ∙ ap₂ (λ (l : List Slot) (x : Slot). l ++ (x ∷ [])) slots-old slot-new
-          ∙ sym (rw (ln, le-ltb v (N st) (omega arith))))
-          (λ q.
-          ap (entrySlots d′ (e .start)) (table-set (N st) v (W st) (st .table) (omega (arith, facts .most)))
-          ∙ slots-set d′ (e .start) (take (N st) (st .table)) v (W st)
-          ∙ ap₂ (λ (l : List Slot) (x : Slot). set l v x) slots-old slot-new
-          ∙ sym (rw (ln, lt-ltb v (N st) (omega (arith, facts .most)))))
-
-      live-saved : Live e
-          (record { disc = writes 1 c (record { place = e .start + W st; bytes = b } ∷ []) (st .disc); table = set (st .table) v (W st); held = Record.WriteOnce (countAfter (N st) v) (W st + 1) (lastHeld (st .held)) })
-          (record { blocks = put (σ .blocks) v (holds b); copy = σ .copy })
-      unfolding onceHeld nextHeld entriesHeld lastHeld
-      live-saved =
-          record {
-            once = refl;
-            kept = kept-saved;
-            top = next-nwa ∙ ap (nextOn e) (sym is-done);
-            fresh = saved-fresh (N st) v (W st) (st .table) (facts .most) (omega (arith, facts .small, i .lent)) (i .fresh);
-            few = saved-few (N st) v (i .few) (facts .small);
-            lent = rw length-set (i .lent);
-            now = ap (λ (x : Disc). entrySlots x (e .start) (take (countAfter (N st) v) (set (st .table) v (W st)))) is-done ∙ slots-new;
-          }
+    live-saved : (uncut : struck c 1 ≡ false) → Live e (st′ e st v b c g uncut) (record { blocks = put (σ .blocks) v (holds b); copy = σ .copy })
+    unfolding lastHeld
+    live-saved uncut =
+        let f = saved-fits e st v b c g uncut in
+        record {
+          once = f .once;
+          kept = kept-saved;
+          top = f .top;
+          fresh = f .fresh;
+          few = f .few;
+          lent = f .lent;
+          now = saved-blocks e st v b c g uncut ∙ ap (λ (l : List Slot). put l v (holds b)) (i .now);
+        }
 
   pub sound-save : (v : ℕ) (b : List ℕ) (c : Cut) → Sound (OnceOk e) h σ (saveVirtual v b c) (step e st (saveVirtual v b c))
   unfolding step savePlan OnceOk cutIn writesIn taken

@@ -311,7 +311,7 @@ module _ {e : Setting} {st : State} {σ : Store} {n w a : ℕ} (t : Between e st
         let before : a < w = rw (t .held) at (live-last e st σ (t .live)) in
         let few : n ≤ 4096 = rw (t .held) at (t .live .few) in
         rw (no-data, add-zero w, slots) at
-        (whole-kept (e .start) (e .span) (st .disc) c entries w a last-kept blank (omega (arith, count)) fresh before (omega (arith, no-data)) (rw no-data whole))
+        (whole-kept (e .start) (e .span) (st .disc) c entries w a (last-kept .shape) (last-kept .within) blank (omega (arith, count)) fresh before (omega (arith, no-data)) (rw no-data whole))
 
     -- one that is cut, its ICB whole
     pub commit-whole : (c : Cut) → struck c 1 ≡ true → landing 1 c ≡ Landing.Done

@@ -190,21 +190,10 @@ unfoldable pub Elsewhere : ℕ → List Write → Type 0
 Elsewhere q [] = Unit {0}
 Elsewhere q (w ∷ ws) = (q ≢ w .place) × Elsewhere q ws
 
--- no writes are placed,
+-- no writes are placed
 pub placed-none : (n : ℕ) → Placed n []
 unfolding Placed
 placed-none n = tt
-
--- one write is,
-pub placed-one : (n p : ℕ) (b : List ℕ) → p < n → length b ≡ 2048 → Placed n (record { place = p; bytes = b } ∷ [])
-unfolding Placed
-placed-one n p b h e = (h, e, tt)
-
--- and so are two lists that are, one after the other
-pub placed-append : (n : ℕ) (ws vs : List Write) → Placed n ws → Placed n vs → Placed n (ws ++ vs)
-unfolding Placed
-placed-append n [] vs h k = k
-placed-append n (w ∷ ws) vs h k = (h .0, h .1, placed-append n ws vs (h .2) k)
 
 -- no write is at q among none,
 pub elsewhere-none : (q : ℕ) → Elsewhere q []

@@ -95,7 +95,7 @@ module _ (e : Setting) (one : writeOnce e ≡ true) (maps-go : readMaps (e .maps
     exact-save v b c =
         by-plan σ k (saveVirtual v b c) c st _ _ _ _ x λ g.
         moved-on σ (saveVirtual v b c) k (st .disc) _ (lastHeld (st .held)) (i .kept) (kept-saved e h st σ i v b c g) refl
-        (from-next st σ (saveVirtual v b c) c _ i refl refl (rising-one _ b) (omega (arith, facts e h st σ i v b c g .room)))
+        (from-next st σ (saveVirtual v b c) c _ i refl refl (rising-one _ b) (omega (arith, facts e st v b c g .room)))
         x
 
     exact-free : (v : ℕ) → Leaves σ k (freeVirtual v) (step e st (freeVirtual v))
@@ -110,7 +110,7 @@ module _ (e : Setting) (one : writeOnce e ≡ true) (maps-go : readMaps (e .maps
         (λ q. moved-up σ (commit c) k _ _ (laid-kept e h st σ i c g q) q (laid-next e h st σ i c g q))
         (λ q.
         moved-on σ (commit c) k (st .disc) _ (lastHeld (st .held)) (i .kept) (left-kept e h st σ i c g q) q
-        (from-next st σ (commit c) c _ i refl (commit-count e h st σ i c g) (rising-commit e _ (st .held)) (commit-fits e h st σ i c g))
+        (from-next st σ (commit c) c _ i refl (commit-count e h st σ i c g) (rising-commit e _ (st .held)) (commit-fits e st c g))
         x)
 
     -- a call for rewritable discs is refused
