@@ -23,14 +23,14 @@ use Rattle.model.specs.Sparing.{packetOf}
 use Rattle.model.specs.Examine.{Setting, writeOnce, examined}
 use Rattle.model.specs.Once.{entriesHeld, heldFits, onceVerdict, numberFits, saveTests, savePlan, entryTests, freePlan}
 use Rattle.model.specs.Rewrite.{copyTests, heldCurrent, rewritableVerdict, blockTest, saveBlockTests, saveBlockPlan, packetTests, savePacketPlan, spareTests, sparePlan}
-use Rattle.model.specs.Calls.{Call, saveVirtual, freeVirtual, commit, saveBlock, savePacket, sparePacket, openDisc, Answer, done, cut, refused, opened, State, step, carried, answerOf, answers, final, accepted, isCut, isOpened, Proper, endsCut}
+use Rattle.model.specs.Calls.{Call, saveVirtual, freeVirtual, commit, saveBlock, savePacket, sparePacket, openDisc, State, step, carried, answerOf, answers, final, accepted, isCut, Proper, endsCut}
 use Rattle.model.specs.Store.{holds, unused, Store, Shape, store, start, shapeOf, cutIn, writesIn, wasCut, slotsIn, packetWith, taken, next, Seen, bytes, turned, seenAs, look}
 use Rattle.model.specs.Demand.{Demand3, afterOpening, followed}
 use Rattle.model.specs.Consequences.{Follows, answerAfter, storeAfter, shownAfter, CarriedOut, CutShort, CutExactly, RefusalsChangeNothing, OnceEffect, LastCommit, laysIcb, CopyByCommit, FullEffect, SpareAllOrNothing, seenLanded, SaveOwnPacket}
 use Rattle.model.proofs.Basics.{cond-both, by-bool, and-true, differ}
 use Rattle.model.proofs.Cuts.{whole-same, spared-cut}
-use Rattle.model.proofs.Verdicts.{by-verdict, then-go}
-use Rattle.model.proofs.Steps.{Told, told-opening}
+use Rattle.model.proofs.Verdicts.{then-go}
+use Rattle.model.proofs.Steps.{plan-goes, opened-accepted, Told, told-opening}
 use Rattle.model.proofs.OnceSave.{once-tells}
 use Rattle.model.proofs.OnceDemand.{once-told, once-blocks}
 use Rattle.model.proofs.ReadyCalls.{again-tells}
@@ -50,14 +50,6 @@ cut-exactly e d t cs f =
     by-bool (writeOnce e)
     (λ one. once-told e d t one (f .opens) cs (f .proper))
     (λ again. again-told e d t (f .low) again (f .opens) cs (f .proper))
-
--- an opening that was accepted
-opened-accepted : (a : Answer) → isOpened a ≡ true → accepted a ≡ true
-unfolding isOpened accepted
-opened-accepted (done r) h = absurd (false≢true h)
-opened-accepted cut h = refl
-opened-accepted (refused why) h = absurd (false≢true h)
-opened-accepted (opened r n) h = refl
 
 module _ (e : Setting) (d : Disc) (t : List ℕ) where
   -- ---- a list and the call after it
@@ -183,10 +175,6 @@ refusals-change-nothing e d t cs c f a =
 
 -- ---- what the acceptance of a call tells
 
-accepted-plan : (v : Verdict) (ws : List Write) (tb : List ℕ) (r : Record) (k : Cut) (st : State) → accepted (carried (unless v (carry ws tb r)) k st .answer) ≡ true → v ≡ Go
-unfolding carried unless replyOf answerOf accepted
-accepted-plan v ws tb r k st a = by-verdict v (λ q. q) (λ why q. absurd (false≢true (rw q at a)))
-
 kind-again : (e : Setting) (d : Disc) (t : List ℕ) (lent : Bool) (r : Record) (own : List Test) → rewritableVerdict e d t lent r own ≡ Go → writeOnce e ≡ false
 unfolding rewritableVerdict
 kind-again e d t lent r own g =
@@ -203,28 +191,28 @@ module _ (e : Setting) (st : State) where
   save-told : (v : ℕ) (b : List ℕ) (c : Cut) → accepted (step e st (saveVirtual v b c) .answer) ≡ true → (writeOnce e ≡ true) × (v ≤ entriesHeld (st .held))
   unfolding step savePlan numberFits saveTests
   save-told v b c a =
-      let g = accepted-plan _ _ _ _ c st a in
+      let g = plan-goes _ _ _ c st a in
       let p = once-tells e (st .disc) (st .table) _ (st .held) (saveTests e (st .disc) (st .held) v b) g in
       (kind-once e _ _ _ _ _ g, leb-true _ _ (and-true (leb v (entriesHeld (st .held))) _ (p .1 .0) .0))
 
   free-told : (v : ℕ) → accepted (step e st (freeVirtual v) .answer) ≡ true → (writeOnce e ≡ true) × (v < entriesHeld (st .held))
   unfolding step freePlan entryTests
   free-told v a =
-      let g = accepted-plan _ _ _ _ noCut st a in
+      let g = plan-goes _ _ _ noCut st a in
       let p = once-tells e (st .disc) (st .table) _ (st .held) (entryTests (st .table) (st .held) v) g in
       (kind-once e _ _ _ _ _ g, ltb-true _ _ (p .1 .0))
 
   pub block-told : (b : ℕ) (x : List ℕ) (c : Cut) → accepted (step e st (saveBlock b x c) .answer) ≡ true → (writeOnce e ≡ false) × (b < e .span)
   unfolding step saveBlockPlan saveBlockTests blockTest
   block-told b x c a =
-      let g = accepted-plan _ _ _ _ c st a in
+      let g = plan-goes _ _ _ c st a in
       let p = again-tells e (st .disc) (st .table) _ (st .held) (saveBlockTests e (st .disc) b) g in
       (kind-again e _ _ _ _ _ g, ltb-true _ _ (p .1 .0))
 
   pub packet-told : (b : ℕ) (x : List ℕ) (c : Cut) → accepted (step e st (savePacket b x c) .answer) ≡ true → (writeOnce e ≡ false) × (b % 32 ≡ 0) × (b < e .span)
   unfolding step savePacketPlan packetTests
   packet-told b x c a =
-      let g = accepted-plan _ _ _ _ c st a in
+      let g = plan-goes _ _ _ c st a in
       let p = again-tells e (st .disc) (st .table) _ (st .held) (packetTests e b) g in
       let q = and-true (eqb (b % 32) 0) _ (p .1 .0) in
       (kind-again e _ _ _ _ _ g, eqb-true _ _ (q .0), ltb-true _ _ (q .1))
@@ -232,7 +220,7 @@ module _ (e : Setting) (st : State) where
   pub spare-told : (b : ℕ) (x : List ℕ) (c : Cut) → accepted (step e st (sparePacket b x c) .answer) ≡ true → (writeOnce e ≡ false) × (b % 32 ≡ 0) × (b < e .span)
   unfolding step sparePlan spareTests packetTests
   spare-told b x c a =
-      let g = accepted-plan _ _ _ _ c st a in
+      let g = plan-goes _ _ _ c st a in
       let p = again-tells e (st .disc) (st .table) _ (st .held) (spareTests e (st .disc) b) g in
       let q = and-true (eqb (b % 32) 0) _ (p .1 .0) in
       (kind-again e _ _ _ _ _ g, eqb-true _ _ (q .0), ltb-true _ _ (q .1))
@@ -372,7 +360,7 @@ uncut-plan v ws tb r st g = rw g (refl, refl)
 spare-uncut : (e : Setting) (st : State) (b : ℕ) (x : List ℕ) (c : Cut) → accepted (step e st (sparePacket b x c) .answer) ≡ true
     → (accepted (step e st (sparePacket b x noCut) .answer) ≡ true) × (isCut (step e st (sparePacket b x noCut) .answer) ≡ false)
 unfolding step sparePlan
-spare-uncut e st b x c a = uncut-plan _ _ _ _ st (accepted-plan _ _ _ _ c st a)
+spare-uncut e st b x c a = uncut-plan _ _ _ _ st (plan-goes _ _ _ c st a)
 
 -- a sparing that was cut is done whole or not at all
 pub spare-all-or-nothing : SpareAllOrNothing

@@ -54,5 +54,7 @@ pub mod Run
 pub mod BlankMet
 pub mod WaitReached
 pub mod Fitting
+pub mod EitherFirst
+pub mod EitherPlots
 pub mod ReadBack
 pub mod ReadBackMet

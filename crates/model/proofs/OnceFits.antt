@@ -9,7 +9,7 @@ use lib.Dec.{leb, ltb, eqb}
 use lib.ListN.{length, getD, take, List·getD-map}
 use lib.Seq.{getD-take, length-take-le}
 use borrow.Author.Tests.{ltb-true, leb-true, eqb-true, lt-ltb, le-ltb, le-leb, eq-eqb}
-use Rattle.refusal.specs.declared.Refusal.the-variants.{OtherKind, StaleRecord, NumberOutside, UnusedEntry}
+use Rattle.refusal.specs.declared.Refusal.the-variants.{LentLength, OtherKind, StaleRecord, NumberOutside, UnusedEntry}
 use Rattle.refusal.specs.declared.Verdict.{Verdict}
 use Rattle.refusal.specs.declared.Verdict.the-variants.{Go, Stop}
 use Rattle.refusal.specs.Tests.{Test, test, first, need}
@@ -18,13 +18,13 @@ use Rattle.maps.specs.Kinds.{readMaps}
 use Rattle.model.specs.declared.Record.{Record}
 use Rattle.model.specs.Disc.{Disc, sector, mark, markTests, shapely, inside}
 use Rattle.model.specs.Vat.{none, allBelow}
-use Rattle.model.specs.Examine.{Setting, writeOnce, examined, lentTable}
+use Rattle.model.specs.Examine.{Setting, writeOnce, shapeTests, examined, lentTable}
 use Rattle.model.specs.Once.{nextOn, entriesHeld, nextHeld, lastHeld, heldFits, onceVerdict, heldVerdict, entryTests}
 use Rattle.model.specs.Both.{readVerdict, readBytes, readLent, readOnceTests, entrySector, blockSector, blockBy}
 use Rattle.model.specs.Calls.{State}
-use Rattle.model.specs.Store.{Slot, unused, entrySlot, entrySlots, Store, seenAs, look}
+use Rattle.model.specs.Store.{Slot, unused, entrySlot, entrySlots, Store, turned, seenAs, look}
 use Rattle.model.specs.Demand.{seen, seenBy}
-use Rattle.model.proofs.Basics.{by-bool, by-lt, and-true, both}
+use Rattle.model.proofs.Basics.{by-bool, by-lt, and-true, and-false, both}
 use Rattle.model.proofs.Verdicts.{then-go, go-then, examined-tells, examined-go}
 use Rattle.model.proofs.Marks.{sector-shown}
 use Rattle.model.proofs.Scan.{length-slots, slot-none}
@@ -180,3 +180,8 @@ module _ (e : Setting) (st : State) (f : Fits e st) (v : ℕ) (out : List ℕ) (
       (λ a.
       let la : ltb v n ≡ false = le-ltb v n a in
       shown (Stop NumberOutside) (read-tests ∙ rw la) ∙ sym (rw (ln, la)))
+
+-- lent bytes of another length, it is refused under 3
+pub fits-unread : (e : Setting) (st : State) → Fits e st → (v : ℕ) (out : List ℕ) → eqb (length out) 2048 ≡ false → seen e st v out ≡ turned LentLength
+unfolding seen seenBy readVerdict readLent examined shapeTests need
+fits-unread e st f v out short = rw (short, and-false (lentTable (st .table)) {b = false} refl, f .shape, f .within)

@@ -1,6 +1,6 @@
 -- Opening a write-once disc: it is accepted wherever a VAT is kept, and gives back its blocks. Assumes nothing.
 use Prim.Native.Nat.{ℕ, zero, suc, _+_, _-_, _≤_, _<_}
-use mathlib.Core.Bool.{true, false≢true}
+use mathlib.Core.Bool.{true, false, false≢true}
 use mathlib.Core.Path.{_≡_, refl, ap, _∙_}
 use mathlib.Core.List.{List}
 use native.Mathlib.Omega.{arith}
@@ -20,7 +20,7 @@ use Rattle.model.specs.Examine.{Setting, writeOnce, examined, lentTable}
 use Rattle.model.specs.Once.{nextOn, entriesHeld, nextHeld, lastHeld, isFound, foundAt, newest, newestFile, openOnceTests, foundRecord, passedOver, filledFrom}
 use Rattle.model.specs.Both.{openVerdict, recordOn, numbersOn, openedBy, filledBy, opening, openedTable}
 use Rattle.model.specs.Calls.{openDisc, State, Result, step, answerOfOpening, heldAfterOpening, accepted, isCut, isOpened}
-use Rattle.model.specs.Store.{Slot, entrySlots, Store, Shape, blocksOn, start, cutIn, writesIn, wasCut, taken, next}
+use Rattle.model.specs.Store.{Slot, entrySlots, Store, store, Shape, blocksOn, start, cutIn, writesIn, wasCut, taken, next}
 use Rattle.model.specs.Demand.{afterOpening}
 use Rattle.model.proofs.Basics.{by-lt}
 use Rattle.model.proofs.Verdicts.{Examined, examined-tells, then-go, go-then}
@@ -113,7 +113,9 @@ module _ (e : Setting) (once : writeOnce e ≡ true) (maps-go : readMaps (e .map
   -- every opening is accepted, and returns to the store's copy
   pub record Reopened (h : Shape) (σ : Store) (r : Result) : Type 1 where
     pub sound : Sound (OnceOk e) h σ openDisc r
+    pub live : Live e (r .state) (store (σ .copy) (σ .copy))
     pub accepts : isOpened (r .answer) ≡ true
+    pub uncut : isCut (r .answer) ≡ false
 
   pub reopened : (h : Shape) → h .once ≡ true → (st : State) (σ : Store) (a : ℕ) → Kept (e .start) (e .span) (st .disc) a (σ .copy) → 4096 ≤ length (st .table)
       → Reopened h σ (step e st openDisc)
@@ -122,7 +124,9 @@ module _ (e : Setting) (once : writeOnce e ≡ true) (maps-go : readMaps (e .map
       rw (open-goes (st .disc) (st .table) a κ long, once)
       (record {
         sound = rw one (live-open e st σ a κ long (kept-newest (st .disc) a κ));
+        live = live-open e st σ a κ long (kept-newest (st .disc) a κ);
         accepts = refl;
+        uncut = refl;
       })
 
   -- ---- the disc that opening accepts at first

@@ -347,9 +347,9 @@ module _ {e : Setting} {st : State} {σ : Store} {w a : ℕ} (f : AfterCut e st 
 
   -- every opening is accepted, and returns to the copy
   pub opened-again : Goes e st openDisc (opened (Record.WriteOnce (length (σ .copy)) w a) (w - 1 - a)) (λ x. Between e x (store (σ .copy) (σ .copy)) (length (σ .copy)) w a)
-  unfolding OnceOk isCut accepted next wasCut cutIn taken struck noCut shapeOf
+  unfolding shapeOf
   opened-again =
       record {
         says = open-says;
-        leaves = record { once = f .once; maps = f .maps; live = rw (f .once) at (rw open-says at (reopened e (f .once) (f .maps) (shapeOf e) (f .once) st σ a (f .kept) (f .long) .sound)); held = open-held };
+        leaves = record { once = f .once; maps = f .maps; live = reopened e (f .once) (f .maps) (shapeOf e) (f .once) st σ a (f .kept) (f .long) .live; held = open-held };
       }

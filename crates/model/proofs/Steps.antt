@@ -2,8 +2,8 @@
 -- last. From it every opening of a list is accepted, and the answer of each call says that it was cut exactly if the plain store knows it. For both
 -- kinds. Assumes nothing.
 use Prim.Native.Nat.{ℕ, zero, suc, _<_}
-use mathlib.Core.Bool.{Bool, true, false, _&&_}
-use mathlib.Core.Path.{_≡_, refl, subst}
+use mathlib.Core.Bool.{Bool, true, false, _&&_, false≢true}
+use mathlib.Core.Path.{_≡_, refl, sym, subst}
 use mathlib.Core.List.{List, [], _∷_}
 use lib.ListN.{length, getD, take}
 use lib.Seq.{take-length}
@@ -16,7 +16,7 @@ use Rattle.model.specs.Writes.{Write, writes, struck, noCut}
 use Rattle.model.specs.Plan.{refuse, carry, unless, replyOf, discAfter, tableAfter}
 use Rattle.model.specs.Examine.{Setting}
 use Rattle.model.specs.Both.{openVerdict, openedBy, opening}
-use Rattle.model.specs.Calls.{Call, openDisc, Answer, done, cut, refused, State, Result, answerOf, heldAfter, carried, answerOfOpening, step, answers, final, accepted, isCut, isOpened, Proper, endsCut}
+use Rattle.model.specs.Calls.{Call, openDisc, Answer, done, cut, refused, opened, State, Result, answerOf, heldAfter, carried, answerOfOpening, step, answers, final, accepted, isCut, isOpened, Proper, endsCut}
 use Rattle.model.specs.Store.{Store, Shape, cutIn, writesIn, wasCut, taken, next}
 use Rattle.model.specs.Demand.{followed}
 use Rattle.model.specs.Wait.{Count, count, counting, counted}
@@ -39,6 +39,24 @@ module _ (ws : List Write) (t : List ℕ) (r : Record) (k : Cut) (st : State) {v
       → carried (unless v (carry ws t r)) k st ≡ record { answer = done r; state = record { disc = writes 1 k ws (st .disc); table = t; held = r } }
   unfolding unless carried replyOf discAfter tableAfter answerOf heldAfter
   plan-done q s = rw (q, s)
+
+  -- a call that was accepted was not stopped,
+  pub plan-goes : accepted (carried (unless v (carry ws t r)) k st .answer) ≡ true → v ≡ Go
+  unfolding accepted
+  plan-goes a = by-verdict v (λ q. q) (λ why q. absurd (false≢true (rw (plan-stopped q) at a)))
+
+  -- and where its answer does not say so it was not cut
+  pub plan-uncut : v ≡ Go → isCut (carried (unless v (carry ws t r)) k st .answer) ≡ false → struck k (length ws) ≡ false
+  unfolding isCut
+  plan-uncut q a = by-bool (struck k (length ws)) (λ s. absurd (false≢true (sym (rw (plan-cut q s) at a)))) (λ s. s)
+
+-- an opening that was accepted, as calls are
+pub opened-accepted : (a : Answer) → isOpened a ≡ true → accepted a ≡ true
+unfolding isOpened accepted
+opened-accepted (done r) h = absurd (false≢true h)
+opened-accepted cut h = refl
+opened-accepted (refused why) h = absurd (false≢true h)
+opened-accepted (opened r n) h = refl
 
 -- ---- whether a call was cut
 

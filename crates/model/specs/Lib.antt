@@ -21,4 +21,5 @@ pub mod Run
 pub mod Blank
 pub mod Wait
 pub mod Forecast
+pub mod EitherFirst
 pub mod ReadBack
