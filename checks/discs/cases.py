@@ -120,6 +120,15 @@ def cuts():
         look()
 
 
+def entry(form, f, a):
+    """A File Entry of this form, F and A."""
+    p("bytes 0")
+    p("set16 20 4")
+    p("set8 34 %d" % form)
+    p("set32 56 %d" % f)
+    p("set32 172 %d" % a)
+
+
 def forged():
     p("# blocks that might stand for a VAT ICB at logical block 4: line 15 in a save, then recorded there all the same")
 
@@ -141,13 +150,6 @@ def forged():
         p("save 0")
         p("put 6 1")
         p("open")
-
-    def entry(form, f, a):
-        p("bytes 0")
-        p("set16 20 4")
-        p("set8 34 %d" % form)
-        p("set32 56 %d" % f)
-        p("set32 172 %d" % a)
 
     def embedded():
         entry(3, 40, 40)
@@ -387,6 +389,67 @@ def forecasts():
     ask(0, 1, 2134, 2135, 2140)
     ask(0, 1, 600, 4352, saves=99)
     ask(0, 1, 4352, saves=1)
+
+
+def either():
+    p("# 02, slip 11: two blocks saved in either order at NWA 4, committed and opened; where both are accepted in both, all reads alike")
+
+    def plain(v, byte):
+        p("bytes %d" % byte)
+        p("save %d" % v)
+
+    def embedded(v, k):
+        entry(3, 36, 36)
+        p("regid 176")
+        p("set32 208 none")
+        p("tagged %d 196" % k)
+        p("save %d" % v)
+
+    def file(v):
+        p("bytes 0")
+        p("regid 0")
+        p("set32 32 none")
+        p("save %d" % v)
+
+    def beside(v):
+        entry(0, 36, 8)
+        p("set32 176 36")
+        p("set32 180 4")
+        p("tagged 5 168")
+        p("save %d" % v)
+
+    def opened():
+        begin()
+        p("commit")
+
+    def forged():
+        p("clear")
+        for q, mark in ((2, 1), (3, 2), (5, 1)):
+            p("bytes %d" % q)
+            p("put %d %d" % (q, mark))
+        p("fill 0 1 2 none")
+        p("held 4 4 1")
+
+    def orders(name, *saves, start=opened):
+        for order, turn in (("", saves), (", in the other order", saves[::-1])):
+            p("# " + name + order)
+            start()
+            for save, *with_ in turn:
+                save(*with_)
+            p("commit")
+            p("fill 7 7 7 7")
+            p("open")
+            reads(0, 1, 2, 3)
+
+    orders("blocks 0 and 1", (plain, 0, 51), (plain, 1, 68))
+    orders("block 1, and a new one", (plain, 1, 51), (plain, 2, 68))
+    orders("two new ones, of which the higher is not first", (plain, 2, 51), (plain, 3, 68))
+    orders("block 1 would be a VAT ICB in block 4", (plain, 0, 51), (embedded, 1, 4))
+    orders("block 1 would be a VAT ICB in block 5", (plain, 0, 51), (embedded, 1, 5))
+    orders("each would be one where it comes second", (embedded, 0, 5), (embedded, 1, 5))
+    orders("block 1 would be one in block 5, of the file that block 0 is", (file, 0), (beside, 1))
+    orders("and block 0 is no such file", (plain, 0, 51), (beside, 1))
+    orders("a record of no opening, on a disc with no VAT", (plain, 3, 51), (plain, 0, 68), start=forged)
 
 
 def refused():
@@ -837,7 +900,7 @@ def sized():
     p("open")
 
 
-GROUPS = ["tables", "sizes", "cuts", "forged", "rooms", "forecasts", "refused", "spared", "turned", "unrecorded", "counting", "sized"]
+GROUPS = ["tables", "sizes", "cuts", "forged", "rooms", "forecasts", "either", "refused", "spared", "turned", "unrecorded", "counting", "sized"]
 
 if __name__ == "__main__":
     for name in sys.argv[1:] or GROUPS:

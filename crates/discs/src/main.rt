@@ -80,7 +80,7 @@ fn begin(script: &[u8]) {
 }
 
 fn main() {
-    let mut script = io::large_buffer();
+    let mut script = [0u8; 131072];
     let n = io::read_full(STDIN_FILENO, &mut script);
     begin(&script[..n]);
 }

@@ -36,6 +36,14 @@ use Rattle.model.proofs.Cuts.{whole-lands, broken-lands, choice-same}
 use Rattle.model.proofs.OnceSave.{OnceOk, once-tells}
 use Rattle.model.proofs.Steps.{Told, told-plan, Sound, sound-plan, sound-carried}
 
+-- what a commit of the entries t on the disc d, from block i₀ on, leaves where its ICB, at block k, is whole: its VAT is the topmost, nothing below i₀
+-- has changed, NWA is one past the ICB, and this names the one before it
+pub record Whole (s l i₀ k last : ℕ) (t : List ℕ) (d d′ : Disc) : Type 0 where
+  pub kept : Kept s l d′ k (entrySlots d s t)
+  pub agree : Agree s i₀ d′ d
+  pub top : nwa d′ s l ≡ k + 1
+  pub names : previousOf (vatFile d′ s k) ≡ last
+
 -- a commit of the first n entries of t, from block i₀ on, naming the ICB at `last`
 module _ (s l : ℕ) (d : Disc) (c : Cut) (t : List ℕ) (i₀ last : ℕ) (shape : shapely d ≡ true) (within : inside d s l ≡ true) (z : BlankFrom s l d i₀)
     (few : length t ≤ 4096) (fresh : allBelow i₀ t ≡ true) (before : last < i₀) (room : i₀ + dataSectors (length t) + 1 ≤ l) where
@@ -160,21 +168,17 @@ module _ (s l : ℕ) (d : Disc) (c : Cut) (t : List ℕ) (i₀ last : ℕ) (shap
               ∙ slots-agree t agree₀ fresh;
         }
 
-    is-whole : d₂ ≡ d₃
-    is-whole = ap (λ (x : Landing). landed x (s + k) icb d₁) whole
+    whole₃ : Whole s l i₀ k last t d d₃
+    whole₃ =
+        record {
+          kept = kept₃;
+          agree = agree₀;
+          top = next-done s l k icb d₁ (ran .blank) (omega arith) on-k;
+          names = ap previousOf file ∙ file-previous t last k before-k small;
+        }
 
-    pub whole-kept : Kept s l d₂ k (entrySlots d s t)
-    whole-kept = rw is-whole kept₃
-
-    pub whole-agree : Agree s i₀ d₂ d
-    whole-agree = rw is-whole agree₀
-
-    pub whole-next : k + 1 ≡ nwa d₂ s l
-    whole-next = rw is-whole (sym (next-done s l k icb d₁ (ran .blank) (omega arith) on-k))
-
-    -- the new ICB names the one before it
-    pub whole-previous : previousOf (vatFile d₂ s k) ≡ last
-    whole-previous = rw is-whole (ap previousOf file ∙ file-previous t last k before-k small)
+    pub whole-left : Whole s l i₀ k last t d d₂
+    whole-left = subst (λ (x : Landing). Whole s l i₀ k last t d (landed x (s + k) icb d₁)) (sym whole) whole₃
 
 -- ---- the writes of a commit, by what they do
 
@@ -276,48 +280,28 @@ module _ (e : Setting) (st : State) (c : Cut)
   pub commit-fits : nextHeld (st .held) + length ws ≤ e .span
   commit-fits = omega (arith, number, space)
 
-  -- where its ICB is whole, its VAT is the topmost,
-  whole-commit : landing (1 + D′) c ≡ Landing.Done → Kept (e .start) (e .span) (writes 1 c ws (st .disc)) (nextHeld (st .held) + D′) (blocksOf e st)
-  whole-commit q =
+  -- what it leaves where its ICB is whole
+  laid-whole : landing (1 + D′) c ≡ Landing.Done
+      → Whole (e .start) (e .span) (nextHeld (st .held)) (nextHeld (st .held) + D′) (lastHeld (st .held)) t′ (st .disc) (writes 1 c ws (st .disc))
+  laid-whole q =
       rw is-disc
-      (whole-kept (e .start) (e .span) (st .disc) c t′ (nextHeld (st .held)) (lastHeld (st .held)) (commit-from .shape) (commit-from .within) (fits-blank e st commit-from) few′ (commit-from .fresh) (commit-from .last) space q)
-
-  -- and names the one before it,
-  whole-names : landing (1 + D′) c ≡ Landing.Done → previousOf (vatFile (writes 1 c ws (st .disc)) (e .start) (nextHeld (st .held) + D′)) ≡ lastHeld (st .held)
-  whole-names q =
-      rw is-disc
-      (whole-previous (e .start) (e .span) (st .disc) c t′ (nextHeld (st .held)) (lastHeld (st .held)) (commit-from .shape) (commit-from .within) (fits-blank e st commit-from) few′ (commit-from .fresh) (commit-from .last) space q)
-
-  -- NWA is one past it,
-  whole-top : landing (1 + D′) c ≡ Landing.Done → nextOn e (writes 1 c ws (st .disc)) ≡ nextHeld (st .held) + D′ + 1
-  unfolding nextOn
-  whole-top q =
-      rw is-disc
-      (sym (whole-next (e .start) (e .span) (st .disc) c t′ (nextHeld (st .held)) (lastHeld (st .held)) (commit-from .shape) (commit-from .within) (fits-blank e st commit-from) few′ (commit-from .fresh) (commit-from .last) space q))
-
-  -- and the blocks are as before it
-  whole-now : landing (1 + D′) c ≡ Landing.Done → entrySlots (writes 1 c ws (st .disc)) (e .start) t′ ≡ blocksOf e st
-  whole-now q =
-      rw is-disc
-      (slots-agree t′
-      (whole-agree (e .start) (e .span) (st .disc) c t′ (nextHeld (st .held)) (lastHeld (st .held)) (commit-from .shape) (commit-from .within) (fits-blank e st commit-from) few′ (commit-from .fresh) (commit-from .last) space q)
-      (commit-from .fresh))
+      (whole-left (e .start) (e .span) (st .disc) c t′ (nextHeld (st .held)) (lastHeld (st .held)) (commit-from .shape) (commit-from .within) (fits-blank e st commit-from) few′ (commit-from .fresh) (commit-from .last) space q)
 
   -- uncut, the invariant holds after it, whatever was before
   pub committed-live : struck c (length ws) ≡ false
       → Live e (record { disc = writes 1 c ws (st .disc); table = st .table; held = committedRecord (st .held) }) (store (blocksOf e st) (blocksOf e st))
-  unfolding onceHeld entriesHeld nextHeld lastHeld icbBlock
+  unfolding onceHeld entriesHeld nextHeld lastHeld icbBlock nextOn
   committed-live q =
-      let w : landing (1 + D′) c ≡ Landing.Done = landing-uncut (1 + D′) (length ws) c q (omega arith) (omega (arith, number)) in
+      let w = laid-whole (landing-uncut (1 + D′) (length ws) c q (omega arith) (omega (arith, number))) in
       let k′ : nextHeld (st .held) + D′ ≡ icbBlock (st .held) = omega (arith, ap dataSectors count) in
       record {
         once = refl;
-        kept = subst (λ (x : ℕ). Kept (e .start) (e .span) (writes 1 c ws (st .disc)) x (blocksOf e st)) k′ (whole-commit w);
-        top = ap (λ (x : ℕ). x + 1) (sym k′) ∙ sym (whole-top w);
+        kept = subst (λ (x : ℕ). Kept (e .start) (e .span) (writes 1 c ws (st .disc)) x (blocksOf e st)) k′ (w .kept);
+        top = ap (λ (x : ℕ). x + 1) (sym k′) ∙ sym (w .top);
         fresh = below-mono (nextHeld (st .held)) _ t′ (omega arith) (commit-from .fresh);
         few = commit-from .few;
         lent = commit-from .lent;
-        now = whole-now w;
+        now = slots-agree t′ (w .agree) (commit-from .fresh);
       }
 
   -- and so do lines 1 to 7 and 11
@@ -343,7 +327,7 @@ module _ (e : Setting) (h : Shape) (st : State) (σ : Store) (i : Live e st σ) 
   d″ = writes 1 c (ws e st c goes) (st .disc)
 
   whole-blocks : landing (1 + D″) c ≡ Landing.Done → Kept (e .start) (e .span) d″ (nextHeld (st .held) + D″) (σ .blocks)
-  whole-blocks q = rw (← i .now) (whole-commit e st c goes q)
+  whole-blocks q = rw (← i .now) (laid-whole e st c goes q .kept)
 
   torn-commit : landing (1 + D″) c ≢ Landing.Done → Kept (e .start) (e .span) d″ (lastHeld (st .held)) (σ .copy)
   torn-commit q =
@@ -366,11 +350,12 @@ module _ (e : Setting) (h : Shape) (st : State) (σ : Store) (i : Live e st σ) 
   laid-kept q = whole-blocks (laid q)
 
   pub laid-previous : laysIcb h σ (commit c) ≡ true → previousOf (vatFile d″ (e .start) (nextHeld (st .held) + D″)) ≡ lastHeld (st .held)
-  laid-previous q = whole-names e st c goes (laid q)
+  laid-previous q = laid-whole e st c goes (laid q) .names
 
   -- and NWA is one past it
   pub laid-next : laysIcb h σ (commit c) ≡ true → nextOn e d″ ≡ nextHeld (st .held) + D″ + 1
-  laid-next q = whole-top e st c goes (laid q)
+  unfolding nextOn
+  laid-next q = laid-whole e st c goes (laid q) .top
 
   -- one whose ICB is not whole
   not-laid : laysIcb h σ (commit c) ≡ false → landing (1 + D″) c ≢ Landing.Done

@@ -37,7 +37,7 @@ use Rattle.model.proofs.Once.{Kept, BlankFrom, on-disc, nextAfter, next
 use Rattle.model.proofs.OnceRead.{Live, live-held, live-blank, live-last, live-block, live-length, examined-once}
 use Rattle.model.proofs.OnceSave.{OnceOk, sound-save, sound-free}
 use Rattle.model.proofs.OnceOpen.{length-entries, kept-newest, open-goes, reopened}
-use Rattle.model.proofs.OnceCommit.{commit-one, sound-commit, whole-kept}
+use Rattle.model.proofs.OnceCommit.{commit-one, sound-commit, whole-left}
 
 -- between calls: the record is N, NWA w and the last ICB a, and the plain store is σ
 pub record Between (e : Setting) (st : State) (σ : Store) (n w a : ℕ) : Type 0 where
@@ -311,7 +311,7 @@ module _ {e : Setting} {st : State} {σ : Store} {n w a : ℕ} (t : Between e st
         let before : a < w = rw (t .held) at (live-last e st σ (t .live)) in
         let few : n ≤ 4096 = rw (t .held) at (t .live .few) in
         rw (no-data, add-zero w, slots) at
-        (whole-kept (e .start) (e .span) (st .disc) c entries w a (last-kept .shape) (last-kept .within) blank (omega (arith, count)) fresh before (omega (arith, no-data)) (rw no-data whole))
+        (whole-left (e .start) (e .span) (st .disc) c entries w a (last-kept .shape) (last-kept .within) blank (omega (arith, count)) fresh before (omega (arith, no-data)) (rw no-data whole) .kept)
 
     -- one that is cut, its ICB whole
     pub commit-whole : (c : Cut) → struck c 1 ≡ true → landing 1 c ≡ Landing.Done
