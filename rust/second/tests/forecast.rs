@@ -5,64 +5,14 @@
 //! What the lists come to is also worked out by a formula from document 01's words, and by formulas that are wrong in one place: each of
 //! these is contradicted by a list that is tried here, so a forecast that was wrong there would be found.
 
-#[path = "lists/random.rs"]
-mod random;
+#[path = "lists/world.rs"]
+mod world;
 
-use random::Random;
 use tuormik::{BLANK, COMMIT, MOST_ENTRIES, NONE, RECORDED, SECTOR, UNREADABLE};
 use tuormik_second::layer::{Layer, PLAIN, PROVED};
-use tuormik_second::plain;
-
-const MOST: u32 = MOST_ENTRIES as u32;
-const OUTSIDE: u32 = 12;
-const PASSES_AS_ICB: u32 = 15;
-const NO_ROOM: u32 = 16;
-
-/// One of some.
-fn pick<T: Copy>(random: &mut Random, from: &[T]) -> T {
-    from[random.below(from.len() as u32) as usize]
-}
-
-/// All that is lent.
-#[derive(Clone, PartialEq)]
-struct World {
-    disc: Vec<u8>,
-    marks: Vec<u8>,
-    maps: Vec<u8>,
-    s: u32,
-    l: u32,
-    table: Vec<u32>,
-    record: Vec<u32>,
-}
-
-const START: u32 = 3;
+use world::{data_sectors, icb_at, no_cut, pick, Random, World, COUNTS, MOST, NO_ROOM, OUTSIDE, PASSES_AS_ICB, START};
 
 impl World {
-    /// A write-once disc with n blocks, NWA `next` and l sectors, none of which is a VAT ICB; around its partition sectors are recorded.
-    fn new(n: u32, next: u32, l: u32) -> World {
-        let mut maps = vec![0; 70];
-        assert_eq!((PLAIN.write_maps)(0, 1, 0, &[], &mut maps), 0);
-        let sectors = (START + l + 2) as usize;
-        let mut marks = vec![RECORDED; sectors];
-        marks[START as usize..][..l as usize].fill(BLANK);
-        for (i, mark) in marks[START as usize..][..next as usize].iter_mut().enumerate() {
-            *mark = [RECORDED, UNREADABLE, BLANK, RECORDED][i % 4];
-        }
-        if next > 0 {
-            marks[(START + next - 1) as usize] = if next.is_multiple_of(2) { RECORDED } else { UNREADABLE };
-        }
-        let entry = |i: u32| if i.is_multiple_of(5) { NONE } else { (7 * i) % next.max(1) };
-        // beyond N the table holds what no entry may be
-        let table = (0..MOST + 4).map(|i| if i < n { entry(i) } else { 0xabcd_0000 | i }).collect();
-        let record = vec![0, n, next, next.saturating_sub(1) / 2, 77];
-        World { disc: vec![0x11; SECTOR * sectors], marks, maps, s: START, l, table, record }
-    }
-
-    fn open(&mut self, layer: &Layer) {
-        let World { disc, marks, maps, s, l, table, record } = self;
-        assert_eq!((layer.open)(disc, marks, maps, *s, *l, table, record), 0);
-    }
-
     /// The result, or the line by which the forecast itself is refused; nothing else that is lent changes.
     fn forecast(&self, layer: &Layer, items: &[u32]) -> Result<[u32; 3], u32> {
         let before = self.clone();
@@ -81,15 +31,13 @@ impl World {
     /// those that are none.
     fn carry_out(&mut self, layer: &Layer, items: &[u32], way: usize) -> [u32; 3] {
         for (i, &item) in items.iter().enumerate() {
-            let effect = ((way + i) % 3) as u32;
-            let cut = |writes: u32| [0, writes + 1, 0, u32::MAX, writes + 2][(way + 2 * i) % 5];
             let (next, n) = (self.record[2], self.record[1]);
-            let World { disc, marks, maps, s, l, table, record } = self;
+            // each call has its own cut and effect
+            let cut = |writes: u32| no_cut(way + 7 * i, writes);
             let answer = if item < COMMIT {
-                let block = block(way + i, next);
-                (layer.save_virtual)(disc, marks, maps, *s, *l, table, record, item, &block, cut(1), effect)
+                self.save(layer, item, &block(way + i, next), cut(1))
             } else {
-                (layer.commit)(disc, marks, maps, *s, *l, table, record, cut(data_sectors(n) + 1), effect)
+                self.commit(layer, cut(data_sectors(n) + 1))
             };
             if answer != 0 {
                 return [answer, i as u32, 0];
@@ -114,28 +62,6 @@ fn block(kind: usize, next: u32) -> Vec<u8> {
             block[100] ^= 1;
             block
         }
-    }
-}
-
-/// The ICB of an empty VAT at logical block k.
-fn icb_at(k: u32) -> Vec<u8> {
-    let mut maps = vec![0; 70];
-    plain::write_maps(0, 0, 0, &[], &mut maps);
-    let (mut disc, mut marks) = (vec![0; SECTOR], vec![BLANK]);
-    assert_eq!(plain::make(&mut disc, &mut marks, &maps, 0, 1, &[]), 0);
-    disc[12..16].copy_from_slice(&k.to_le_bytes());
-    disc[4] = 0;
-    disc[4] = disc[..16].iter().fold(0, |sum: u8, &b| sum.wrapping_add(b));
-    disc
-}
-
-/// d of 01, from its words.
-fn data_sectors(n: u32) -> u32 {
-    let f = 4 * n + 36;
-    if 176 + f < 2048 {
-        0
-    } else {
-        f.div_ceil(2048)
     }
 }
 
@@ -306,9 +232,6 @@ fn case(world: &World, items: &[u32]) -> String {
 /// The first N of each d, from 0 to 9.
 const STEPS: [u32; 10] = [0, 459, 504, 1016, 1528, 2040, 2552, 3064, 3576, 4088];
 
-/// N at and about the steps of d.
-const COUNTS: [u32; 14] = [0, 1, 457, 458, 459, 502, 503, 504, 1015, 1016, 4087, 4094, 4095, 4096];
-
 #[test]
 fn steps_of_d() {
     let d: Vec<u32> = STEPS.iter().map(|&n| data_sectors(n)).collect();
@@ -357,9 +280,7 @@ fn from_none_to_4096() {
     items.push(COMMIT);
     let made = |l: u32| {
         let mut world = World::new(0, 0, l);
-        world.marks.fill(BLANK);
-        assert_eq!((PLAIN.make)(&mut world.disc, &mut world.marks, &world.maps, world.s, l, &[]), 0);
-        world.open(&PLAIN);
+        world.make(&PLAIN);
         world
     };
     let [_, needed, n] = by_formula(None, u32::MAX / 2, 1, 0, &items);
@@ -422,19 +343,14 @@ fn after_an_opening_and_calls() {
     for layer in [&PLAIN, &PROVED] {
         let mut tried = Tried::new();
         let mut world = World::new(0, 0, 30);
-        world.marks.fill(BLANK);
-        assert_eq!((layer.make)(&mut world.disc, &mut world.marks, &world.maps, world.s, world.l, &[]), 0);
-        world.open(layer);
+        world.make(layer);
         assert_eq!(tried.list(&world, &[0, 1, 2, COMMIT, 1, COMMIT]), [0, 7, 3]);
         assert_eq!(world.carry_out(layer, &[0, 1, 2, COMMIT, 1], 0), [0, 6, 3]);
-        {
-            let World { disc, marks, maps, s, l, table, record } = &mut world;
-            assert_eq!((layer.free_virtual)(disc, marks, maps, *s, *l, table, record, 2), 0);
-        }
+        assert_eq!(world.free(layer, 2), 0);
         // a freed block is still one: N stays, and it can be saved again
         assert_eq!(tried.list(&world, &[2, 3, COMMIT]), [0, 9, 4]);
         // opened again, the save of block 1 was passed over and its sector is taken
-        world.open(layer);
+        assert_eq!(world.open(layer), 0);
         assert_eq!((world.record[1], world.record[2], world.record[4]), (3, 6, 1));
         assert_eq!(tried.list(&world, &[3, 4, 6, COMMIT]), [OUTSIDE, 2, 0]);
         assert_eq!(tried.list(&world, &[3; 40]), [NO_ROOM, 23, 0]);
@@ -522,12 +438,10 @@ fn fifteen_is_not_foreseen() {
     for layer in [&PLAIN, &PROVED] {
         let mut world = World::new(2, 5, 40);
         assert_eq!(world.forecast(layer, &[2, COMMIT]), Ok([0, 7, 3]));
-        let World { disc, marks, maps, s, l, table, record } = &mut world;
         let icb = icb_at(5);
-        assert_eq!((layer.save_virtual)(disc, marks, maps, *s, *l, table, record, 2, &icb, 0, 0), PASSES_AS_ICB, "{}", layer.name);
+        assert_eq!(world.save(layer, 2, &icb, (0, 0)), PASSES_AS_ICB, "{}", layer.name);
         // at the next block it is not one
         assert_eq!(world.carry_out(layer, &[0], 0), [0, 6, 2]);
-        let World { disc, marks, maps, s, l, table, record } = &mut world;
-        assert_eq!((layer.save_virtual)(disc, marks, maps, *s, *l, table, record, 2, &icb, 0, 0), 0, "{}", layer.name);
+        assert_eq!(world.save(layer, 2, &icb, (0, 0)), 0, "{}", layer.name);
     }
 }

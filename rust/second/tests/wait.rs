@@ -3,9 +3,11 @@
 //! the layer's record or from the marks. Exactly, passed over are the writes begun without the cut ones that became old.
 
 mod lists;
+#[path = "lists/met.rs"]
+mod met;
 
 use lists::{carried_out, data_sectors, draw, Call, Kind, Landing, Random, Store, World, CUT, OPEN};
-use std::collections::BTreeMap;
+use met::Met;
 use tuormik::{BLANK, NONE, RECORDED, SECTOR, UNREADABLE};
 use tuormik_second::layer::{Layer, PLAIN, PROVED};
 
@@ -222,15 +224,7 @@ fn random_history(layer: &Layer, random: &mut Random) -> History {
     })
 }
 
-/// How often each case came up that the lists have to have.
-#[derive(Default)]
-struct Met(BTreeMap<&'static str, u32>);
-
 impl Met {
-    fn note(&mut self, case: &'static str, is_met: bool) {
-        *self.0.entry(case).or_default() += u32::from(is_met);
-    }
-
     fn note_step(&mut self, made: &Made, before: Count, count: Count, passed: u32) {
         let resets = made.is_accepted && made.lays_icb() && before.begun > 0;
         let cuts_data = made.is_accepted && made.is_cut_commit() && made.begun() < made.writes;
@@ -246,10 +240,6 @@ impl Met {
         self.note("a save is refused", !made.is_accepted && made.kind == Kind::SaveVirtual && count.begun > 0);
         self.note("a commit is refused", !made.is_accepted && made.kind == Kind::Commit && count.begun > 0);
         self.note("an opening finds a count", made.kind == Kind::Open && count.begun > 0);
-    }
-
-    fn all(&self) {
-        assert!(self.0.values().all(|&times| times > 0), "{:#?}", self.0);
     }
 }
 

@@ -2,8 +2,10 @@
 //! slip 5, gives blank as a fourth reading. It is fed each call's arguments and cut and whether the call was accepted.
 
 mod random;
+mod sizes;
 
 pub use random::Random;
+pub use sizes::data_sectors;
 use tuormik::{BLANK, MOST_ENTRIES, NONE, PACKET, PACKET_BYTES, RECORDED, SECTOR};
 use tuormik_second::layer::Layer;
 
@@ -90,16 +92,6 @@ pub struct Store {
     pub is_once: bool,
     pub blocks: Vec<Slot>,
     copy: Vec<Slot>,
-}
-
-/// d of 01, from its words.
-pub fn data_sectors(n: usize) -> u32 {
-    let f = 4 * n + 36;
-    if 176 + f < 2048 {
-        0
-    } else {
-        f.div_ceil(2048) as u32
-    }
 }
 
 impl Store {
