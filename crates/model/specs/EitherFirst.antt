@@ -153,7 +153,7 @@ pub record Plots : Type 0 where
   pub outside :
       (out : List ℕ) → length out ≡ 2048
       → (shown (inTurn zeroth other ahead) 2 out ≡ turned NumberOutside) × (shown (inTurn other zeroth back) 2 out ≡ turned NumberOutside)
-  -- that acceptance in both orders is asked for is needed: the ICB is accepted second and, by line 15, not first,
+  -- why acceptance is asked for in both orders: the ICB is accepted second and, by line 15, not first,
   pub second : answers twelve two (inTurn zeroth otherIcb ahead) ≡ bothGiven
   pub first : answers twelve two (inTurn otherIcb zeroth back) ≡ oneGiven
   -- and block 1 does not read alike
