@@ -392,7 +392,7 @@ def forecasts():
 
 
 def either():
-    p("# 02, slip 11: two blocks saved in either order at NWA 4, committed and opened; where both are accepted in both, all reads alike")
+    p("# 02, slip 11: two blocks saved in either order at NWA 4, committed and opened; accepted in both orders, all reads alike")
 
     def plain(v, byte):
         p("bytes %d" % byte)
@@ -422,7 +422,7 @@ def either():
         begin()
         p("commit")
 
-    def forged():
+    def bare():
         p("clear")
         for q, mark in ((2, 1), (3, 2), (5, 1)):
             p("bytes %d" % q)
@@ -443,13 +443,13 @@ def either():
 
     orders("blocks 0 and 1", (plain, 0, 51), (plain, 1, 68))
     orders("block 1, and a new one", (plain, 1, 51), (plain, 2, 68))
-    orders("two new ones, of which the higher is not first", (plain, 2, 51), (plain, 3, 68))
+    orders("two new ones", (plain, 2, 51), (plain, 3, 68))
     orders("block 1 would be a VAT ICB in block 4", (plain, 0, 51), (embedded, 1, 4))
     orders("block 1 would be a VAT ICB in block 5", (plain, 0, 51), (embedded, 1, 5))
     orders("each would be one where it comes second", (embedded, 0, 5), (embedded, 1, 5))
     orders("block 1 would be one in block 5, of the file that block 0 is", (file, 0), (beside, 1))
     orders("and block 0 is no such file", (plain, 0, 51), (beside, 1))
-    orders("a record of no opening, on a disc with no VAT", (plain, 3, 51), (plain, 0, 68), start=forged)
+    orders("a record of no opening, on a disc with no VAT", (plain, 3, 51), (plain, 0, 68), start=bare)
 
 
 def refused():

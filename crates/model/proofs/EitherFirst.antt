@@ -1,6 +1,6 @@
--- Either plot first (02, slip 11). From any disc, table and record: a save that is accepted and not cut puts its block among those that the record's
--- entries are; a commit makes them the newest VAT's, which the opening finds. What is read is said by the two saves, and not by their order where the
--- numbers differ. Assumes nothing.
+-- Either plot first (02, slip 11). From any disc, table and record: a save that is accepted and not cut puts its block among the blocks of the record's
+-- entries; a commit makes them those of the newest VAT, which the opening finds. What is read depends on the two saves and, where the numbers differ,
+-- not on their order. Assumes nothing.
 use Prim.Native.Nat.{ℕ, _≤_}
 use mathlib.Core.Bool.{true, false, cond}
 use mathlib.Core.Logic.{_≢_}

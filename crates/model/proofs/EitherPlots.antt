@@ -1,5 +1,5 @@
 -- The lists of specs/EitherFirst.antt on the disc of Run.antt: what the calls answer follows call by call from the laws of RunSteps.antt, and what is
--- read from the claim. Assumes nothing.
+-- read from `SavedInTurn` and from what the plain store has. Assumes nothing.
 use Prim.Native.Nat.{ℕ}
 use mathlib.Core.Bool.{true, false, false≢true}
 use mathlib.Core.Logic.{_≢_}
@@ -43,7 +43,7 @@ at-two =
     let b : Now _ old [] 2 3 0 = saved b 1 ones noCut refl refl refl .leaves in
     committed b refl (omega arith) noCut refl .leaves
 
--- what a block of them reads as, wherever they are the plain store's
+-- reading shows what the plain store has
 reads : {st : State} {bs copy : List Slot} {n w a : ℕ} → Now st bs copy n w a → (u : ℕ) (out : List ℕ) → length out ≡ 2048 → seen twelve st u out ≡ look (store bs copy) u
 reads b u out long = read-once twelve (b .once) (b .maps) _ _ (b .live) u out long
 
@@ -139,6 +139,7 @@ plots =
     let one-way = saved-in-turn twelve two zeroth other ahead (rw in-order all-done) in
     let other-way = saved-in-turn twelve two other zeroth back (rw reversed all-done) in
     record {
+      apart = λ (q : _≡_ {A = ℕ} 0 1). omega arith;
       inOrder = in-order;
       reversed = reversed;
       allDone = all-done;

@@ -25,10 +25,10 @@ use Rattle.model.specs.Calls.{saveVirtual, refused, step, answers}
 use Rattle.model.specs.Store.{holds, put}
 use Rattle.model.specs.Run.{twelve, lent, ones, before}
 use Rattle.model.specs.Forecast.{isCommit, itemTests, itemRecord, itemBy, forecastFrom, forecastBy, forecast, itemCall, itemCalls, orRefused, told as toldOf, carriedOut, day, dayGiven, gap, many, Fitting}
-use Rattle.model.proofs.Verdicts.{go-then}
+use Rattle.model.proofs.Verdicts.{go-then, examined-once}
 use Rattle.model.proofs.WrittenVat.{length-icb, icb-passes}
 use Rattle.model.proofs.Once.{nextAfter}
-use Rattle.model.proofs.OnceRead.{live-held, examined-once}
+use Rattle.model.proofs.OnceRead.{live-held}
 use Rattle.model.proofs.RunSteps.{told, told-none, saved, save-refused, committed}
 use Rattle.model.proofs.Run.{computed, at-first, Now}
 

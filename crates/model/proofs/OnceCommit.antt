@@ -1,4 +1,5 @@
--- A commit on a write-once disc keeps the invariant, wherever it is cut: its VAT is found again exactly if its ICB is whole. Assumes nothing.
+-- What a commit on a write-once disc leaves, from any disc, table and record; and it keeps the invariant, wherever it is cut: its VAT is found again
+-- exactly if its ICB is whole. Assumes nothing.
 use Prim.Native.Nat.{ℕ, _+_, _-_, _*_, _≤_, _<_}
 use mathlib.Core.Bool.{true, false, cond, not}
 use mathlib.Core.Logic.{_≢_}
@@ -30,7 +31,7 @@ use Rattle.model.proofs.Sectors.{Made, shapely-made, shapely-most, insi
 use Rattle.model.proofs.SectorsRuns.{joined-agree, recordedRun-agree, length-upward, upward-joined, upward-recordedRun}
 use Rattle.model.proofs.WrittenVat.{length-data, data-enough, length-icb, file-count, file-entries, file-previous, icb-file, icb-passes, data-never}
 use Rattle.model.proofs.Once.{Kept, BlankFrom, Ran, on-disc, agree-landed, blank-landed, next-done, kept-write, ran-upward, kept-run}
-use Rattle.model.proofs.OnceFits.{onceHeld, Fits, goes-fits, fits-blank, blocksOf}
+use Rattle.model.proofs.OnceFits.{onceHeld, held-blank, Fits, goes-fits, blocksOf}
 use Rattle.model.proofs.OnceRead.{Live, live-length, live-fits}
 use Rattle.model.proofs.Cuts.{whole-lands, broken-lands, choice-same}
 use Rattle.model.proofs.OnceSave.{OnceOk, once-tells}
@@ -44,7 +45,7 @@ pub record Whole (s l i₀ k last : ℕ) (t : List ℕ) (d d′ : Disc) : Type 0
   pub top : nwa d′ s l ≡ k + 1
   pub names : previousOf (vatFile d′ s k) ≡ last
 
--- a commit of the first n entries of t, from block i₀ on, naming the ICB at `last`
+-- a commit of the entries t, from block i₀ on, naming the ICB at `last`
 module _ (s l : ℕ) (d : Disc) (c : Cut) (t : List ℕ) (i₀ last : ℕ) (shape : shapely d ≡ true) (within : inside d s l ≡ true) (z : BlankFrom s l d i₀)
     (few : length t ≤ 4096) (fresh : allBelow i₀ t ≡ true) (before : last < i₀) (room : i₀ + dataSectors (length t) + 1 ≤ l) where
   -- the number of data sectors, the block of the ICB, the data and the ICB
@@ -93,7 +94,7 @@ module _ (s l : ℕ) (d : Disc) (c : Cut) (t : List ℕ) (i₀ last : ℕ) (shap
   long-icb = length-icb t last k
 
   -- where the ICB is not whole the VAT before it is kept
-  pub torn-kept : {a : ℕ} {old : List Slot} → Kept s l d a old → landing (1 + D) c ≢ Landing.Done → Kept s l d₂ a old
+  torn-kept : {a : ℕ} {old : List Slot} → Kept s l d a old → landing (1 + D) c ≢ Landing.Done → Kept s l d₂ a old
   torn-kept κ broken =
       kept-write (landing (1 + D) c) s l k icb d₁
       (kept-run D 1 c s l i₀ body 0 d κ (omega arith) z (omega (arith, enough)) (λ j h q. let w : 0 + 2048 * j ≡ 2048 * j = omega arith in rw w (data-never t last k below-k before-k small j q)))
@@ -255,8 +256,11 @@ module _ (e : Setting) (st : State) (c : Cut)
   abbrev ws : List Write
   ws = commitWrites e t′ (st .held)
 
-  pub commit-from : Fits e st
+  commit-from : Fits e st
   commit-from = goes-fits e st _ _ (λ q. q) goes
+
+  blank : BlankFrom (e .start) (e .span) (st .disc) (nextHeld (st .held))
+  blank = held-blank e (st .disc) (st .held) (commit-from .top)
 
   count : length t′ ≡ entriesHeld (st .held)
   count = length-take-le (entriesHeld (st .held)) (st .table) (omega (arith, commit-from .few, commit-from .lent))
@@ -271,7 +275,7 @@ module _ (e : Setting) (st : State) (c : Cut)
   few′ : length t′ ≤ 4096
   few′ = omega (arith, count, commit-from .few)
 
-  is-disc : writes 1 c ws (st .disc) ≡ d₂ (e .start) (e .span) (st .disc) c t′ (nextHeld (st .held)) (lastHeld (st .held)) (commit-from .shape) (commit-from .within) (fits-blank e st commit-from) few′ (commit-from .fresh) (commit-from .last) space
+  is-disc : writes 1 c ws (st .disc) ≡ d₂ (e .start) (e .span) (st .disc) c t′ (nextHeld (st .held)) (lastHeld (st .held)) (commit-from .shape) (commit-from .within) blank few′ (commit-from .fresh) (commit-from .last) space
   is-disc = commit-disc e t′ (st .held) (sym count) c (st .disc)
 
   number : length ws ≡ D′ + 1
@@ -285,7 +289,7 @@ module _ (e : Setting) (st : State) (c : Cut)
       → Whole (e .start) (e .span) (nextHeld (st .held)) (nextHeld (st .held) + D′) (lastHeld (st .held)) t′ (st .disc) (writes 1 c ws (st .disc))
   laid-whole q =
       rw is-disc
-      (whole-left (e .start) (e .span) (st .disc) c t′ (nextHeld (st .held)) (lastHeld (st .held)) (commit-from .shape) (commit-from .within) (fits-blank e st commit-from) few′ (commit-from .fresh) (commit-from .last) space q)
+      (whole-left (e .start) (e .span) (st .disc) c t′ (nextHeld (st .held)) (lastHeld (st .held)) (commit-from .shape) (commit-from .within) blank few′ (commit-from .fresh) (commit-from .last) space q)
 
   -- uncut, the invariant holds after it, whatever was before
   pub committed-live : struck c (length ws) ≡ false
@@ -333,7 +337,7 @@ module _ (e : Setting) (h : Shape) (st : State) (σ : Store) (i : Live e st σ) 
   torn-commit q =
       let f = commit-from e st c goes in
       rw (is-disc e st c goes)
-      (torn-kept (e .start) (e .span) (st .disc) c (t′ e st c goes) (nextHeld (st .held)) (lastHeld (st .held)) (f .shape) (f .within) (fits-blank e st f) (few′ e st c goes) (f .fresh) (f .last) (space e st c goes) (i .kept) q)
+      (torn-kept (e .start) (e .span) (st .disc) c (t′ e st c goes) (nextHeld (st .held)) (lastHeld (st .held)) (f .shape) (f .within) (blank e st c goes) (few′ e st c goes) (f .fresh) (f .last) (space e st c goes) (i .kept) q)
 
   -- a commit whose ICB is whole
   pub laid : laysIcb h σ (commit c) ≡ true → landing (1 + D″) c ≡ Landing.Done

@@ -25,7 +25,7 @@ use Rattle.model.specs.Calls.{State}
 use Rattle.model.specs.Store.{Slot, unused, entrySlot, entrySlots, Store, turned, seenAs, look}
 use Rattle.model.specs.Demand.{seen, seenBy}
 use Rattle.model.proofs.Basics.{by-bool, by-lt, and-true, and-false, both}
-use Rattle.model.proofs.Verdicts.{then-go, go-then, examined-tells, examined-go}
+use Rattle.model.proofs.Verdicts.{then-go, go-then, examined-tells, examined-once}
 use Rattle.model.proofs.Marks.{sector-shown}
 use Rattle.model.proofs.Scan.{length-slots, slot-none}
 use Rattle.model.proofs.Once.{BlankFrom, blank-next}
@@ -50,7 +50,12 @@ pub held-true : (e : Setting) (d : Disc) (t : List ℕ) (r : Record) → onceHel
 held-true e d t r once top few fresh last =
     held-once e d t r once ∙ both (eq-eqb _ _ top) (both (le-leb _ _ few) (both fresh (lt-ltb _ _ last)))
 
--- one of the other kind never passes it
+-- the blocks from its NWA on are blank
+pub held-blank : (e : Setting) (d : Disc) (r : Record) → nextHeld r ≡ nextOn e d → BlankFrom (e .start) (e .span) d (nextHeld r)
+unfolding nextOn
+held-blank e d r top = blank-next (e .start) (e .span) (nextHeld r) d (sym top)
+
+-- one of the other kind never passes line 11
 held-kind : (e : Setting) (d : Disc) (t : List ℕ) (r : Record) → heldFits e d t r ≡ true → onceHeld r ≡ true
 unfolding heldFits onceHeld
 held-kind e d t (Record.WriteOnce n next last) h = refl
@@ -106,16 +111,11 @@ module _ (e : Setting) (st : State) where
 
     -- lines 1 to 6, of a call that is lent what it asks for
     fits-examined : (lent : Bool) → lent ≡ true → examined e (st .disc) lent ≡ Go
-    fits-examined lent q = examined-go e (st .disc) lent (record { shape = f .shape; within = f .within; lengths = q; maps = f .maps; places = rw (f .kind) })
+    fits-examined lent q = examined-once e (f .kind) (f .maps) (st .disc) lent (f .shape) (f .within) q
 
     pub fits-go : heldVerdict e (st .disc) (st .table) (st .held) ≡ Go
     unfolding heldVerdict onceVerdict lentTable need
     fits-go = go-then _ (fits-examined _ (le-leb _ _ (f .lent))) ∙ rw (f .kind, fits-held)
-
-    -- the blocks from NWA on are blank
-    pub fits-blank : BlankFrom (e .start) (e .span) (st .disc) (nextHeld (st .held))
-    unfolding nextOn
-    fits-blank = blank-next (e .start) (e .span) (nextHeld (st .held)) (st .disc) (sym (f .top))
 
 -- ---- the blocks of the first n entries of a table
 
@@ -181,7 +181,7 @@ module _ (e : Setting) (st : State) (f : Fits e st) (v : ℕ) (out : List ℕ) (
       let la : ltb v n ≡ false = le-ltb v n a in
       shown (Stop NumberOutside) (read-tests ∙ rw la) ∙ sym (rw (ln, la)))
 
--- lent bytes of another length, it is refused under 3
+-- with lent bytes of another length it is refused under 3
 pub fits-unread : (e : Setting) (st : State) → Fits e st → (v : ℕ) (out : List ℕ) → eqb (length out) 2048 ≡ false → seen e st v out ≡ turned LentLength
 unfolding seen seenBy readVerdict readLent examined shapeTests need
 fits-unread e st f v out short = rw (short, and-false (lentTable (st .table)) {b = false} refl, f .shape, f .within)

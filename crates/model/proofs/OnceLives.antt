@@ -28,14 +28,14 @@ use Rattle.model.specs.Store.{Slot, holds, entrySlots, Store, store, Sha
 use Rattle.model.specs.Demand.{afterOpening, seen}
 use Rattle.model.specs.Lives.{OnceMadeOpens, firstBlock, OnceLives}
 use Rattle.model.proofs.Basics.{both}
-use Rattle.model.proofs.Verdicts.{Examined, examined-tells, then-go, go-then}
+use Rattle.model.proofs.Verdicts.{Examined, examined-tells, then-go, go-then, examined-once}
 use Rattle.model.proofs.Scan.{below-none, length-slots, not-recorded}
 use Rattle.model.proofs.Sectors.{shapely-made, inside-fits, landed-shapely, landed-inside, sector-done, recorded-done, writes-one, landing-none}
 use Rattle.model.proofs.WrittenVatFile.{file-count, file-entries}
 use Rattle.model.proofs.WrittenVatIcb.{length-icb, icb-file, icb-passes}
 use Rattle.model.proofs.Once.{Kept, BlankFrom, on-disc, blank-next, blank-landed, next-done}
 use Rattle.model.proofs.OnceFits.{onceHeld}
-use Rattle.model.proofs.OnceRead.{Live, live-held, examined-once, read-once}
+use Rattle.model.proofs.OnceRead.{Live, live-held, read-once}
 use Rattle.model.proofs.OnceSave.{OnceOk, sound-save}
 use Rattle.model.proofs.OnceOpen.{length-entries, kept-newest, passed-kept, open-goes, reopened}
 use Rattle.model.proofs.OnceCommit.{sound-commit}

@@ -23,12 +23,12 @@ use Rattle.model.specs.Calls.{openDisc, State, Result, step, answerOfOpe
 use Rattle.model.specs.Store.{Slot, entrySlots, Store, store, Shape, blocksOn, start, cutIn, writesIn, wasCut, taken, next}
 use Rattle.model.specs.Demand.{afterOpening}
 use Rattle.model.proofs.Basics.{by-lt}
-use Rattle.model.proofs.Verdicts.{Examined, examined-tells, then-go, go-then}
+use Rattle.model.proofs.Verdicts.{Examined, examined-tells, then-go, go-then, examined-once}
 use Rattle.model.proofs.Scan.{newest-found, found-newest, entries-below, icb-recorded, not-recorded, below-mono}
 use Rattle.model.proofs.Sectors.{nwa-above, nwa-most, nwa-blank}
 use Rattle.model.proofs.Once.{Kept}
 use Rattle.model.proofs.OnceFits.{onceHeld}
-use Rattle.model.proofs.OnceRead.{Live, examined-once}
+use Rattle.model.proofs.OnceRead.{Live}
 use Rattle.model.proofs.OnceSave.{OnceOk}
 use Rattle.model.proofs.Steps.{Sound}
 

@@ -1,23 +1,21 @@
 -- What holds between the calls on a write-once disc, and that reading then shows what the plain store does. Assumes nothing.
 use Prim.Native.Nat.{ℕ, _≤_, _<_}
-use mathlib.Core.Bool.{Bool, true}
+use mathlib.Core.Bool.{true}
 use mathlib.Core.Path.{_≡_, sym, ap, _∙_}
 use mathlib.Core.List.{List}
 use native.Mathlib.Omega.{arith}
 use lib.ListN.{length, getD, take}
 use Rattle.refusal.specs.declared.Verdict.the-variants.{Go}
 use Rattle.maps.specs.Kinds.{readMaps}
-use Rattle.model.specs.Disc.{Disc, shapely, inside}
 use Rattle.model.specs.Vat.{allBelow}
-use Rattle.model.specs.Examine.{Setting, writeOnce, examined}
+use Rattle.model.specs.Examine.{Setting, writeOnce}
 use Rattle.model.specs.Once.{nextOn, entriesHeld, nextHeld, lastHeld, heldFits}
 use Rattle.model.specs.Calls.{State}
 use Rattle.model.specs.Store.{Slot, unused, entrySlot, Store, look}
 use Rattle.model.specs.Demand.{seen}
-use Rattle.model.proofs.Verdicts.{examined-go}
 use Rattle.model.proofs.Scan.{icb-recorded}
 use Rattle.model.proofs.Sectors.{nwa-above}
-use Rattle.model.proofs.Once.{Kept, BlankFrom, blank-next}
+use Rattle.model.proofs.Once.{Kept}
 use Rattle.model.proofs.OnceFits.{onceHeld, held-true, Fits, slots-count, slots-at, blocksOf, fits-read}
 
 -- what holds between calls where the power did not fail: the record's last ICB is the topmost, its NWA is the disc's, and the table's blocks
@@ -31,11 +29,7 @@ pub record Live (e : Setting) (st : State) (σ : Store) : Type 0 where
   pub lent : 4096 ≤ length (st .table)
   pub now : blocksOf e st ≡ σ .blocks
 
--- the blocks from NWA on are blank, and the last ICB is below it
-pub live-blank : (e : Setting) (st : State) (σ : Store) → Live e st σ → BlankFrom (e .start) (e .span) (st .disc) (nextHeld (st .held))
-unfolding nextOn
-live-blank e st σ i = blank-next (e .start) (e .span) (nextHeld (st .held)) (st .disc) (sym (i .top))
-
+-- the last ICB is below NWA
 pub live-last : (e : Setting) (st : State) (σ : Store) → Live e st σ → lastHeld (st .held) < nextHeld (st .held)
 unfolding nextOn
 live-last e st σ i =
@@ -58,12 +52,7 @@ live-block e st σ i v h =
     ∙ slots-at (st .disc) (e .start) (entriesHeld (st .held)) (st .table) v (omega (arith, i .few, i .lent)) h
 
 module _ (e : Setting) (once : writeOnce e ≡ true) (maps-go : readMaps (e .maps) .verdict ≡ Go) where
-  -- lines 1 to 6 let a call go on
-  pub examined-once : (d : Disc) (lent : Bool) → shapely d ≡ true → inside d (e .start) (e .span) ≡ true → lent ≡ true → examined e d lent ≡ Go
-  examined-once d lent a b c =
-      examined-go e d lent (record { shape = a; within = b; lengths = c; maps = maps-go; places = rw once })
-
-  -- and so does line 11
+  -- lines 1 to 7 and 11 let a call go on
   pub live-fits : (st : State) (σ : Store) → Live e st σ → Fits e st
   live-fits st σ i =
       record {

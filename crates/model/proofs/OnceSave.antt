@@ -1,4 +1,4 @@
--- Saving and freeing on a write-once disc keep the invariant. Assumes nothing.
+-- What a save on a write-once disc leaves, from any disc, table and record; and saving and freeing keep the invariant. Assumes nothing.
 use Prim.Native.Nat.{ℕ, _+_, _≤_, _<_}
 use mathlib.Core.Bool.{Bool, true, false, false≢true}
 use mathlib.Core.Path.{_≡_, refl, sym, ap, ap₂, _∙_}
@@ -30,8 +30,8 @@ use Rattle.model.proofs.Agree.{Agree}
 use Rattle.model.proofs.Scan.{below-mono, below-set, below-snoc, below-own, below-none, slots-agree, slot-none, slots-set, slots-snoc}
 use Rattle.model.proofs.Sectors.{Made, shapely-made, shapely-most, landed-shapely, landed-inside, sector-done, recorded-done, landing-uncut}
 use Rattle.model.proofs.Once.{Kept, on-disc, agree-landed, next-done, kept-write}
-use Rattle.model.proofs.OnceFits.{onceHeld, Fits, goes-fits, fits-blank, slots-count, blocksOf}
-use Rattle.model.proofs.OnceRead.{Live, live-blank}
+use Rattle.model.proofs.OnceFits.{onceHeld, held-blank, Fits, goes-fits, slots-count, blocksOf}
+use Rattle.model.proofs.OnceRead.{Live}
 use Rattle.model.proofs.Steps.{Told, told-plan, Sound, sound-plan, sound-carried}
 
 -- N and NWA of a state
@@ -72,7 +72,7 @@ unfolding countAfter
 saved-few n v few small = by-eq v n (λ q. rw (eq-eqb v n q) (omega arith)) (λ q. rw (ne-eqb v n q) few)
 
 -- and its entries are below the NWA after it; w is the one before
-pub saved-fresh : (n v w : ℕ) (t : List ℕ) → v ≤ n → v < length t → allBelow w (take n t) ≡ true → allBelow (w + 1) (take (countAfter n v) (set t v w)) ≡ true
+saved-fresh : (n v w : ℕ) (t : List ℕ) → v ≤ n → v < length t → allBelow w (take n t) ≡ true → allBelow (w + 1) (take (countAfter n v) (set t v w)) ≡ true
 saved-fresh n v w t most on fresh =
     let old : allBelow (w + 1) (take n t) ≡ true = below-mono w (w + 1) (take n t) (omega arith) fresh in
     by-eq v n
@@ -125,7 +125,7 @@ module _ (e : Setting) (st : State) (v : ℕ) (b : List ℕ) (c : Cut)
     next-nwa : W st + 1 ≡ nextOn e d′
     unfolding nextOn d′
     next-nwa =
-        sym (next-done (e .start) (e .span) (W st) b (st .disc) (fits-blank e st (facts .fits)) (omega (arith, facts .room)) on)
+        sym (next-done (e .start) (e .span) (W st) b (st .disc) (held-blank e (st .disc) (st .held) (facts .fits .top)) (omega (arith, facts .room)) on)
 
     agree : Agree (e .start) (W st) d′ (st .disc)
     unfolding d′
@@ -194,7 +194,7 @@ module _ (e : Setting) (h : Shape) (st : State) (σ : Store) (i : Live e st σ) 
     unfolding writes write
     kept-saved =
         let a = facts e st v b c g in
-        kept-write (landing 1 c) (e .start) (e .span) (W st) b (st .disc) (i .kept) (omega (arith, a .room)) (live-blank e st σ i) (a .long) (λ _. a .plain)
+        kept-write (landing 1 c) (e .start) (e .span) (W st) b (st .disc) (i .kept) (omega (arith, a .room)) (held-blank e (st .disc) (st .held) (i .top)) (a .long) (λ _. a .plain)
 
     live-saved : (uncut : struck c 1 ≡ false) → Live e (st′ e st v b c g uncut) (record { blocks = put (σ .blocks) v (holds b); copy = σ .copy })
     unfolding lastHeld

@@ -30,11 +30,12 @@ use Rattle.model.specs.Both.{opening, openedBy, recordOn, passedOn}
 use Rattle.model.specs.Calls.{Call, saveVirtual, freeVirtual, commit, saveBlock, savePacket, sparePacket, openDisc, Answer, done, cut, refused, opened, State, step, answers, carried, answerOf, heldAfter, answerOfOpening, heldAfterOpening, accepted, isCut, Proper}
 use Rattle.model.specs.Store.{holds, unused, entrySlot, entrySlots, Store, store, shapeOf, next, wasCut, cutIn, writesIn, taken, put}
 use Rattle.model.proofs.Basics.{and-true, both, and-false-left, by-bool}
-use Rattle.model.proofs.Verdicts.{go-then}
+use Rattle.model.proofs.Verdicts.{go-then, examined-once}
 use Rattle.model.proofs.Scan.{length-slots}
 use Rattle.model.proofs.WrittenVat.{length-icb}
 use Rattle.model.proofs.Once.{Kept, BlankFrom, on-disc, nextAfter, next-landed, kept-write}
-use Rattle.model.proofs.OnceRead.{Live, live-held, live-blank, live-last, live-block, live-length, examined-once}
+use Rattle.model.proofs.OnceFits.{held-blank}
+use Rattle.model.proofs.OnceRead.{Live, live-held, live-last, live-block, live-length}
 use Rattle.model.proofs.OnceSave.{OnceOk, sound-save, sound-free}
 use Rattle.model.proofs.OnceOpen.{length-entries, kept-newest, open-goes, reopened}
 use Rattle.model.proofs.OnceCommit.{commit-one, sound-commit, whole-left}
@@ -124,7 +125,7 @@ module _ {e : Setting} {st : State} {σ : Store} {n w a : ℕ} (t : Between e st
 
   blank : BlankFrom (e .start) (e .span) (st .disc) w
   unfolding nextHeld
-  blank = subst (λ (r : Record). BlankFrom (e .start) (e .span) (st .disc) (nextHeld r)) (t .held) (live-blank e st σ (t .live))
+  blank = subst (λ (r : Record). BlankFrom (e .start) (e .span) (st .disc) (nextHeld r)) (t .held) (held-blank e (st .disc) (st .held) (t .live .top))
 
   last-kept : Kept (e .start) (e .span) (st .disc) a (σ .copy)
   unfolding lastHeld

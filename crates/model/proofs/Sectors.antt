@@ -3,7 +3,7 @@
 use Prim.Native.Nat.{ℕ, zero, suc, _+_, _-_, _*_, _≤_, _<_}
 use mathlib.Core.Path.{_≡_, refl, sym, ap, ap₂, _∙_, subst}
 use mathlib.Core.Bool.{Bool, true, false, _&&_, false≢true, and-eq-true-iff}
-use mathlib.Core.Logic.{_≢_, _⊎_, inl, inr}
+use mathlib.Core.Logic.{_≢_}
 use mathlib.Core.List.{List, [], _∷_, _++_}
 use native.Mathlib.Omega.{arith}
 use lib.Dec.{eqb, leb}
@@ -190,27 +190,6 @@ unfoldable pub Elsewhere : ℕ → List Write → Type 0
 Elsewhere q [] = Unit {0}
 Elsewhere q (w ∷ ws) = (q ≢ w .place) × Elsewhere q ws
 
--- no writes are placed
-pub placed-none : (n : ℕ) → Placed n []
-unfolding Placed
-placed-none n = tt
-
--- no write is at q among none,
-pub elsewhere-none : (q : ℕ) → Elsewhere q []
-unfolding Elsewhere
-elsewhere-none q = tt
-
--- nor in one to another sector,
-pub elsewhere-one : (q p : ℕ) (b : List ℕ) → q ≢ p → Elsewhere q (record { place = p; bytes = b } ∷ [])
-unfolding Elsewhere
-elsewhere-one q p b n = (n, tt)
-
--- nor in two lists that have none
-pub elsewhere-append : (q : ℕ) (ws vs : List Write) → Elsewhere q ws → Elsewhere q vs → Elsewhere q (ws ++ vs)
-unfolding Elsewhere
-elsewhere-append q [] vs h k = k
-elsewhere-append q (w ∷ ws) vs h k = (h .0, elsewhere-append q ws vs (h .1) k)
-
 -- writes keep the number of marks,
 pub writes-marks-length : (n : ℕ) (c : Cut) (ws : List Write) (d : Disc) → length (writes n c ws d .marks) ≡ length (d .marks)
 unfolding writes write
@@ -246,11 +225,6 @@ unfolding writes write Elsewhere
 writes-other-mark n c [] d q o = refl
 writes-other-mark n c (w ∷ ws) d q o =
     writes-other-mark (n + 1) c ws (landed (landing n c) (w .place) (w .bytes) d) q (o .1) ∙ mark-other (landing n c) (w .place) (w .bytes) d q (o .0)
-
--- stays recorded or not,
-pub writes-other-recorded : (n : ℕ) (c : Cut) (ws : List Write) (d : Disc) (q : ℕ) → Elsewhere q ws → recorded (writes n c ws d) q ≡ recorded d q
-unfolding recorded
-writes-other-recorded n c ws d q o = ap (λ (x : ℕ). eqb x 1) (writes-other-mark n c ws d q o)
 
 -- keeps its bytes,
 pub writes-other-sector : (n : ℕ) (c : Cut) (ws : List Write) (d : Disc) (q : ℕ) → Placed (length (d .marks)) ws → Made d → Elsewhere q ws → sector (writes n c ws d) q ≡ sector d q
@@ -328,23 +302,6 @@ landing-done-before n j c e h k =
     by-lt (c .at) n
     (λ lt. absurd (untouched≢done (sym (landing-after n c (omega arith) lt) ∙ e)))
     (λ ge. let q : j ≡ n = omega arith in ap (λ (x : ℕ). landing x c) q ∙ e)
-
--- a write is done, or it is not, and then the power failed at it or before it
-pub landing-cases : (n : ℕ) (c : Cut) → 1 ≤ n → (landing n c ≡ Landing.Done) ⊎ ((landing n c ≢ Landing.Done) × (1 ≤ c .at) × (c .at ≤ n))
-landing-cases n c h = go (landing n c) refl
-  where
-    known-cut : (landing n c ≢ Landing.Done) → (landing n c ≢ Landing.Done) × (1 ≤ c .at) × (c .at ≤ n)
-    known-cut k = (
-      k,
-      by-eq (c .at) 0 (λ z. absurd (k (landing-none n c z))) (λ z. omega arith),
-      by-lt n (c .at) (λ lt. absurd (k (landing-before n c lt))) (λ le. le),
-    )
-
-    go : (l : Landing) → landing n c ≡ l → (landing n c ≡ Landing.Done) ⊎ ((landing n c ≢ Landing.Done) × (1 ≤ c .at) × (c .at ≤ n))
-    go Landing.Done e = inl e
-    go Landing.Old e = inr (known-cut (λ f. let z : _≡_ {A = ℕ} 0 1 = cc in omega arith))
-    go Landing.Unreadable e = inr (known-cut (λ f. let z : _≡_ {A = ℕ} 0 1 = cc in omega arith))
-    go Landing.Untouched e = inr (known-cut (λ f. let z : _≡_ {A = ℕ} 0 1 = cc in omega arith))
 
 -- no write after one that is not done touches the disc
 pub landing-lost : (n j : ℕ) (c : Cut) → landing n c ≢ Landing.Done → n < j → landing j c ≡ Landing.Untouched

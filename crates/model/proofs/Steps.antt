@@ -40,12 +40,12 @@ module _ (ws : List Write) (t : List ℕ) (r : Record) (k : Cut) (st : State) {v
   unfolding unless carried replyOf discAfter tableAfter answerOf heldAfter
   plan-done q s = rw (q, s)
 
-  -- a call that was accepted was not stopped,
+  -- a call that was accepted passed its tests,
   pub plan-goes : accepted (carried (unless v (carry ws t r)) k st .answer) ≡ true → v ≡ Go
   unfolding accepted
   plan-goes a = by-verdict v (λ q. q) (λ why q. absurd (false≢true (rw (plan-stopped q) at a)))
 
-  -- and where its answer does not say so it was not cut
+  -- and one whose answer does not say that it was cut was not
   pub plan-uncut : v ≡ Go → isCut (carried (unless v (carry ws t r)) k st .answer) ≡ false → struck k (length ws) ≡ false
   unfolding isCut
   plan-uncut q a = by-bool (struck k (length ws)) (λ s. absurd (false≢true (sym (rw (plan-cut q s) at a)))) (λ s. s)

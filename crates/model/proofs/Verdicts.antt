@@ -64,6 +64,12 @@ pub examined-go : (e : Setting) (d : Disc) (lent : Bool) → Examined e d lent �
 unfolding examined shapeTests placeTests need
 examined-go e d lent x = rw (x .shape, x .within, x .lengths, x .maps, x .places)
 
+-- on a write-once disc
+pub examined-once : (e : Setting) → writeOnce e ≡ true → readMaps (e .maps) .verdict ≡ Go
+    → (d : Disc) (lent : Bool) → shapely d ≡ true → inside d (e .start) (e .span) ≡ true → lent ≡ true → examined e d lent ≡ Go
+examined-once e once maps-go d lent a b c =
+    examined-go e d lent (record { shape = a; within = b; lengths = c; maps = maps-go; places = rw once })
+
 -- a plan that a verdict stops is a refusal
 pub unless-stop : {v : Verdict} {why : Refusal} (p : Plan) → v ≡ Stop why → unless v p ≡ refuse why
 unfolding unless

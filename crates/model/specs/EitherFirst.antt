@@ -49,9 +49,9 @@ AllDone (a ∷ al) = (accepted a ≡ true) × (isCut a ≡ false) × AllDone al
 
 -- ---- the claim
 
--- For any disc, table and record, be they of an opening or not, any two blocks whose numbers differ, and any cuts, which need not be the same in both
--- orders: one that strikes no write of its call is none. Nothing else is asked but acceptance; that the disc is write-once follows from it. Every
--- number reads alike: the same bytes, or the same refusal.
+-- For any disc, table and record, be they of an opening or not, and any two blocks whose numbers differ. Each call has a cut of its own, which may be
+-- another one in the other order. Asked is only that every call is accepted and none is cut, and a cut that strikes no write of its call is none; that
+-- the disc is write-once follows. Every number reads alike: the same bytes, or the same refusal.
 unfoldable pub EitherFirst : Type 0
 EitherFirst =
     (e : Setting) (st : State) (x y : Block) (c k : Cuts) → x .number ≢ y .number
@@ -67,7 +67,7 @@ EitherAfter =
     → AllDone (answers e (final e (afterOpening e d t) cs) (inTurn y x k))
     → (v : ℕ) (out : List ℕ) → shownAfter e d t (cs ++ inTurn x y c) v out ≡ shownAfter e d t (cs ++ inTurn y x k) v out
 
--- ---- what it rests on, in one order
+-- ---- in one order
 
 -- what is read: the blocks as they were saved, the later one where their numbers are the same, and every other number as before the saves
 unfoldable pub SavedInTurn : Type 0
@@ -144,6 +144,7 @@ shown cs v out = seen twelve (final twelve two cs) v out
 -- what is claimed of them
 pub record Plots : Type 0 where
   -- the hypotheses hold
+  pub apart : zeroth .number ≢ other .number
   pub inOrder : answers twelve two (inTurn zeroth other ahead) ≡ bothGiven
   pub reversed : answers twelve two (inTurn other zeroth back) ≡ bothGiven
   pub allDone : AllDone bothGiven

@@ -1,6 +1,6 @@
 //! Document 02, slip 11, through both implementations: where two saves of different blocks are accepted in both orders, then a commit and
-//! an opening, nothing cut, every block reads alike in both orders. The discs, tables and records are any that line 11 passes, with a VAT
-//! on the disc or none: 02 asks for no more.
+//! an opening, nothing cut, every block reads alike in both orders. The discs, tables and records need only pass line 11, with a VAT on the
+//! disc or none: 02 asks for no more.
 //!
 //! Here more is asked than 02 does: which saves are refused is foretold by lines 12, 15 and 16 of document 01; the commit and the opening
 //! are accepted; the two blocks read as saved, and every other one as before.
@@ -227,7 +227,7 @@ fn as_expected(layer: &Layer, case: &Case, u: u32, reading: &Reading) -> Result<
 fn either_first(layer: &Layer, case: &Case) -> Result<Outcome, String> {
     let [v, w] = case.saves;
     let orders = [[v, w], [w, v]];
-    // the calls of the one order have other cuts than those of the other
+    // the two orders take their cuts from different places of the row
     let ways = [case.way, case.way + 4 + case.way / 15 % 11];
     let (mut stops, mut ends) = ([None; 2], [case.world.clone(), case.world.clone()]);
     for i in 0..2 {
@@ -300,7 +300,7 @@ fn each_pair_of_blocks(world: &World, random: &mut Random, mut each: impl FnMut(
     }
 }
 
-/// Discs that no opening has found, with N at and about the steps of d and every little room left.
+/// Discs with no VAT, with N at and about the steps of d and every little room left.
 #[test]
 fn discs_without_a_vat() {
     let (mut met, mut random) = (Met::default(), Random(11));

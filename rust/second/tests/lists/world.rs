@@ -42,7 +42,7 @@ pub const START: u32 = 3;
 
 impl World {
     /// A write-once disc with n blocks, NWA `next` and l sectors, none of which is a VAT ICB; around its partition sectors are recorded.
-    /// The bytes of each sector are its number.
+    /// Each byte of a sector is the low byte of its number.
     pub fn new(n: u32, next: u32, l: u32) -> World {
         let mut maps = vec![0; 70];
         assert_eq!((PLAIN.write_maps)(0, 1, 0, &[], &mut maps), 0);
@@ -92,7 +92,7 @@ impl World {
     }
 }
 
-/// Cuts of a call with so many writes that are none, with every effect: fifteen ways in all.
+/// Cuts that strike nothing, of a call with so many writes: a row of fifteen, with every effect.
 pub fn no_cut(way: usize, writes: u32) -> (u32, u32) {
     ([0, writes + 1, 0, u32::MAX, writes + 2][way % 5], (way % 3) as u32)
 }
