@@ -94,10 +94,11 @@ two = final twelve before (saveVirtual 0 ones noCut ∷ saveVirtual 1 ones noCut
 unfoldable pub threes : List ℕ
 threes = replicate 2048 3
 
--- both are saved again: block 0 as twos, block 1 as threes
+-- block 0 is saved again, as twos
 abbrev pub zeroth : Block
 zeroth = record { number = 0; bytes = twos }
 
+-- and block 1, as threes
 abbrev pub other : Block
 other = record { number = 1; bytes = threes }
 
@@ -105,10 +106,11 @@ other = record { number = 1; bytes = threes }
 abbrev pub past : Cut
 past = record { at = 2; effect = Effect.Unreadable }
 
--- the cuts in the one order, and in the other
+-- the cuts where block 0 is first
 abbrev pub ahead : Cuts
 ahead = record { first = noCut; second = past; last = noCut }
 
+-- and where block 1 is
 abbrev pub back : Cuts
 back = record { first = past; second = noCut; last = past }
 
@@ -121,14 +123,15 @@ bothGiven =
     ∷ opened (Record.WriteOnce 2 7 6) 0
     ∷ []
 
--- block 1 as the ICB of an empty VAT in block 4: saved first it would stand there
+-- the ICB of an empty VAT in block 4
 unfoldable pub icb : List ℕ
 icb = writtenIcb 4 [] 3
 
+-- block 1 is saved as that: first, it would stand in block 4
 abbrev pub otherIcb : Block
 otherIcb = record { number = 1; bytes = icb }
 
--- and is refused
+-- what the calls answer then: the first is refused
 unfoldable pub oneGiven : List Answer
 oneGiven =
     refused PassesAsIcb
