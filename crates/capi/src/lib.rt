@@ -301,7 +301,8 @@ pub extern "C" fn tuormik_save_packet(
     call_numbers::number_of_reply(reply)
 }
 
-// Spares the packet that begins at logical block b: its bytes go to a free spare, and the table to its copies.
+// Spares the packet that begins at logical block b, also one that is spared already: its bytes go to a free spare, and the table to its
+// copies.
 #[no_mangle]
 pub extern "C" fn tuormik_spare_packet(
     disc: &mut [u8],

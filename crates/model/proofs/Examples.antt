@@ -13,7 +13,7 @@ use Rattle.fields.specs.Bytes.{part}
 use Rattle.fields.specs.Number.{value, field}
 use Rattle.model.specs.Vat.{none, blocksIn, tagFits, passes}
 use Rattle.model.specs.VatWritten.{fileBytes, dataSectors}
-use Rattle.model.specs.Sparing.{isFree, usedOf, freeOf, spotOf, packetOf, startAt, locate, inserted, firstFree, rest, resorted}
+use Rattle.model.specs.Sparing.{isFree, defective, isDefective, isUsed, usedOf, defectiveOf, freeOf, spotOf, packetOf, startAt, locate, inserted, firstFree, rest, without, turnedDefective, retired, freeTaken, resorted}
 use Rattle.model.specs.Plan.{carry}
 use Rattle.model.specs.Examine.{setting}
 use Rattle.model.specs.Once.{onceVerdict, entriesHeld, nextHeld, lastHeld, countAfter, roomToSave, numberFits, saveTests, saveLent, savePlan, entryTests}
@@ -34,7 +34,7 @@ one-write maps d s last t (suc (suc v)) h g = absurd (omega arith)
 
 -- every example of 01
 pub examples : Examples
-unfolding need part value field none blocksIn tagFits passes fileBytes dataSectors isFree usedOf freeOf spotOf packetOf startAt locate inserted firstFree rest resorted entriesHeld nextHeld countAfter roomToSave numberFits saveTests entryTests nearest perMille blockTest entrySector gives zeros
+unfolding need part value field none blocksIn tagFits passes fileBytes dataSectors isFree defective isDefective isUsed usedOf defectiveOf freeOf spotOf packetOf startAt locate inserted firstFree rest without turnedDefective retired freeTaken resorted entriesHeld nextHeld countAfter roomToSave numberFits saveTests entryTests nearest perMille blockTest entrySector gives zeros
 examples =
     record {
       a = λ maps l. refl;

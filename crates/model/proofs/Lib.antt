@@ -58,3 +58,4 @@ pub mod EitherFirst
 pub mod EitherPlots
 pub mod ReadBack
 pub mod ReadBackMet
+pub mod NewerWriters

@@ -251,7 +251,7 @@ module _ (e : Setting) (d : Disc) (t : List ℕ) (held : Record) (c : Cut) (m : 
       (commit-stands (e .start) d c u (nextHeld held) (lastHeld held) (shapely-made d (m .shape)) below-end whole))
 
 -- a plan that answers that it is done
-plan-done : (v : Verdict) (ws : List Write) (tb : List ℕ) (q : Record) (c : Cut) (r : Record) → replyOf (unless v (carry ws tb q)) c ≡ Reply.Done r
+pub plan-done : (v : Verdict) (ws : List Write) (tb : List ℕ) (q : Record) (c : Cut) (r : Record) → replyOf (unless v (carry ws tb q)) c ≡ Reply.Done r
     → (v ≡ Go) × (struck c (length ws) ≡ false) × (r ≡ q)
 unfolding unless replyOf
 plan-done Go ws tb q c r h =

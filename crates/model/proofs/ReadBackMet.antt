@@ -15,7 +15,7 @@ use Rattle.model.specs.Disc.{known, shapely}
 use Rattle.model.specs.Writes.{landing, write, struck, noCut}
 use Rattle.model.specs.Vat.{none, blocksIn, belowOrNone, allBelow}
 use Rattle.model.specs.VatWritten.{fileBytes, dataSectors, writtenIcb}
-use Rattle.model.specs.Sparing.{isFree, flat, originalsFit, ascending, apart, apartFrom, outside, mappedOf, mappedFit, entriesFit, writtenTable}
+use Rattle.model.specs.Sparing.{defective, originalFits, mayFollow, flat, originalsFit, ascending, apart, apartFrom, outside, mappedOf, mappedFit, entriesFit, writtenTable}
 use Rattle.model.specs.Plan.{replyOf}
 use Rattle.model.specs.Examine.{setting}
 use Rattle.model.specs.Once.{entriesHeld, nextHeld, lastHeld, commitPlan}
@@ -23,7 +23,7 @@ use Rattle.model.specs.Calls.{Call, commit, openDisc, Answer, done, cut,
 use Rattle.model.specs.Store.{cutIn, wasCut}
 use Rattle.model.specs.Consequences.{Follows, laysIcb}
 use Rattle.model.specs.Run.{twelve, fresh, lent, calls, given, before}
-use Rattle.model.specs.ReadBack.{Stands, VatFrom, VatStands, TableFrom, blankDisc, threeEntries, embeddedDisc, manyEntries, besideDisc, smallGeometry, twoEntries, tableDisc, onceVolume, againVolume, ReadBackMet}
+use Rattle.model.specs.ReadBack.{Stands, VatFrom, VatStands, TableFrom, blankDisc, threeEntries, embeddedDisc, manyEntries, besideDisc, smallGeometry, eachEntry, tableDisc, onceVolume, againVolume, ReadBackMet}
 use Rattle.model.proofs.Basics.{both}
 use Rattle.model.proofs.Sectors.{Made, shapely-is}
 use Rattle.model.proofs.WrittenVat.{length-icb}
@@ -93,19 +93,19 @@ many-stands =
 
 -- ---- a sparing table
 
-two-fit : entriesFit smallGeometry twoEntries ≡ true
-unfolding smallGeometry twoEntries entriesFit originalsFit ascending mappedFit mappedOf isFree none outside apart apartFrom absent
-two-fit = refl
+each-fit : entriesFit smallGeometry eachEntry ≡ true
+unfolding smallGeometry eachEntry entriesFit originalsFit ascending mappedFit mappedOf originalFits mayFollow defective none outside apart apartFrom absent
+each-fit = refl
 
-two-from : TableFrom smallGeometry twoEntries 1
+each-from : TableFrom smallGeometry eachEntry 1
 unfolding smallGeometry
-two-from = record { fits = two-fit; size = omega arith; sectors = omega arith; inside = omega arith; sequence = omega arith }
+each-from = record { fits = each-fit; size = omega arith; sectors = omega arith; inside = omega arith; sequence = omega arith }
 
-two-stand : Stands tableDisc 32 (writtenTable 1 (flat twoEntries))
+each-stand : Stands tableDisc 32 (writtenTable 1 (flat eachEntry))
 unfolding tableDisc smallGeometry
-two-stand =
-    one-stands 160 32 (writtenTable 1 (flat twoEntries)) (omega arith) (omega arith) (omega arith)
-    (length-written smallGeometry twoEntries 1 two-fit (omega arith) (omega arith) (omega arith) (omega arith))
+each-stand =
+    one-stands 192 32 (writtenTable 1 (flat eachEntry)) (omega arith) (omega arith) (omega arith)
+    (length-written smallGeometry eachEntry 1 each-fit (omega arith) (omega arith) (omega arith) (omega arith))
 
 -- ---- a volume of each kind
 
@@ -166,7 +166,7 @@ read-back-met =
     record {
       embedded = (omega arith, three-from, three-stands);
       beside = (omega (arith, many-long), many-from, many-stands);
-      table = (two-from, two-stand);
+      table = (each-from, each-stand);
       once = (once-ranged, refl, refl);
       again = (again-ranged, refl, refl);
       committed = replies;

@@ -6,7 +6,8 @@ use mathlib.Core.Path.{_≡_, sym, ap, ap₂, _∙_}
 use mathlib.Core.List.{List}
 use native.Mathlib.Omega.{arith}
 use lib.Dec.{eqb}
-use lib.ListN.{length, getD, set, take}
+use lib.ListN.{length, getD, set, take, drop}
+use lib.Seq.{take-at}
 use borrow.Author.Tests.{lt-ltb, le-leb, eq-eqb, ne-eqb, eqb-true}
 use Rattle.refusal.specs.declared.Verdict.{Verdict}
 use Rattle.refusal.specs.declared.Verdict.the-variants.{Go}
@@ -15,10 +16,11 @@ use Rattle.maps.specs.Kinds.{readMaps}
 use Rattle.model.specs.declared.Record.{Record}
 use Rattle.model.specs.Disc.{Disc, mark, recorded}
 use Rattle.model.specs.Writes.{Write, writes, struck, noCut}
-use Rattle.model.specs.Sparing.{Geometry, Entry, entries, freeOf, spotOf, inPlace, packetOf, locate}
+use Rattle.model.specs.Sparing.{Geometry, Entry, entries, flat, freeOf, resorted, packetOf, locate}
 use Rattle.model.specs.Examine.{Setting, writeOnce, lentTable}
+use Rattle.model.specs.Once.{filledFrom}
 use Rattle.model.specs.Plan.{carry, unless, replyOf, discAfter, tableAfter}
-use Rattle.model.specs.Rewrite.{isSpared, noEntry, tableOn, copyTests, currentRecord, rewritableVerdict, otherMark, blockTest, saveBlockTests, blockLent, saveBlockPlan, packetTests, packetLent, spareTests, sparePlan}
+use Rattle.model.specs.Rewrite.{noEntry, tableOn, copyTests, currentRecord, rewritableVerdict, otherMark, blockTest, saveBlockTests, blockLent, saveBlockPlan, packetTests, packetLent, spareTests, sparedTable, sparePlan}
 use Rattle.model.specs.Both.{openVerdict, recordOn, passedOn, openedBy, opening}
 use Rattle.model.specs.Calls.{Call, saveBlock, sparePacket, openDisc, done, opened, State, Result, answerOf, heldAfter, carried, answerOfOpening, step, accepted, isCut}
 use Rattle.model.specs.Store.{Slot, holds, unused, unreadable, blank, slotAt, puts, slotsIn, Store, store, Shape, cutIn, writesIn, wasCut, taken, next}
@@ -27,8 +29,8 @@ use Rattle.model.proofs.Marks.{mark-goes, other-mark}
 use Rattle.model.proofs.Verdicts.{go-then}
 use Rattle.model.proofs.Ground.{Ground}
 use Rattle.model.proofs.SectorsRuns.{recordedRun-all}
-use Rattle.model.proofs.SparingLaws.{packet-multiple, packet-less, packet-inside, settled-some, settled-table, settled-agree}
-use Rattle.model.proofs.Ready.{Ready, Holds, LiveAgain, ready-entries, ready-count, ready-sequence, ready-place, examined-again, copies-go, held-current}
+use Rattle.model.proofs.SparingLaws.{entries-flat, length-flat, resorted-length, packet-multiple, packet-less, packet-inside, settled-some, settled-table, settled-agree}
+use Rattle.model.proofs.Ready.{Ready, Holds, LiveAgain, ready-fits, ready-entries, ready-count, ready-sequence, ready-place, examined-again, copies-go, held-current}
 use Rattle.model.proofs.ReadyOpen.{AgainOk, reopened-again}
 use Rattle.model.proofs.ReadySave.{at-place}
 use Rattle.model.proofs.ReadyCalls.{sound-block}
@@ -69,11 +71,6 @@ holds-recorded d p x h =
 pub record Whole (n : ℕ) (bs : List Slot) : Type 0 where
   pub bytes : ℕ → List ℕ
   pub block : (v : ℕ) → v < n → getD bs v unused ≡ holds (bytes v)
-
--- a packet that is not spared
-not-spared : (es : List Entry) (p : ℕ) → spotOf es p ≡ inPlace → not (isSpared (spotOf es p)) ≡ true
-unfolding isSpared
-not-spared es p h = rw h
 
 -- a record has one R and one sequence
 held-both : (r : Record) {a n a′ n′ : ℕ} → Holds r a n → Holds r a′ n′ → (a ≡ a′) × (n ≡ n′)
@@ -174,12 +171,12 @@ module _ (e : Setting) (g : Geometry) (again : writeOnce e ≡ false) (γ : Grou
 
     -- ---- spare p
     module _ (p : ℕ) (y : List ℕ) (multiple : p % 32 ≡ 0) (below : p < g .span) (long : length y ≡ 65536) (copies : h .tables ≡ length (g .tables)) (two : 2 ≤ length (g .tables))
-        (unspared : spotOf (entries l) p ≡ inPlace) (some : noEntry (freeOf (entries l)) ≡ false) (more : n ≢ 4294967295) where
+        (some : noEntry (freeOf (entries l)) ≡ false) (more : n ≢ 4294967295) where
       spare-goes : rewritableVerdict e (st .disc) (st .table) (packetLent (st .table) y) (st .held) (spareTests e (st .disc) p) ≡ Go
       unfolding spareTests packetTests packetLent lentTable need
       spare-goes =
           own-tests st _ (spareTests e (st .disc) p) i (both (le-leb _ _ (i .lent)) (eq-eqb _ _ long))
-          ∙ rw (ready-entries (i .ready), ready-sequence (i .ready), i .ready .geo, eq-eqb (p % 32) 0 multiple, le-leb 2 (length (g .tables)) two, not-spared (entries l) p unspared, some, ne-eqb n 4294967295 more, γ .span-is, lt-ltb p (g .span) below)
+          ∙ rw (ready-entries (i .ready), ready-sequence (i .ready), i .ready .geo, eq-eqb (p % 32) 0 multiple, le-leb 2 (length (g .tables)) two, some, ne-eqb n 4294967295 more, γ .span-is, lt-ltb p (g .span) below)
 
       -- it answers with the next sequence
       pub spare-answer : step e st (sparePacket p y noCut) .answer ≡ done (Record.Rewritable (length (entries l)) (n + 1))
@@ -199,22 +196,32 @@ module _ (e : Setting) (g : Geometry) (again : writeOnce e ≡ false) (γ : Grou
       spare-any =
           sound-done (AgainOk e g) h σ (sparePacket p y noCut) (step e st (sparePacket p y noCut)) _ spare-answer (sound-spare e g γ h copies st σ n l i p y noCut)
 
-      -- the packet has its bytes, in a table of as many entries
-      pub record Spared : Type 0 where
-        pub table : List ℕ
-        pub live : LiveAgain e g (step e st (sparePacket p y noCut) .state) (n + 1) table (store (puts (σ .blocks) p (slotsIn 32 y 0)) (σ .copy))
-        pub count : length (entries table) ≡ length (entries l)
+      -- the lent table begins with the entries resorted
+      spare-table : step e st (sparePacket p y noCut) .state .table ≡ filledFrom (flat (resorted (entries l) p)) (st .table)
+      unfolding step sparePlan sparedTable
+      spare-table =
+          ap (λ (r : Result). r .state .table) (carried-out _ _ _ _ st spare-goes)
+          ∙ ap (λ (es : List Entry). filledFrom (flat (resorted es p)) (st .table)) (ready-entries (i .ready))
 
-      pub spare-live : Spared
-      unfolding Holds
+      -- as many as before
+      pub spare-count : length (entries (flat (resorted (entries l) p))) ≡ length (entries l)
+      spare-count =
+          ap length (entries-flat (resorted (entries l) p))
+          ∙ resorted-length g (entries l) p (ready-fits (i .ready)) multiple below (omega (arith, γ .inside, γ .sectors)) some
+
+      -- the packet has its bytes
+      pub spare-live : LiveAgain e g (step e st (sparePacket p y noCut) .state) (n + 1) (flat (resorted (entries l) p)) (store (puts (σ .blocks) p (slotsIn 32 y 0)) (σ .copy))
+      unfolding Holds filledFrom
       spare-live =
           let j = spare-any .2 in
+          let l′ : List ℕ = flat (resorted (entries l) p) in
           let k : Holds (Record.Rewritable (length (entries l)) (n + 1)) (length (entries (spare-any .1))) (spare-any .0) = rw spare-held at (j .held) in
-          record {
-            table = spare-any .1;
-            live = rw (k .1) j;
-            count = sym (k .0);
-          }
+          let same : spare-any .1 ≡ l′ =
+          sym (j .front)
+          ∙ ap₂ (λ (c : ℕ) (t : List ℕ). take (2 * c) t) (sym (k .0)) spare-table
+          ∙ take-at l′ (drop (length l′) (st .table)) (2 * length (entries l))
+          (length-flat (resorted (entries l) p) ∙ ap (λ (c : ℕ). 2 * c) (sym (ap length (entries-flat (resorted (entries l) p))) ∙ spare-count)) in
+          rw (k .1, ← same) j
 
     -- ---- opening again
     pub reopen-answer : step e st openDisc .answer ≡ opened (Record.Rewritable (length (entries l)) n) 0

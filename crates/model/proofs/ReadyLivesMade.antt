@@ -29,7 +29,7 @@ use Rattle.model.specs.Both.{spareEntries, makeTests, makeVerdict, makeW
 use Rattle.model.specs.Store.{holds, unused, slotAt, blocksOn}
 use Rattle.model.specs.LivesAgain.{zeroBlock}
 use Rattle.model.proofs.ReadyOpen.{length-places, place-slot}
-use Rattle.model.proofs.ReadySpare.{elsewhere-copies, placed-copies}
+use Rattle.model.proofs.ReadySpare.{elsewhere-copies, placed-copies, Has, has-copies}
 use Rattle.model.proofs.Basics.{by-eq, and-true}
 use Rattle.model.proofs.Verdicts.{Examined, examined-tells, then-go}
 use Rattle.model.proofs.Ground.{Ground, ground, geometry-same}
@@ -95,46 +95,10 @@ zero-part : (n at : ℕ) → at + 2048 ≤ n → part (replicate n 0) at 2048 �
 unfolding zeroBlock
 zero-part n at h = part-same 0 n at 2048 h
 
--- ---- the same bytes to several sectors
-
--- what a sector holds: these bytes, and that it is recorded
-record Has (d : Disc) (t : ℕ) (x : List ℕ) : Type 0 where
-  own : sector d t ≡ x
-  one : mark d t ≡ 1
-
-has-done : (y : ℕ) (x : List ℕ) (d : Disc) → length x ≡ 2048 → y < length (d .marks) → Made d → Has (landed Landing.Done y x d) y x
-has-done y x d e h m = record { own = sector-done y x d e h m; one = mark-done y x d h }
-
-has-still : (y : ℕ) (x : List ℕ) (d : Disc) (t : ℕ) → length x ≡ 2048 → y < length (d .marks) → Made d → Has d t x → Has (landed Landing.Done y x d) t x
-has-still y x d t e h m k =
-    by-eq t y
-    (λ q. rw q (has-done y x d e h m))
-    (λ q. record { own = sector-other Landing.Done y x d t e h m q ∙ k .own; one = mark-other Landing.Done y x d t q ∙ k .one })
-
 -- with no cut every write is done
 uncut : (n : ℕ) → landing n noCut ≡ Landing.Done
 unfolding noCut
 uncut n = landing-none n noCut refl
-
--- each of them then has the bytes, and one that had them keeps them
-has-copies : (ts : List ℕ) (n : ℕ) (x : List ℕ) (d : Disc) (t : ℕ) → length x ≡ 2048 → Made d → ((y : ℕ) → In y ts → y < length (d .marks))
-    → In t ts ⊎ Has d t x → Has (writes n noCut (copiesTo ts x) d) t x
-unfolding copiesTo writes write
-has-copies [] n x d t e m on (inl i) = absurd i
-has-copies [] n x d t e m on (inr k) = k
-has-copies (y ∷ ts) n x d t e m on k =
-    let d₁ : Disc = landed Landing.Done y x d in
-    let ml = landed-marks-length Landing.Done y x d in
-    subst (λ (lg : Landing). Has (writes (n + 1) noCut (copiesTo ts x) (landed lg y x d)) t x) (sym (uncut n))
-    (has-copies ts (n + 1) x d₁ t e (landed-made Landing.Done y x d e on-first m) (λ z i. rw ml (on z (inr i))) (after k))
-  where
-    on-first : y < length (d .marks)
-    on-first = on y (inl refl)
-
-    after : In t (y ∷ ts) ⊎ Has d t x → In t ts ⊎ Has (landed Landing.Done y x d) t x
-    after (inl (inl q)) = inr (rw q (has-done y x d e on-first m))
-    after (inl (inr i)) = inl i
-    after (inr h) = inr (has-still y x d t e on-first m h)
 
 -- ---- entries that are all free
 
@@ -295,7 +259,7 @@ module _ (e : Setting) (d : Disc) (spares : List ℕ) (again : writeOnce e ≡ f
       record { own = k .0 ∙ z .own; one = k .1 ∙ z .one }
 
   each : (t : ℕ) → In t (g .tables) → Has d₂ t copy
-  each t i = has-copies (g .tables) (1 + length up) copy d₁ t long-copy made₁ on-table (inl i)
+  each t i = has-copies (g .tables) (1 + length up) noCut copy d₁ t long-copy made₁ on-table (λ j h k. uncut j) (inl i)
 
   copy-sequence : (t : ℕ) → In t (g .tables) → sequenceAt d₂ t ≡ 0
   unfolding sequenceAt
@@ -381,3 +345,7 @@ module _ (e : Setting) (d : Disc) (spares : List ℕ) (again : writeOnce e ≡ f
   -- each of zeros
   pub made-zeros : (b : ℕ) → b < e .span → getD (blocksOn e (made e d spares)) b unused ≡ holds zeroBlock
   made-zeros = rw made-is block₂
+
+  -- each of its copies is the table with the spares as free entries
+  pub made-stands : (t : ℕ) → In t (g .tables) → Has (made e d spares) t copy
+  made-stands t i = rw made-is (each t i)

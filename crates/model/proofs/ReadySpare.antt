@@ -3,7 +3,7 @@
 use Prim.Native.Nat.{ℕ, _+_, _*_, _%_, _≤_, _<_}
 use mathlib.Core.Bool.{true, false, false≢true}
 use mathlib.Core.Logic.{_≢_, _⊎_, inl, inr}
-use mathlib.Core.Path.{_≡_, refl, sym, ap, ap₂, _∙_}
+use mathlib.Core.Path.{_≡_, refl, sym, ap, ap₂, subst, _∙_}
 use mathlib.Core.List.{List, [], _∷_, _++_}
 use native.Mathlib.Omega.{arith}
 use lib.Dec.{leb, eqb}
@@ -15,10 +15,10 @@ use Rattle.model.specs.declared.Cut.{Cut}
 use Rattle.model.specs.declared.Landing.{Landing}
 use Rattle.model.specs.Disc.{Disc, sector, mark, recorded, shapely, inside}
 use Rattle.model.specs.Writes.{Write, landing, landed, write, writes, upward, struck}
-use Rattle.model.specs.Sparing.{Geometry, Entry, entries, flat, freeOf, firstFree, resorted, writtenTable, entriesFit, counts, counting, current, sequenceAt, sequenceIn, tableAt, tableIn, copyFits, spotOf, Spot, mappedTo, inPlace, packetOf, locate}
+use Rattle.model.specs.Sparing.{Geometry, Entry, entries, flat, freeOf, firstFree, resorted, writtenTable, entriesFit, counts, counting, current, sequenceAt, sequenceIn, tableAt, tableIn, copyFits, packetOf, locate}
 use Rattle.model.specs.Examine.{Setting, geometry, lentTable}
 use Rattle.model.specs.Once.{filledFrom}
-use Rattle.model.specs.Rewrite.{isNone, noEntry, isSpared, entriesOn, stale, copiesTo, copyOrder, packetWrites, packetTests, packetLent, spareTests, sparedTable, spareWrites, sparePlan}
+use Rattle.model.specs.Rewrite.{isNone, noEntry, entriesOn, stale, copiesTo, copyOrder, packetWrites, packetTests, packetLent, spareTests, sparedTable, spareWrites, sparePlan}
 use Rattle.model.specs.Calls.{sparePacket, State, step}
 use Rattle.model.specs.Store.{Slot, holds, slotAt, slotAfter, puts, slotsIn, Store, Shape, cutIn, writesIn, taken}
 use Rattle.model.proofs.Basics.{by-eq, and-true}
@@ -92,6 +92,41 @@ unfolding Elsewhere copiesTo
 elsewhere-copies q [] x h = tt
 elsewhere-copies q (y ∷ ts) x h = (h y (inl refl), elsewhere-copies q ts x (λ z i. h z (inr i)))
 
+-- what a sector holds: these bytes, and that it is recorded
+pub record Has (d : Disc) (t : ℕ) (x : List ℕ) : Type 0 where
+  pub own : sector d t ≡ x
+  pub one : mark d t ≡ 1
+
+has-done : (y : ℕ) (x : List ℕ) (d : Disc) → length x ≡ 2048 → y < length (d .marks) → Made d → Has (landed Landing.Done y x d) y x
+has-done y x d e h m = record { own = sector-done y x d e h m; one = mark-done y x d h }
+
+has-still : (y : ℕ) (x : List ℕ) (d : Disc) (t : ℕ) → length x ≡ 2048 → y < length (d .marks) → Made d → Has d t x → Has (landed Landing.Done y x d) t x
+has-still y x d t e h m k =
+    by-eq t y
+    (λ q. rw q (has-done y x d e h m))
+    (λ q. record { own = sector-other Landing.Done y x d t e h m q ∙ k .own; one = mark-other Landing.Done y x d t q ∙ k .one })
+
+-- where all copies are done each of them has the bytes, and one that had them keeps them
+pub has-copies : (ts : List ℕ) (n : ℕ) (c : Cut) (x : List ℕ) (d : Disc) (t : ℕ) → length x ≡ 2048 → Made d → ((y : ℕ) → In y ts → y < length (d .marks))
+    → ((j : ℕ) → n ≤ j → j < n + length ts → landing j c ≡ Landing.Done)
+    → In t ts ⊎ Has d t x → Has (writes n c (copiesTo ts x) d) t x
+unfolding copiesTo writes write
+has-copies [] n c x d t e m on done (inl i) = absurd i
+has-copies [] n c x d t e m on done (inr k) = k
+has-copies (y ∷ ts) n c x d t e m on done k =
+    let d₁ : Disc = landed Landing.Done y x d in
+    let ml = landed-marks-length Landing.Done y x d in
+    subst (λ (lg : Landing). Has (writes (n + 1) c (copiesTo ts x) (landed lg y x d)) t x) (sym (done n (omega arith) (omega arith)))
+    (has-copies ts (n + 1) c x d₁ t e (landed-made Landing.Done y x d e on-first m) (λ z i. rw ml (on z (inr i))) (λ j h l. done j (omega arith) (omega arith)) (after k))
+  where
+    on-first : y < length (d .marks)
+    on-first = on y (inl refl)
+
+    after : In t (y ∷ ts) ⊎ Has d t x → In t ts ⊎ Has (landed Landing.Done y x d) t x
+    after (inl (inl q)) = inr (rw q (has-done y x d e on-first m))
+    after (inl (inr i)) = inl i
+    after (inr h) = inr (has-still y x d t e on-first m h)
+
 -- ---- the first copy that a sparing writes is not the only current one
 
 other-of : (a b : List ℕ) (t : ℕ) (ts : List ℕ) → Distinct b → 2 ≤ length (a ++ b) → isNone b ≡ false → ((z : ℕ) → In z a → In z b → ⊥)
@@ -137,7 +172,7 @@ counts-mark d g t h = eqb-true _ _ (counts-recorded d g t h)
 -- ---- the sparing of packet b
 module _ (e : Setting) (g : Geometry) (γ : Ground e g) (d : Disc) (n : ℕ) (l : List ℕ) (bs : List Slot) (r : Ready e g d n l bs)
     (b : ℕ) (x : List ℕ) (c : Cut) (multiple : b % 32 ≡ 0) (below : b < g .span) (long : length x ≡ 65536) (two : 2 ≤ length (g .tables))
-    (unspared : spotOf (entries l) b ≡ inPlace) (some : noEntry (freeOf (entries l)) ≡ false) (more : n ≢ 4294967295) where
+    (some : noEntry (freeOf (entries l)) ≡ false) (more : n ≢ 4294967295) where
   -- the spare, the new entries and the new copy
   abbrev m : ℕ
   m = firstFree (freeOf (entries l))
@@ -205,7 +240,7 @@ module _ (e : Setting) (g : Geometry) (γ : Ground e g) (d : Disc) (n : ℕ) (l 
 
   -- ---- the copies
   fits′ : entriesFit g es′ ≡ true
-  fits′ = resorted-fits g (entries l) b (ready-fits r) multiple below unspared span-small some
+  fits′ = resorted-fits g (entries l) b (ready-fits r) multiple below span-small some
 
   small′ : n + 1 < 4294967296
   small′ = omega (arith, r .small)
@@ -234,6 +269,13 @@ module _ (e : Setting) (g : Geometry) (γ : Ground e g) (d : Disc) (n : ℕ) (l 
 
   each : (t : ℕ) → Became d₂ d₁ copy t
   each t = became order 33 c copy d₁ t long-copy made₁ (λ y i. on-table y (order-table y i))
+
+  -- where none of its writes is cut every copy is the new one
+  pub spare-stands : struck c (32 + length (g .tables)) ≡ false → (t : ℕ) → In t (g .tables) → Has d₂ t copy
+  spare-stands uncut t i =
+      has-copies order 33 c copy d₁ t long-copy made₁ (λ y k. on-table y (order-table y k))
+      (λ j h k. landing-uncut j (32 + length (g .tables)) c uncut (omega arith) (omega (arith, order-many)))
+      (inl (copy-order-in e d t .1 (rw (r .geo) i)))
 
   -- a block that is read through the old table reads as before
   slot-kept : (y : ℕ) → y < g .span → slotAt d₂ (locate (g .start) (entries l) y) ≡ slotAt d (locate (g .start) (entries l) y)
@@ -411,21 +453,15 @@ module _ (e : Setting) (g : Geometry) (γ : Ground e g) (d : Disc) (n : ℕ) (l 
               (puts-inside bs b (slotsIn 32 x 0) j (rw (length-blocks 32 x 0) (omega arith)) fits-blocks
               ∙ block-in 32 x 0 j (omega arith)
               ∙ sym (spare-slot j (omega arith))
-              ∙ ap (slotAt d₂) (sym (locate-spared g (entries l) b (ready-fits r) multiple below unspared span-small some j (omega arith)))))
+              ∙ ap (slotAt d₂) (sym (locate-spared g (entries l) b (ready-fits r) multiple below span-small some j (omega arith)))))
               (λ w.
               puts-other bs b (slotsIn 32 x 0) y (rw (length-blocks 32 x 0) (other-packet b y multiple w))
               ∙ r .same y h
               ∙ sym (slot-kept y h)
-              ∙ ap (slotAt d₂) (sym (locate-unspared g (entries l) b (ready-fits r) multiple below unspared span-small some y h w))));
+              ∙ ap (slotAt d₂) (sym (locate-unspared g (entries l) b (ready-fits r) multiple below span-small some y h w))));
         }
 
 -- ---- the call
-
--- whether a packet has no entry
-not-spared : (w : Spot) → isSpared w ≡ false → w ≡ inPlace
-unfolding isSpared
-not-spared (mappedTo m) h = absurd (false≢true (sym h))
-not-spared inPlace h = refl
 
 -- a packet to the same place and the same copies in the same order
 same-spare : (p q : ℕ) (x : List ℕ) (o o′ : List ℕ) (m n : ℕ) (l l′ : List ℕ) → p ≡ q → o ≡ o′ → m ≡ n → l ≡ l′
@@ -468,9 +504,8 @@ module _ (e : Setting) (g : Geometry) (γ : Ground e g) (h : Shape) (copies : h 
       let below : b < g .span = rw (← γ .span-is) (ltb-true _ _ (v .1)) in
       let long : length x ≡ 65536 = eqb-true _ _ (u .1) in
       let two : 2 ≤ length (g .tables) = leb-true _ _ (rw (r .geo) at (p .1 .1 .0)) in
-      let unspared : spotOf (entries l) b ≡ inPlace = not-spared _ (not-true _ (rw (ready-entries r) at (p .1 .1 .1 .0))) in
-      let some : noEntry (freeOf (entries l)) ≡ false = not-true _ (rw (ready-entries r) at (p .1 .1 .1 .1 .0)) in
-      let more : n ≢ 4294967295 = eqb-false _ _ (not-true _ (rw (ready-sequence r) at (p .1 .1 .1 .1 .1 .0))) in
+      let some : noEntry (freeOf (entries l)) ≡ false = not-true _ (rw (ready-entries r) at (p .1 .1 .1 .0)) in
+      let more : n ≢ 4294967295 = eqb-false _ _ (not-true _ (rw (ready-sequence r) at (p .1 .1 .1 .1 .0))) in
       let ws : List Write = spareWrites e d b x in
       let o : List ℕ = copyOrder e d in
       let tb : List ℕ = writtenTable (n + 1) (flat (resorted (entries l) b)) in
@@ -482,7 +517,7 @@ module _ (e : Setting) (g : Geometry) (γ : Ground e g) (h : Shape) (copies : h 
       ∙ writes-append 1 c up (copiesTo o tb) d
       ∙ ap (λ (y : ℕ). writes (1 + y) c (copiesTo o tb) (writes 1 c up d)) (length-upward 32 (firstFree (freeOf (entries l))) x 0) in
       let same-count : length (resorted (entries l) b) ≡ length (entries l) =
-      resorted-length g (entries l) b (ready-fits r) multiple below unspared (omega (arith, γ .inside, γ .sectors)) some in
+      resorted-length g (entries l) b (ready-fits r) multiple below (omega (arith, γ .inside, γ .sectors)) some in
       sound-carried (AgainOk e g) h σ (sparePacket b x c) c st _ _ _ refl (ap (λ (y : ℕ). 32 + y) copies ∙ sym ln)
       (λ k.
       let at-least : 1 ≤ c .at = leb-true _ _ (and-true (leb 1 (c .at)) _ k .0) in
@@ -491,10 +526,10 @@ module _ (e : Setting) (g : Geometry) (γ : Ground e g) (h : Shape) (copies : h 
       rw e₂ (
         n + 1,
         flat (resorted (entries l) b),
-        spare-done e g γ d n l (σ .blocks) r b x c multiple below long two unspared some more w,
+        spare-done e g γ d n l (σ .blocks) r b x c multiple below long two some more w,
         i .lent,
       ))
-      (λ w. rw e₂ (n, l, spare-torn e g γ d n l (σ .blocks) r b x c multiple below long two unspared some more w, i .lent)))
+      (λ w. rw e₂ (n, l, spare-torn e g γ d n l (σ .blocks) r b x c multiple below long two some more w, i .lent)))
       (λ k.
       let w : landing 33 c ≡ Landing.Done = landing-uncut 33 (length ws) c k (omega arith) (omega (arith, ln)) in
       let l′ : List ℕ = flat (resorted (entries l) b) in
@@ -502,7 +537,7 @@ module _ (e : Setting) (g : Geometry) (γ : Ground e g) (h : Shape) (copies : h 
         n + 1,
         l′,
         record {
-          ready = rw e₂ (spare-done e g γ d n l (σ .blocks) r b x c multiple below long two unspared some more w);
+          ready = rw e₂ (spare-done e g γ d n l (σ .blocks) r b x c multiple below long two some more w);
           held = (ready-count r ∙ sym R, ap (λ (y : ℕ). y + 1) (ready-sequence r));
           front =
               rw (ready-entries r)

@@ -1,19 +1,19 @@
--- The entries of a sparing table: flat and back, used and free ones, and their mapped starts. Assumes nothing.
+-- The entries of a sparing table: flat and back, used, defective and free ones, and their mapped starts. Assumes nothing.
 use Prim.Native.Nat.{ℕ, zero, suc, _+_, _*_, _%_, _≤_, _<_}
-use mathlib.Core.Bool.{Bool, true, false, cond, _&&_, _||_, true≢false}
-use mathlib.Core.Logic.{_≢_, inl, inr}
+use mathlib.Core.Bool.{true, false, not, _&&_, true≢false, false≢true}
+use mathlib.Core.Logic.{_≢_, inl, inr, ⊎-elim}
 use mathlib.Core.Path.{_≡_, refl, sym, ap, _∙_}
 use mathlib.Core.List.{List, [], _∷_, _++_}
 use native.Mathlib.Omega.{arith}
 use lib.Dec.{leb, ltb, eqb}
 use lib.ListN.{length}
-use borrow.Author.Tests.{ltb-true, leb-true, eqb-true, eq-eqb, ne-eqb}
+use borrow.Author.Tests.{ltb-true, leb-true, eqb-true, eq-eqb, ne-eqb, lt-ltb}
 use Rattle.fields.specs.Number.{field, words}
 use Rattle.maps.specs.Kinds.{absent}
 use Rattle.model.specs.Vat.{none}
-use Rattle.model.specs.Sparing.{Geometry, Entry, countIn, tableIn, entries, flat, isFree, usedOf, freeOf, originalsFit, ascending, apartFrom, outside, mappedOf, mappedFit, entriesFit, Spot, mappedTo, inPlace, spotOf, firstFree}
+use Rattle.model.specs.Sparing.{Geometry, Entry, countIn, tableIn, entries, flat, isFree, defective, isDefective, isUsed, usedOf, defectiveOf, freeOf, originalFits, originalsFit, mayFollow, ascending, apartFrom, outside, mappedOf, mappedFit, entriesFit, Spot, mappedTo, inPlace, spotOf, firstFree}
 use Rattle.model.specs.Rewrite.{noEntry}
-use Rattle.model.proofs.Basics.{and-true, both, by-eq, cond-elim, other}
+use Rattle.model.proofs.Basics.{and-true, and-false-left, both, by-eq, cond-elim, or-cases, or-left, or-right, other}
 use Rattle.model.proofs.SparingLists.{In, absent-not-in, not-in-absent}
 
 -- ---- flat and back
@@ -62,64 +62,190 @@ fits-mapped g es h =
     (and-true (originalsFit (g .span) es) (ascending es && mappedFit g es)
     (and-true (leb (56 + 8 * length es) (g .size)) (originalsFit (g .span) es && (ascending es && mappedFit g es)) h .1) .1) .1
 
--- ---- used, then free
+-- ---- originals
 
--- a used entry's original is a multiple of 32 below L
-pub used-original : (n : ℕ) (e : Entry) → (isFree e || (eqb (e .original % 32) 0 && ltb (e .original) n)) ≡ true → isFree e ≡ false → (e .original % 32 ≡ 0) × (e .original < n)
-used-original n e o u =
-    let p =
-    and-true (eqb (e .original % 32) 0) (ltb (e .original) n) (other (isFree e) (eqb (e .original % 32) 0 && ltb (e .original) n) o u) in
-    (eqb-true (e .original % 32) 0 (p .0), ltb-true (e .original) n (p .1))
+-- an original that fits is none, defective, or a multiple of 32 below L
+pub original-cases {ℓ} : {P : Type ℓ} (n o : ℕ) → originalFits n o ≡ true → (o ≡ none → P) → (o ≡ defective → P) → (o % 32 ≡ 0 → o < n → P) → P
+unfolding originalFits
+original-cases n o h f d u =
+    or-cases (eqb o none) _ h
+    (λ q. f (eqb-true o none q))
+    (λ r. or-cases (eqb o defective) _ r
+    (λ q. d (eqb-true o defective q))
+    (λ q. let p = and-true (eqb (o % 32) 0) (ltb o n) q in u (eqb-true (o % 32) 0 (p .0)) (ltb-true o n (p .1))))
 
-free-next : (n : ℕ) (e x : Entry) → n ≤ 1048576 → isFree e ≡ true → (isFree x || ltb (e .original) (x .original)) ≡ true → (isFree x || (eqb (x .original % 32) 0 && ltb (x .original) n)) ≡ true → isFree x ≡ true
-unfolding isFree none
-free-next n e x s f a o = go (isFree x) refl
-  where
-    go : (b : Bool) → isFree x ≡ b → isFree x ≡ true
-    go true q = q
-    go false q =
-        absurd
-        (omega (
-          arith,
-          eqb-true (e .original) 0xffffffff f,
-          ltb-true (e .original) (x .original) (other (isFree x) (ltb (e .original) (x .original)) a q),
-          used-original n x o q .1,
-        ))
+-- each of them fits
+pub none-original : (n : ℕ) → originalFits n none ≡ true
+unfolding originalFits
+none-original n = or-left _ (eq-eqb none none refl)
 
-free-tail : (n : ℕ) (e : Entry) (l : List Entry) → n ≤ 1048576 → isFree e ≡ true → ascending (e ∷ l) ≡ true → originalsFit n l ≡ true → (usedOf l ≡ []) × (freeOf l ≡ l)
-unfolding ascending originalsFit usedOf freeOf
-free-tail n e [] s f a o = (refl, refl)
-free-tail n e (x ∷ l) s f a o =
-    let pa = and-true (isFree x || ltb (e .original) (x .original)) (ascending (x ∷ l)) a in
-    let po = and-true (isFree x || (eqb (x .original % 32) 0 && ltb (x .original) n)) (originalsFit n l) o in
-    let fx : isFree x ≡ true = free-next n e x s f (pa .0) (po .0) in
-    let below = free-tail n x l s fx (pa .1) (po .1) in
-    (rw fx (below .0), rw (fx, below .1))
+pub defective-original : (n : ℕ) → originalFits n defective ≡ true
+unfolding originalFits
+defective-original n = or-right (eqb defective none) (or-left _ (eq-eqb defective defective refl))
+
+pub packet-original : (n o : ℕ) → o % 32 ≡ 0 → o < n → originalFits n o ≡ true
+unfolding originalFits
+packet-original n o m l = or-right (eqb o none) (or-right (eqb o defective) (both (eq-eqb (o % 32) 0 m) (lt-ltb o n l)))
+
+-- a multiple of 32 is neither
+pub multiple-none : (p : ℕ) → p % 32 ≡ 0 → p ≢ none
+unfolding none
+multiple-none p h = omega arith
+
+pub multiple-defective : (p : ℕ) → p % 32 ≡ 0 → p ≢ defective
+unfolding defective
+multiple-defective p h = omega arith
+
+-- an entry is used, defective or free
+pub entry-cases {ℓ} : {P : Type ℓ} (e : Entry) → (e .original ≡ none → P) → (e .original ≡ defective → P) → (e .original ≢ none → e .original ≢ defective → P) → P
+entry-cases e f d u = by-eq (e .original) none f (λ a. by-eq (e .original) defective d (λ b. u a b))
+
+-- what the tests say of it
+pub free-means : (e : Entry) → isFree e ≡ true → e .original ≡ none
+unfolding isFree
+free-means e h = eqb-true (e .original) none h
+
+pub defective-means : (e : Entry) → isDefective e ≡ true → e .original ≡ defective
+unfolding isDefective
+defective-means e h = eqb-true (e .original) defective h
+
+pub used-means : (e : Entry) → isUsed e ≡ true → (e .original ≢ none) × (e .original ≢ defective)
+unfolding isUsed isFree isDefective
+used-means e h = (
+  λ q. true≢false (sym h ∙ ap not (or-left _ (eq-eqb (e .original) none q))),
+  λ q. true≢false (sym h ∙ ap not (or-right (eqb (e .original) none) (eq-eqb (e .original) defective q))),
+)
+
+-- and how they come out
+module _ (e : Entry) where
+  -- of a free one
+  pub free-tests : e .original ≡ none → (isFree e ≡ true) × (isDefective e ≡ false) × (isUsed e ≡ false)
+  unfolding isUsed isFree isDefective none defective
+  free-tests q = (
+    eq-eqb (e .original) none q,
+    ne-eqb (e .original) defective (omega arith),
+    ap not (or-left _ (eq-eqb (e .original) none q)),
+  )
+
+  -- of a defective one
+  pub defective-tests : e .original ≡ defective → (isFree e ≡ false) × (isDefective e ≡ true) × (isUsed e ≡ false)
+  unfolding isUsed isFree isDefective none defective
+  defective-tests q = (
+    ne-eqb (e .original) none (omega arith),
+    eq-eqb (e .original) defective q,
+    ap not (or-right (eqb (e .original) none) (eq-eqb (e .original) defective q)),
+  )
+
+  -- of a used one
+  pub used-tests : e .original ≢ none → e .original ≢ defective → (isFree e ≡ false) × (isDefective e ≡ false) × (isUsed e ≡ true)
+  unfolding isUsed isFree isDefective
+  used-tests a b = (ne-eqb (e .original) none a, ne-eqb (e .original) defective b, rw (ne-eqb (e .original) none a, ne-eqb (e .original) defective b))
+
+-- ---- which entry may follow which
+
+-- a used one follows a lower original
+pub used-follows : (o n : ℕ) → n ≢ none → n ≢ defective → mayFollow o n ≡ true → o < n
+unfolding mayFollow
+used-follows o n a b h =
+    ltb-true o n
+    (other (eqb n defective && not (eqb o none)) (ltb o n)
+    (other (eqb n none) _ h (ne-eqb n none a))
+    (and-false-left (not (eqb o none)) (ne-eqb n defective b)))
+
+-- a defective one follows none that is free
+pub defective-follows : (o : ℕ) → mayFollow o defective ≡ true → o ≢ none
+unfolding mayFollow none defective
+defective-follows o h q = false≢true (rw q at h)
+
+-- and what may follow does
+pub follows-lower : (o n : ℕ) → o < n → mayFollow o n ≡ true
+unfolding mayFollow
+follows-lower o n h = or-right (eqb n none) (or-right (eqb n defective && not (eqb o none)) (lt-ltb o n h))
+
+pub follows-free : (o : ℕ) → mayFollow o none ≡ true
+unfolding mayFollow
+follows-free o = or-left _ (eq-eqb none none refl)
+
+pub follows-defective : (o : ℕ) → o ≢ none → mayFollow o defective ≡ true
+unfolding mayFollow
+follows-defective o n = or-right (eqb defective none) (or-left _ (both (eq-eqb defective defective refl) (ap not (ne-eqb o none n))))
+
+-- ---- used, then defective, then free
+
+-- the first of two entries that ascend may stand before the second
+pub ascending-first : (e f : Entry) (l : List Entry) → ascending (e ∷ f ∷ l) ≡ true → mayFollow (e .original) (f .original) ≡ true
+unfolding ascending
+ascending-first e f l a = and-true (mayFollow (e .original) (f .original)) (ascending (f ∷ l)) a .0
 
 -- all but the first ascend too
 pub ascending-rest : (e : Entry) (l : List Entry) → ascending (e ∷ l) ≡ true → ascending l ≡ true
 unfolding ascending
 ascending-rest e [] a = refl
-ascending-rest e (f ∷ l) a = and-true (isFree f || ltb (e .original) (f .original)) (ascending (f ∷ l)) a .1
+ascending-rest e (f ∷ l) a = and-true (mayFollow (e .original) (f .original)) (ascending (f ∷ l)) a .1
 
--- the used entries are before the free ones
-pub used-then-free : (n : ℕ) (es : List Entry) → n ≤ 1048576 → ascending es ≡ true → originalsFit n es ≡ true → es ≡ usedOf es ++ freeOf es
-unfolding originalsFit usedOf freeOf
-used-then-free n [] s a o = refl
-used-then-free n (e ∷ l) s a o = go (isFree e) refl (used-then-free n l s (ascending-rest e l a) (po .1))
-  where
-    po : ((isFree e || (eqb (e .original % 32) 0 && ltb (e .original) n)) ≡ true) × (originalsFit n l ≡ true)
-    po = and-true (isFree e || (eqb (e .original % 32) 0 && ltb (e .original) n)) (originalsFit n l) o
+-- the first original fits, and those behind it
+pub originals-first : (n : ℕ) (e : Entry) (l : List Entry) → originalsFit n (e ∷ l) ≡ true → (originalFits n (e .original) ≡ true) × (originalsFit n l ≡ true)
+unfolding originalsFit
+originals-first n e l h = and-true (originalFits n (e .original)) (originalsFit n l) h
 
-    go : (b : Bool) → isFree e ≡ b → l ≡ usedOf l ++ freeOf l → e ∷ l ≡ cond b (usedOf l) (e ∷ usedOf l) ++ cond b (e ∷ freeOf l) (freeOf l)
-    go true q r =
-        let t = free-tail n e l s q a (po .1) in
-        rw (t .0, t .1)
-    go false q r = ap (λ (x : List Entry). e ∷ x) r
+-- an entry of a packet does not stand behind another kind
+behind-other : (n : ℕ) (e f : Entry) (l : List Entry) → n ≤ 1048576 → 0xfffffff0 ≤ e .original → ascending (e ∷ f ∷ l) ≡ true → originalsFit n (f ∷ l) ≡ true → 0xfffffff0 ≤ f .original
+unfolding none defective
+behind-other n e f l s k a o =
+    original-cases n (f .original) (originals-first n f l o .0)
+    (λ q. omega arith)
+    (λ q. omega arith)
+    (λ m b. absurd (omega (arith, used-follows (e .original) (f .original) (multiple-none (f .original) m) (multiple-defective (f .original) m) (ascending-first e f l a))))
 
--- a table that fits is its used entries and then its free ones
-pub used-and-free : (g : Geometry) (es : List Entry) → entriesFit g es ≡ true → g .span ≤ 1048576 → es ≡ usedOf es ++ freeOf es
-used-and-free g es h s = used-then-free (g .span) es s (fits-ascending g es h) (fits-originals g es h)
+-- behind a defective or a free entry none is used
+none-used : (n : ℕ) (e : Entry) (l : List Entry) → n ≤ 1048576 → 0xfffffff0 ≤ e .original → ascending (e ∷ l) ≡ true → originalsFit n l ≡ true → usedOf l ≡ []
+unfolding usedOf none defective
+none-used n e [] s k a o = refl
+none-used n e (f ∷ l) s k a o =
+    let h : 0xfffffff0 ≤ f .original = behind-other n e f l s k a o in
+    let r : usedOf l ≡ [] = none-used n f l s h (ascending-rest e (f ∷ l) a) (originals-first n f l o .1) in
+    original-cases n (f .original) (originals-first n f l o .0)
+    (λ q. rw (free-tests f q .2) r)
+    (λ q. rw (defective-tests f q .2) r)
+    (λ m b. absurd (omega arith))
+
+-- behind a free one none is defective
+none-defective : (n : ℕ) (e : Entry) (l : List Entry) → n ≤ 1048576 → e .original ≡ none → ascending (e ∷ l) ≡ true → originalsFit n l ≡ true → defectiveOf l ≡ []
+unfolding defectiveOf none
+none-defective n e [] s k a o = refl
+none-defective n e (f ∷ l) s k a o =
+    let low = behind-other n e f l s (omega arith) a o in
+    original-cases n (f .original) (originals-first n f l o .0)
+    (λ q. rw (free-tests f q .1) (none-defective n f l s q (ascending-rest e (f ∷ l) a) (originals-first n f l o .1)))
+    (λ q. absurd (defective-follows (e .original) (rw q at (ascending-first e f l a)) k))
+    (λ m b. absurd (omega arith))
+
+-- the used entries are before the defective ones, and those before the free ones
+parts-in-order : (n : ℕ) (es : List Entry) → n ≤ 1048576 → ascending es ≡ true → originalsFit n es ≡ true → es ≡ usedOf es ++ (defectiveOf es ++ freeOf es)
+unfolding usedOf defectiveOf freeOf none defective
+parts-in-order n [] s a o = refl
+parts-in-order n (e ∷ l) s a o =
+    let po = originals-first n e l o in
+    let r : l ≡ usedOf l ++ (defectiveOf l ++ freeOf l) = parts-in-order n l s (ascending-rest e l a) (po .1) in
+    entry-cases e
+    (λ q.
+    let t = free-tests e q in
+    let u = none-used n e l s (omega arith) a (po .1) in
+    let d = none-defective n e l s q a (po .1) in
+    let f : l ≡ freeOf l = r ∙ (λ i. u i ++ (d i ++ freeOf l)) in
+    rw (t .2, t .1, t .0, u, d) (ap (λ (x : List Entry). e ∷ x) f))
+    (λ q.
+    let t = defective-tests e q in
+    let u = none-used n e l s (omega arith) a (po .1) in
+    let f : l ≡ defectiveOf l ++ freeOf l = r ∙ (λ i. u i ++ (defectiveOf l ++ freeOf l)) in
+    rw (t .2, t .1, t .0, u) (ap (λ (x : List Entry). e ∷ x) f))
+    (λ x y.
+    let t = used-tests e x y in
+    rw (t .2, t .1, t .0) (ap (λ (x : List Entry). e ∷ x) r))
+
+-- a table that fits is its used entries, then its defective ones, and then its free ones
+pub three-parts : (g : Geometry) (es : List Entry) → entriesFit g es ≡ true → g .span ≤ 1048576 → es ≡ usedOf es ++ (defectiveOf es ++ freeOf es)
+three-parts g es h s = parts-in-order (g .span) es s (fits-ascending g es h) (fits-originals g es h)
 
 -- ---- mapped starts
 
@@ -232,6 +358,39 @@ spot-not-free g (e ∷ l) p m h n k a =
     (λ _ z. spot-not-free g l p m (mapped-first g e l h .3) n k′ z)
     a)
     k
+
+-- the mapped starts of the defective entries are among those of all
+pub defective-in : (es : List Entry) (k : ℕ) → In k (mappedOf (defectiveOf es)) → In k (mappedOf es)
+unfolding defectiveOf mappedOf
+defective-in [] k i = i
+defective-in (e ∷ l) k i =
+    cond-elim (λ (d : List Entry). In k (mappedOf d) → In k (mappedOf (e ∷ l))) (isDefective e)
+    (λ _ j. ⊎-elim (λ q. inl q) (λ q. inr (defective-in l k q)) j)
+    (λ _ j. inr (defective-in l k j))
+    i
+
+-- a defective spare is not that of any packet
+pub spot-not-defective : (g : Geometry) (es : List Entry) (p m k : ℕ) → mappedFit g es ≡ true → p ≢ defective → spotOf es p ≡ mappedTo m → In k (mappedOf (defectiveOf es)) → m ≢ k
+unfolding defectiveOf spotOf mappedOf
+spot-not-defective g [] p m k h n a i = absurd i
+spot-not-defective g (e ∷ l) p m k h n a i =
+    let f = mapped-first g e l h in
+    let away = absent-not-in (e .mapped) (mappedOf l) (f .2) in
+    cond-elim (λ (d : List Entry). In k (mappedOf d) → m ≢ k) (isDefective e)
+    (λ w j.
+    let past : spotOf l p ≡ mappedTo m = sym (spot-next e l p (λ z. n (sym z ∙ defective-means e w))) ∙ a in
+    ⊎-elim
+    (λ q z. let y : e .mapped ≡ m = sym (z ∙ q) in away (rw y (spot-in l p m past)))
+    (λ q. spot-not-defective g l p m k (f .3) n past q)
+    j)
+    (λ w j.
+    by-eq (e .original) p
+    (λ q z.
+    let s : mappedTo (e .mapped) ≡ mappedTo m = sym (spot-here e l p q) ∙ a in
+    let t : e .mapped ≡ k = cc in
+    away (rw t (defective-in l k j)))
+    (λ q. spot-not-defective g l p m k (f .3) n (sym (spot-next e l p q) ∙ a) j))
+    i
 
 -- ---- a table as it is read
 

@@ -8,14 +8,13 @@ use native.Mathlib.Omega.{arith}
 use lib.Dec.{leb, eqb}
 use borrow.Author.Tests.{leb-true, eqb-true, eq-eqb, ne-eqb, le-leb, lt-leb}
 use Rattle.maps.proofs.Tests.{fails, holds}
-use Rattle.model.specs.Vat.{none}
-use Rattle.model.specs.Sparing.{Geometry, Entry, freeOf, apart, apartFrom, outside, entriesFit, Spot, mappedTo, inPlace, spotOf, packetOf, startAt, locate, firstFree, resorted}
+use Rattle.model.specs.Sparing.{Geometry, Entry, defectiveOf, freeOf, apart, apartFrom, outside, mappedOf, entriesFit, Spot, mappedTo, inPlace, spotOf, packetOf, startAt, locate, firstFree, resorted}
 use Rattle.model.specs.Examine.{allOutside}
 use Rattle.model.specs.Rewrite.{noEntry}
 use Rattle.model.proofs.Basics.{and-true, by-eq, either, or-left}
 use Rattle.model.proofs.SparingLists.{In}
 use Rattle.model.proofs.SparingResorted.{spot-same, spot-other}
-use Rattle.model.proofs.SparingEntries.{fits-mapped, mapped-outside, mapped-apart, spot-in, spots-apart, free-in, spot-not-free}
+use Rattle.model.proofs.SparingEntries.{fits-mapped, mapped-outside, mapped-apart, spot-in, spots-apart, free-in, spot-not-free, defective-in, spot-not-defective, multiple-none, multiple-defective}
 
 -- ---- packets
 
@@ -147,11 +146,6 @@ at-own : (g : Geometry) (es : List Entry) (p : ℕ) → spotOf es p ≡ inPlace 
 unfolding startAt
 at-own g es p e = rw e
 
--- a multiple of 32 is not none
-multiple-none : (p : ℕ) → p % 32 ≡ 0 → p ≢ none
-unfolding none
-multiple-none p h = omega arith
-
 -- blocks of packets that begin in different places are in different places
 steps-apart : (a b i j : ℕ) → a % 32 ≡ 0 → b % 32 ≡ 0 → i < 32 → j < 32 → a ≢ b → a + i ≢ b + j
 steps-apart a b i j ha hb hi hj n = omega arith
@@ -259,7 +253,21 @@ module _ (g : Geometry) (es : List Entry) (fits : entriesFit g es ≡ true) (sta
       steps-apart (packetAt g es (packetOf b)) (firstFree (freeOf es)) (b % 32) j (start-multiple b) (free-outside k .multiple) (omega arith) h
       (at-not-free (packetOf b) (packet-multiple b) (packet-less b (g .span) l) k)
 
-  -- that packet is no table's
+  -- nor in that of a defective one
+  at-not-defective : (p k : ℕ) → p % 32 ≡ 0 → p < g .span → In k (mappedOf (defectiveOf es)) → packetAt g es p ≢ k
+  at-not-defective p k h l i =
+      by-spot es p
+      (λ e. rw (at-own g es p e) (λ z. aside-apart g k p (outside-means g k (mapped-outside g es k (fits-mapped g es fits) (defective-in es k i))) l (sym z)))
+      (λ m e. rw (at-mapped g es p m e) (spot-not-defective g es p m k (fits-mapped g es fits) (multiple-defective p h) e i))
+
+  pub locate-not-defective : (b k j : ℕ) → b < g .span → In k (mappedOf (defectiveOf es)) → j < 32 → locate (g .start) es b ≢ k + j
+  unfolding locate
+  locate-not-defective b k j l i h =
+      steps-apart (packetAt g es (packetOf b)) k (b % 32) j (start-multiple b)
+      (outside-means g k (mapped-outside g es k (fits-mapped g es fits) (defective-in es k i)) .multiple) (omega arith) h
+      (at-not-defective (packetOf b) k (packet-multiple b) (packet-less b (g .span) l) i)
+
+  -- the free one is no table's
   pub free-not-table : (t i j : ℕ) → allOutside g (g .tables) ≡ true → In t (g .tables) → noEntry (freeOf es) ≡ false → i < 32 → j < 32 → firstFree (freeOf es) + j ≢ t + i
   free-not-table t i j o e k hi hj =
       steps-apart (firstFree (freeOf es)) t j i (free-outside k .multiple) (table-outside g (g .tables) t o e .multiple) hj hi
@@ -272,15 +280,15 @@ module _ (g : Geometry) (es : List Entry) (fits : entriesFit g es ≡ true) (sta
 
 -- ---- where a block is once a packet was spared
 
-module _ (g : Geometry) (es : List Entry) (p : ℕ) (fits : entriesFit g es ≡ true) (multiple : p % 32 ≡ 0) (below : p < g .span) (unspared : spotOf es p ≡ inPlace) (small : g .span ≤ 1048576) (some : noEntry (freeOf es) ≡ false) where
+module _ (g : Geometry) (es : List Entry) (p : ℕ) (fits : entriesFit g es ≡ true) (multiple : p % 32 ≡ 0) (below : p < g .span) (small : g .span ≤ 1048576) (some : noEntry (freeOf es) ≡ false) where
   -- a block of that packet is in the packet that was free
   pub locate-spared : (i : ℕ) → i < 32 → locate (g .start) (resorted es p) (p + i) ≡ firstFree (freeOf es) + i
   unfolding locate startAt
   locate-spared i h =
-      rw (packet-start p i multiple h, packet-place p i multiple h, spot-same g es p fits multiple below unspared small some)
+      rw (packet-start p i multiple h, packet-place p i multiple h, spot-same g es p fits multiple below small some)
 
   -- a block of any other is where it was
   pub locate-unspared : (b : ℕ) → b < g .span → packetOf b ≢ p → locate (g .start) (resorted es p) b ≡ locate (g .start) es b
   unfolding locate
   locate-unspared b l n =
-      rw (spot-other g es p fits multiple below unspared small some (packetOf b) n (packet-less b (g .span) l))
+      rw (spot-other g es p fits multiple below small some (packetOf b) n (packet-less b (g .span) l))

@@ -1,20 +1,180 @@
--- The table once a packet took the free entry of lowest index: it fits, that packet is found there, and every other one where it was.
--- Assumes nothing.
+-- The table once a packet, spared before or not, took the free entry of lowest index: it fits, that packet is found there, every other one
+-- where it was, and its old spare is the last of the defective ones. Assumes nothing.
 use Prim.Native.Nat.{ℕ, suc, _+_, _*_, _%_, _≤_, _<_}
-use mathlib.Core.Bool.{Bool, true, false, cond, _&&_, _||_, true≢false}
+use mathlib.Core.Bool.{Bool, true, false, cond, true≢false}
 use mathlib.Core.Logic.{_≢_, inl, inr, ⊎-elim}
-use mathlib.Core.Path.{_≡_, refl, sym, ap, _∙_}
-use mathlib.Core.List.{List, [], _∷_, _++_}
+use mathlib.Core.Path.{_≡_, refl, sym, ap, ap₂, _∙_}
+use mathlib.Core.List.{List, [], _∷_, _++_, append-assoc}
 use native.Mathlib.Omega.{arith}
 use lib.Dec.{ltb, eqb}
 use lib.ListN.{length, length-append}
-use borrow.Author.Tests.{ltb-false, eq-eqb, lt-ltb, le-leb}
+use borrow.Author.Tests.{ltb-true, ltb-false, eqb-true, eqb-false, ne-eqb, eq-eqb, le-leb}
 use Rattle.model.specs.Vat.{none}
-use Rattle.model.specs.Sparing.{Geometry, Entry, isFree, usedOf, freeOf, originalsFit, ascending, mappedOf, mappedFit, entriesFit, mappedTo, inPlace, spotOf, inserted, firstFree, rest, resorted}
+use Rattle.model.specs.Sparing.{Geometry, Entry, isFree, defective, isDefective, isUsed, usedOf, defectiveOf, freeOf, originalFits, originalsFit, mayFollow, ascending, apartFrom, outside, mappedOf, mappedFit, entriesFit, Spot, mappedTo, inPlace, spotOf, inserted, firstFree, rest, without, turnedDefective, retired, freeTaken, resorted}
 use Rattle.model.specs.Rewrite.{noEntry}
-use Rattle.model.proofs.Basics.{and-true, both, cond-elim, or-left, or-right}
+use Rattle.model.proofs.Basics.{both, by-eq, cond-elim}
 use Rattle.model.proofs.SparingLists.{In, absent-not-in}
-use Rattle.model.proofs.SparingEntries.{fits-size, fits-originals, fits-ascending, fits-mapped, used-and-free, ascending-rest, spot-past-free, spot-here, spot-next, spot-none, mapped-first, mapped-cons}
+use Rattle.model.proofs.SparingEntries.{fits-size, fits-originals, fits-ascending, fits-mapped, three-parts, original-cases, none-original, defective-original, packet-original, multiple-none, multiple-defective, entry-cases, free-means, defective-means, used-means, free-tests, defective-tests, used-tests, used-follows, follows-lower, follows-free, follows-defective, ascending-first, ascending-rest, originals-first, spot-here, spot-next, spot-none, mapped-first, mapped-cons}
+
+-- ---- lists of one kind
+
+-- a test holds of each entry
+abbrev pub Each : (Entry → Bool) → List Entry → Type 0
+Each f [] = Unit {0}
+Each f (e ∷ l) = (f e ≡ true) × Each f l
+
+each-append : (f : Entry → Bool) (a b : List Entry) → Each f a → Each f b → Each f (a ++ b)
+each-append f [] b h k = k
+each-append f (e ∷ a) b h k = (h .0, each-append f a b (h .1) k)
+
+-- the used ones are
+pub each-used : (es : List Entry) → Each isUsed (usedOf es)
+unfolding usedOf
+each-used [] = tt
+each-used (e ∷ l) = cond-elim (λ (z : List Entry). Each isUsed z) (isUsed e) (λ h. (h, each-used l)) (λ _. each-used l)
+
+-- the defective ones
+pub each-defective : (es : List Entry) → Each isDefective (defectiveOf es)
+unfolding defectiveOf
+each-defective [] = tt
+each-defective (e ∷ l) = cond-elim (λ (z : List Entry). Each isDefective z) (isDefective e) (λ h. (h, each-defective l)) (λ _. each-defective l)
+
+-- and the free ones
+pub each-free : (es : List Entry) → Each isFree (freeOf es)
+unfolding freeOf
+each-free [] = tt
+each-free (e ∷ l) = cond-elim (λ (z : List Entry). Each isFree z) (isFree e) (λ h. (h, each-free l)) (λ _. each-free l)
+
+each-rest : (f : Entry → Bool) (l : List Entry) → Each f l → Each f (rest l)
+unfolding rest
+each-rest f [] h = tt
+each-rest f (e ∷ l) h = h .1
+
+each-without : (f : Entry → Bool) (p : ℕ) (u : List Entry) → Each f u → Each f (without p u)
+unfolding without
+each-without f p [] h = tt
+each-without f p (e ∷ u) h =
+    cond-elim (λ (z : List Entry). Each f z) (eqb (e .original) p) (λ _. each-without f p u (h .1)) (λ _. (h .0, each-without f p u (h .1)))
+
+each-turned : (p : ℕ) (u : List Entry) → Each isDefective (turnedDefective p u)
+unfolding turnedDefective isDefective
+each-turned p [] = tt
+each-turned p (e ∷ u) =
+    cond-elim (λ (z : List Entry). Each isDefective z) (eqb (e .original) p) (λ _. (eq-eqb defective defective refl, each-turned p u)) (λ _. each-turned p u)
+
+each-inserted : (f : Entry → Bool) (x : Entry) (u : List Entry) → f x ≡ true → Each f u → Each f (inserted x u)
+unfolding inserted
+each-inserted f x [] k h = (k, tt)
+each-inserted f x (e ∷ u) k h =
+    cond-elim (λ (z : List Entry). Each f z) (ltb (x .original) (e .original)) (λ _. (k, h)) (λ _. (h .0, each-inserted f x u k (h .1)))
+
+-- ---- the parts of a table
+
+-- what is put together of used, defective and free entries
+module _ where
+  used-free : (f : List Entry) → Each isFree f → usedOf f ≡ []
+  unfolding usedOf
+  used-free [] h = refl
+  used-free (e ∷ f) h = rw (free-tests e (free-means e (h .0)) .2) (used-free f (h .1))
+
+  used-defective : (d f : List Entry) → Each isDefective d → Each isFree f → usedOf (d ++ f) ≡ []
+  unfolding usedOf
+  used-defective [] f h k = used-free f k
+  used-defective (e ∷ d) f h k = rw (defective-tests e (defective-means e (h .0)) .2) (used-defective d f (h .1) k)
+
+  -- has these used ones
+  pub used-parts : (u d f : List Entry) → Each isUsed u → Each isDefective d → Each isFree f → usedOf (u ++ (d ++ f)) ≡ u
+  unfolding usedOf
+  used-parts [] d f hu hd hf = used-defective d f hd hf
+  used-parts (e ∷ u) d f hu hd hf = rw (hu .0) (ap (λ (l : List Entry). e ∷ l) (used-parts u d f (hu .1) hd hf))
+
+  defective-free : (f : List Entry) → Each isFree f → defectiveOf f ≡ []
+  unfolding defectiveOf
+  defective-free [] h = refl
+  defective-free (e ∷ f) h = rw (free-tests e (free-means e (h .0)) .1) (defective-free f (h .1))
+
+  defective-defective : (d f : List Entry) → Each isDefective d → Each isFree f → defectiveOf (d ++ f) ≡ d
+  unfolding defectiveOf
+  defective-defective [] f h k = defective-free f k
+  defective-defective (e ∷ d) f h k = rw (h .0) (ap (λ (l : List Entry). e ∷ l) (defective-defective d f (h .1) k))
+
+  -- these defective ones
+  pub defective-parts : (u d f : List Entry) → Each isUsed u → Each isDefective d → Each isFree f → defectiveOf (u ++ (d ++ f)) ≡ d
+  unfolding defectiveOf
+  defective-parts [] d f hu hd hf = defective-defective d f hd hf
+  defective-parts (e ∷ u) d f hu hd hf =
+      let k = used-means e (hu .0) in
+      rw (used-tests e (k .0) (k .1) .1) (defective-parts u d f (hu .1) hd hf)
+
+  free-free : (f : List Entry) → Each isFree f → freeOf f ≡ f
+  unfolding freeOf
+  free-free [] h = refl
+  free-free (e ∷ f) h = rw (h .0) (ap (λ (l : List Entry). e ∷ l) (free-free f (h .1)))
+
+  free-defective : (d f : List Entry) → Each isDefective d → Each isFree f → freeOf (d ++ f) ≡ f
+  unfolding freeOf
+  free-defective [] f h k = free-free f k
+  free-defective (e ∷ d) f h k = rw (defective-tests e (defective-means e (h .0)) .0) (free-defective d f (h .1) k)
+
+  -- and these free ones
+  pub free-parts : (u d f : List Entry) → Each isUsed u → Each isDefective d → Each isFree f → freeOf (u ++ (d ++ f)) ≡ f
+  unfolding freeOf
+  free-parts [] d f hu hd hf = free-defective d f hd hf
+  free-parts (e ∷ u) d f hu hd hf =
+      let k = used-means e (hu .0) in
+      rw (used-tests e (k .0) (k .1) .0) (free-parts u d f (hu .1) hd hf)
+
+-- the table once p has no entry, and then once it took the first free one, from the parts of the table before
+module _ (es : List Entry) (p : ℕ) where
+  -- the used entries of other packets, and the defective ones with that of p
+  abbrev others : List Entry
+  others = without p (usedOf es)
+
+  abbrev worn : List Entry
+  worn = defectiveOf es ++ turnedDefective p (usedOf es)
+
+  abbrev own : Entry
+  own = record { original = p; mapped = firstFree (freeOf es) }
+
+  others-used : Each isUsed others
+  others-used = each-without isUsed p (usedOf es) (each-used es)
+
+  worn-defective : Each isDefective worn
+  worn-defective = each-append isDefective (defectiveOf es) (turnedDefective p (usedOf es)) (each-defective es) (each-turned p (usedOf es))
+
+  retired-parts : retired es p ≡ others ++ (worn ++ freeOf es)
+  unfolding retired
+  retired-parts = ap (λ (l : List Entry). others ++ l) (sym (append-assoc (defectiveOf es) (turnedDefective p (usedOf es)) (freeOf es)))
+
+  -- "its entry turns defective and a free one is taken"
+  pub resorted-parts : resorted es p ≡ inserted own others ++ (worn ++ rest (freeOf es))
+  unfolding resorted freeTaken
+  resorted-parts =
+      let r : List Entry = others ++ (worn ++ freeOf es) in
+      let u : usedOf r ≡ others = used-parts others worn (freeOf es) others-used worn-defective (each-free es) in
+      let d : defectiveOf r ≡ worn = defective-parts others worn (freeOf es) others-used worn-defective (each-free es) in
+      let f : freeOf r ≡ freeOf es = free-parts others worn (freeOf es) others-used worn-defective (each-free es) in
+      ap (λ (l : List Entry). freeTaken l p) retired-parts
+      ∙ (λ i. inserted (record { original = p; mapped = firstFree (f i) }) (u i) ++ (d i ++ rest (f i)))
+
+  module _ (not-none : p ≢ none) (not-defective : p ≢ defective) where
+    own-used : Each isUsed (inserted own others)
+    own-used = each-inserted isUsed own others (used-tests own not-none not-defective .2) others-used
+
+    free-left : Each isFree (rest (freeOf es))
+    free-left = each-rest isFree (freeOf es) (each-free es)
+
+    -- the used entries after it
+    pub resorted-used : usedOf (resorted es p) ≡ inserted own others
+    resorted-used = ap usedOf resorted-parts ∙ used-parts (inserted own others) worn (rest (freeOf es)) own-used worn-defective free-left
+
+    -- the defective ones: those before it, and the packet's old spare last
+    pub resorted-defective : defectiveOf (resorted es p) ≡ worn
+    resorted-defective = ap defectiveOf resorted-parts ∙ defective-parts (inserted own others) worn (rest (freeOf es)) own-used worn-defective free-left
+
+    -- the free ones: all but the first
+    pub resorted-free : freeOf (resorted es p) ≡ rest (freeOf es)
+    resorted-free = ap freeOf resorted-parts ∙ free-parts (inserted own others) worn (rest (freeOf es)) own-used worn-defective free-left
 
 -- ---- lengths
 
@@ -26,58 +186,218 @@ length-inserted x (e ∷ u) =
     (λ _. refl)
     (λ _. ap suc (length-inserted x u))
 
+length-turned : (p : ℕ) (u : List Entry) → length (without p u) + length (turnedDefective p u) ≡ length u
+unfolding without turnedDefective
+length-turned p [] = refl
+length-turned p (e ∷ u) = go (eqb (e .original) p) (length-turned p u)
+  where
+    go : (b : Bool) → length (without p u) + length (turnedDefective p u) ≡ length u
+        → length (cond b (without p u) (e ∷ without p u)) + length (cond b (record { original = defective; mapped = e .mapped } ∷ turnedDefective p u) (turnedDefective p u)) ≡ suc (length u)
+    go true h = omega arith
+    go false h = omega arith
+
+length-rest : (f : List Entry) → noEntry f ≡ false → length f ≡ suc (length (rest f))
+unfolding rest noEntry
+length-rest [] h = absurd (true≢false h)
+length-rest (e ∷ f) h = refl
+
 -- ---- originals
 
--- the original of one entry fits
-abbrev originalFits : ℕ → Entry → Bool
-originalFits n e = isFree e || (eqb (e .original % 32) 0 && ltb (e .original) n)
-
-originals-left : (n : ℕ) (a b : List Entry) → originalsFit n (a ++ b) ≡ true → originalsFit n a ≡ true
+pub originals-cons : (n : ℕ) (e : Entry) (l : List Entry) → originalFits n (e .original) ≡ true → originalsFit n l ≡ true → originalsFit n (e ∷ l) ≡ true
 unfolding originalsFit
-originals-left n [] b h = refl
-originals-left n (e ∷ a) b h =
-    let p = and-true (originalFits n e) (originalsFit n (a ++ b)) h in
-    both (p .0) (originals-left n a b (p .1))
-
-originals-right : (n : ℕ) (a b : List Entry) → originalsFit n (a ++ b) ≡ true → originalsFit n b ≡ true
-unfolding originalsFit
-originals-right n [] b h = h
-originals-right n (e ∷ a) b h = originals-right n a b (and-true (originalFits n e) (originalsFit n (a ++ b)) h .1)
+originals-cons n e l h k = both h k
 
 originals-append : (n : ℕ) (a b : List Entry) → originalsFit n a ≡ true → originalsFit n b ≡ true → originalsFit n (a ++ b) ≡ true
-unfolding originalsFit
 originals-append n [] b ha hb = hb
 originals-append n (e ∷ a) b ha hb =
-    let p = and-true (originalFits n e) (originalsFit n a) ha in
-    both (p .0) (originals-append n a b (p .1) hb)
+    let p = originals-first n e a ha in
+    originals-cons n e (a ++ b) (p .0) (originals-append n a b (p .1) hb)
 
-originals-inserted : (n : ℕ) (x : Entry) (u : List Entry) → originalFits n x ≡ true → originalsFit n u ≡ true → originalsFit n (inserted x u) ≡ true
-unfolding originalsFit inserted
-originals-inserted n x [] f h = both f refl
+originals-used : (n : ℕ) (es : List Entry) → originalsFit n es ≡ true → originalsFit n (usedOf es) ≡ true
+unfolding usedOf
+originals-used n [] h = h
+originals-used n (e ∷ l) h =
+    let p = originals-first n e l h in
+    cond-elim (λ (z : List Entry). originalsFit n z ≡ true) (isUsed e)
+    (λ _. originals-cons n e (usedOf l) (p .0) (originals-used n l (p .1)))
+    (λ _. originals-used n l (p .1))
+
+originals-without : (n p : ℕ) (u : List Entry) → originalsFit n u ≡ true → originalsFit n (without p u) ≡ true
+unfolding without
+originals-without n p [] h = h
+originals-without n p (e ∷ u) h =
+    let q = originals-first n e u h in
+    cond-elim (λ (z : List Entry). originalsFit n z ≡ true) (eqb (e .original) p)
+    (λ _. originals-without n p u (q .1))
+    (λ _. originals-cons n e (without p u) (q .0) (originals-without n p u (q .1)))
+
+originals-inserted : (n : ℕ) (x : Entry) (u : List Entry) → originalFits n (x .original) ≡ true → originalsFit n u ≡ true → originalsFit n (inserted x u) ≡ true
+unfolding inserted
+originals-inserted n x [] f h = originals-cons n x [] f h
 originals-inserted n x (e ∷ u) f h =
-    let p = and-true (originalFits n e) (originalsFit n u) h in
+    let p = originals-first n e u h in
     cond-elim (λ (l : List Entry). originalsFit n l ≡ true) (ltb (x .original) (e .original))
-    (λ _. both f h)
-    (λ _. both (p .0) (originals-inserted n x u f (p .1)))
+    (λ _. originals-cons n x (e ∷ u) f h)
+    (λ _. originals-cons n e (inserted x u) (p .0) (originals-inserted n x u f (p .1)))
+
+originals-defective : (n : ℕ) (d : List Entry) → Each isDefective d → originalsFit n d ≡ true
+unfolding originalsFit
+originals-defective n [] h = refl
+originals-defective n (e ∷ d) h = both {a = originalFits n (e .original)} (rw (defective-means e (h .0)) (defective-original n)) (originals-defective n d (h .1))
+
+originals-free : (n : ℕ) (f : List Entry) → Each isFree f → originalsFit n f ≡ true
+unfolding originalsFit
+originals-free n [] h = refl
+originals-free n (e ∷ f) h = both {a = originalFits n (e .original)} (rw (free-means e (h .0)) (none-original n)) (originals-free n f (h .1))
+
+-- ---- ascending
+
+-- each original is above n
+abbrev pub Above : ℕ → List Entry → Type 0
+Above n [] = Unit {0}
+Above n (e ∷ l) = (n < e .original) × Above n l
+
+above-less : (m n : ℕ) (l : List Entry) → m ≤ n → Above n l → Above m l
+above-less m n [] h k = tt
+above-less m n (e ∷ l) h k = (omega (arith, k .0), above-less m n l h (k .1))
+
+-- each original is above those before it
+abbrev pub Rising : List Entry → Type 0
+Rising [] = Unit {0}
+Rising (e ∷ l) = Above (e .original) l × Rising l
+
+-- used entries that ascend, whatever is behind them
+pub rising : (u r : List Entry) → Each isUsed u → ascending (u ++ r) ≡ true → Rising u
+rising [] r h a = tt
+rising (e ∷ []) r h a = (tt, tt)
+rising (e ∷ f ∷ u) r h a =
+    let k = rising (f ∷ u) r (h .1) (ascending-rest e (f ∷ u ++ r) a) in
+    let w = used-means f (h .1 .0) in
+    let l : e .original < f .original = used-follows (e .original) (f .original) (w .0) (w .1) (ascending-first e f (u ++ r) a) in
+    ((l, above-less (e .original) (f .original) u (omega arith) (k .0)), k)
+
+above-without : (n p : ℕ) (u : List Entry) → Above n u → Above n (without p u)
+unfolding without
+above-without n p [] h = tt
+above-without n p (e ∷ u) h =
+    cond-elim (λ (z : List Entry). Above n z) (eqb (e .original) p) (λ _. above-without n p u (h .1)) (λ _. (h .0, above-without n p u (h .1)))
+
+rising-without : (p : ℕ) (u : List Entry) → Rising u → Rising (without p u)
+unfolding without
+rising-without p [] h = tt
+rising-without p (e ∷ u) h =
+    cond-elim (λ (z : List Entry). Rising z) (eqb (e .original) p)
+    (λ _. rising-without p u (h .1))
+    (λ _. (above-without (e .original) p u (h .0), rising-without p u (h .1)))
+
+above-inserted : (n : ℕ) (x : Entry) (u : List Entry) → n < x .original → Above n u → Above n (inserted x u)
+unfolding inserted
+above-inserted n x [] h k = (h, tt)
+above-inserted n x (e ∷ u) h k =
+    cond-elim (λ (z : List Entry). Above n z) (ltb (x .original) (e .original)) (λ _. (h, k)) (λ _. (k .0, above-inserted n x u h (k .1)))
+
+-- no entry is p's
+abbrev Lacks : ℕ → List Entry → Type 0
+Lacks p [] = Unit {0}
+Lacks p (e ∷ l) = (e .original ≢ p) × Lacks p l
+
+lacks-without : (p : ℕ) (u : List Entry) → Lacks p (without p u)
+unfolding without
+lacks-without p [] = tt
+lacks-without p (e ∷ u) =
+    cond-elim (λ (z : List Entry). Lacks p z) (eqb (e .original) p) (λ _. lacks-without p u) (λ h. (eqb-false (e .original) p h, lacks-without p u))
+
+rising-inserted : (x : Entry) (u : List Entry) → Lacks (x .original) u → Rising u → Rising (inserted x u)
+unfolding inserted
+rising-inserted x [] n h = (tt, tt)
+rising-inserted x (e ∷ u) n h =
+    cond-elim (λ (z : List Entry). Rising z) (ltb (x .original) (e .original))
+    (λ q.
+    let l = ltb-true (x .original) (e .original) q in
+    ((l, above-less (x .original) (e .original) u (omega arith) (h .0)), h))
+    (λ q.
+    let l = ltb-false (x .original) (e .original) q in
+    (above-inserted (e .original) x u (omega (arith, l, n .0)) (h .0), rising-inserted x u (n .1) (h .1)))
+
+ascending-cons : (e f : Entry) (l : List Entry) → mayFollow (e .original) (f .original) ≡ true → ascending (f ∷ l) ≡ true → ascending (e ∷ f ∷ l) ≡ true
+unfolding ascending
+ascending-cons e f l h k = both h k
+
+ascending-free : (f : List Entry) → Each isFree f → ascending f ≡ true
+unfolding ascending
+ascending-free [] h = refl
+ascending-free (e ∷ []) h = refl
+ascending-free (e ∷ f ∷ l) h =
+    ascending-cons e f l (rw (free-means f (h .1 .0)) (follows-free (e .original))) (ascending-free (f ∷ l) (h .1))
+
+-- an entry that is not free, before defective ones and free ones
+ascending-behind : (e : Entry) (d f : List Entry) → e .original ≢ none → Each isDefective d → Each isFree f → ascending (e ∷ d ++ f) ≡ true
+unfolding ascending
+ascending-behind e [] [] n h k = refl
+ascending-behind e [] (f ∷ l) n h k = ascending-cons e f l (rw (free-means f (k .0)) (follows-free (e .original))) (ascending-free (f ∷ l) k)
+ascending-behind e (x ∷ d) f n h k =
+    let q = defective-means x (h .0) in
+    ascending-cons e x (d ++ f) (rw q (follows-defective (e .original) n))
+    (ascending-behind x d f (not-none x q) (h .1) k)
+  where
+    not-none : (y : Entry) → y .original ≡ defective → y .original ≢ none
+    not-none y q z = true≢false (sym (free-tests y z .0) ∙ defective-tests y q .0)
+
+-- used ones that rise, then defective ones, then free ones
+ascending-parts : (u d f : List Entry) → Rising u → Each isUsed u → Each isDefective d → Each isFree f → ascending (u ++ (d ++ f)) ≡ true
+unfolding ascending
+ascending-parts [] [] f r hu hd hf = ascending-free f hf
+ascending-parts [] (e ∷ d) f r hu hd hf =
+    ascending-behind e d f (λ z. true≢false (sym (free-tests e z .0) ∙ defective-tests e (defective-means e (hd .0)) .0)) (hd .1) hf
+ascending-parts (e ∷ []) d f r hu hd hf = ascending-behind e d f (used-means e (hu .0) .0) hd hf
+ascending-parts (e ∷ x ∷ u) d f r hu hd hf =
+    ascending-cons e x (u ++ (d ++ f)) (follows-lower (e .original) (x .original) (r .0 .0)) (ascending-parts (x ∷ u) d f (r .1) (hu .1) hd hf)
 
 -- ---- spots
 
--- a packet that has no entry has none in the front of the table
-spot-left : (a b : List Entry) (p : ℕ) → spotOf (a ++ b) p ≡ inPlace → spotOf a p ≡ inPlace
+-- an entry of no packet is not that of q
+spot-past : (f : Entry → Bool) (l : List Entry) (q : ℕ) → Each f l → ((e : Entry) → f e ≡ true → e .original ≢ q) → spotOf l q ≡ inPlace
 unfolding spotOf
-spot-left [] b p h = refl
-spot-left (e ∷ a) b p h =
-    let n = spot-none e (a ++ b) p h in
-    spot-next e a p (n .0) ∙ spot-left a b p (n .1)
+spot-past f [] q h n = refl
+spot-past f (e ∷ l) q h n = spot-next e l q (n e (h .0)) ∙ spot-past f l q (h .1) n
 
-spot-own : (x : Entry) (u r : List Entry) → spotOf u (x .original) ≡ inPlace → spotOf (inserted x u ++ r) (x .original) ≡ mappedTo (x .mapped)
+-- entries among which q has none change no spot of q before them
+spot-before : (a b : List Entry) (q : ℕ) → spotOf b q ≡ inPlace → spotOf (a ++ b) q ≡ spotOf a q
+unfolding spotOf
+spot-before [] b q h = h
+spot-before (e ∷ a) b q h = ap (cond (eqb (e .original) q) (mappedTo (e .mapped))) (spot-before a b q h)
+
+-- defective and free ones are such
+spot-worn : (d f : List Entry) (q : ℕ) → q ≢ none → q ≢ defective → Each isDefective d → Each isFree f → spotOf (d ++ f) q ≡ inPlace
+spot-worn d f q n m hd hf =
+    spot-before d f q (spot-past isFree f q hf (λ e h z. n (sym z ∙ free-means e h)))
+    ∙ spot-past isDefective d q hd (λ e h z. m (sym z ∙ defective-means e h))
+
+-- a packet's spot is among the used entries
+pub spot-used : (es : List Entry) (q : ℕ) → q ≢ none → q ≢ defective → spotOf es q ≡ spotOf (usedOf es) q
+unfolding spotOf usedOf
+spot-used [] q n m = refl
+spot-used (e ∷ l) q n m =
+    entry-cases e
+    (λ h. rw (free-tests e h .2) (spot-next e l q (λ z. n (sym z ∙ h)) ∙ spot-used l q n m))
+    (λ h. rw (defective-tests e h .2) (spot-next e l q (λ z. m (sym z ∙ h)) ∙ spot-used l q n m))
+    (λ a b. rw (used-tests e a b .2) (ap (cond (eqb (e .original) q) (mappedTo (e .mapped))) (spot-used l q n m)))
+
+spot-without : (u : List Entry) (p q : ℕ) → q ≢ p → spotOf (without p u) q ≡ spotOf u q
+unfolding spotOf without
+spot-without [] p q n = refl
+spot-without (e ∷ u) p q n =
+    cond-elim (λ (z : List Entry). spotOf z q ≡ spotOf (e ∷ u) q) (eqb (e .original) p)
+    (λ h. spot-without u p q n ∙ sym (spot-next e u q (λ z. n (sym z ∙ eqb-true (e .original) p h))))
+    (λ _. ap (cond (eqb (e .original) q) (mappedTo (e .mapped))) (spot-without u p q n))
+
+spot-own : (x : Entry) (u r : List Entry) → Lacks (x .original) u → spotOf (inserted x u ++ r) (x .original) ≡ mappedTo (x .mapped)
 unfolding inserted
 spot-own x [] r h = spot-here x r (x .original) refl
 spot-own x (e ∷ u) r h =
-    let n = spot-none e u (x .original) h in
     cond-elim (λ (l : List Entry). spotOf (l ++ r) (x .original) ≡ mappedTo (x .mapped)) (ltb (x .original) (e .original))
     (λ _. spot-here x (e ∷ u ++ r) (x .original) refl)
-    (λ _. spot-next e (inserted x u ++ r) (x .original) (n .0) ∙ spot-own x u r (n .1))
+    (λ _. spot-next e (inserted x u ++ r) (x .original) (h .0) ∙ spot-own x u r (h .1))
 
 spot-elsewhere : (x : Entry) (u r : List Entry) (q : ℕ) → q ≢ x .original → spotOf (inserted x u ++ r) q ≡ spotOf (u ++ r) q
 unfolding inserted spotOf
@@ -86,70 +406,6 @@ spot-elsewhere x (e ∷ u) r q n =
     cond-elim (λ (l : List Entry). spotOf (l ++ r) q ≡ spotOf (e ∷ u ++ r) q) (ltb (x .original) (e .original))
     (λ _. spot-next x (e ∷ u ++ r) q (λ e. n (sym e)))
     (λ _. ap (cond (eqb (e .original) q) (mappedTo (e .mapped))) (spot-elsewhere x u r q n))
-
-spot-without : (u : List Entry) (f : Entry) (r : List Entry) (q : ℕ) → isFree f ≡ true → q ≢ none → spotOf (u ++ f ∷ r) q ≡ spotOf (u ++ r) q
-unfolding spotOf
-spot-without [] f r q h n = spot-past-free f r q h n
-spot-without (e ∷ u) f r q h n = ap (cond (eqb (e .original) q) (mappedTo (e .mapped))) (spot-without u f r q h n)
-
--- ---- ascending
-
--- one entry may stand before another
-abbrev before : Entry → Entry → Bool
-before e f = isFree f || ltb (e .original) (f .original)
-
-ascending-left : (a b : List Entry) → ascending (a ++ b) ≡ true → ascending a ≡ true
-unfolding ascending
-ascending-left [] b h = refl
-ascending-left (e ∷ []) b h = refl
-ascending-left (e ∷ f ∷ a) b h =
-    let p = and-true (before e f) (ascending (f ∷ a ++ b)) h in
-    both (p .0) (ascending-left (f ∷ a) b (p .1))
-
--- every one is free
-allFree : List Entry → Bool
-allFree [] = true
-allFree (e ∷ l) = isFree e && allFree l
-
-ascending-free : (f : List Entry) → allFree f ≡ true → ascending f ≡ true
-unfolding ascending allFree
-ascending-free [] h = refl
-ascending-free (e ∷ []) h = refl
-ascending-free (e ∷ f ∷ l) h =
-    let p = and-true (isFree e) (allFree (f ∷ l)) h in
-    both
-    (or-left (ltb (e .original) (f .original)) (and-true (isFree f) (allFree l) (p .1) .0))
-    (ascending-free (f ∷ l) (p .1))
-
-ascending-append : (a f : List Entry) → ascending a ≡ true → allFree f ≡ true → ascending (a ++ f) ≡ true
-unfolding ascending allFree
-ascending-append [] f h k = ascending-free f k
-ascending-append (e ∷ []) [] h k = refl
-ascending-append (e ∷ []) (f ∷ l) h k =
-    both
-    (or-left (ltb (e .original) (f .original)) (and-true (isFree f) (allFree l) k .0))
-    (ascending-free (f ∷ l) k)
-ascending-append (e ∷ d ∷ a) f h k =
-    let p = and-true (before e d) (ascending (d ∷ a)) h in
-    both (p .0) (ascending-append (d ∷ a) f (p .1) k)
-
-ascending-behind : (x e : Entry) (u : List Entry) → ascending (e ∷ u) ≡ true → e .original < x .original → ascending (inserted x u) ≡ true → ascending (e ∷ inserted x u) ≡ true
-unfolding ascending inserted
-ascending-behind x e [] h l k = both (or-right (isFree x) (lt-ltb (e .original) (x .original) l)) refl
-ascending-behind x e (f ∷ u) h l k =
-    cond-elim (λ (z : List Entry). ascending z ≡ true → ascending (e ∷ z) ≡ true) (ltb (x .original) (f .original))
-    (λ _ z. both (or-right (isFree x) (lt-ltb (e .original) (x .original) l)) z)
-    (λ _ z. both (and-true (before e f) (ascending (f ∷ u)) h .0) z)
-    k
-
-ascending-inserted : (x : Entry) (u : List Entry) → ascending u ≡ true → spotOf u (x .original) ≡ inPlace → ascending (inserted x u) ≡ true
-unfolding ascending inserted
-ascending-inserted x [] h n = refl
-ascending-inserted x (e ∷ u) h n =
-    let k = spot-none e u (x .original) n in
-    cond-elim (λ (z : List Entry). ascending z ≡ true) (ltb (x .original) (e .original))
-    (λ q. both (or-right (isFree e) q) h)
-    (λ q. ascending-behind x e u h (omega (arith, ltb-false (x .original) (e .original) q, k .0)) (ascending-inserted x u (ascending-rest e u h) (k .1)))
 
 -- ---- mapped starts
 
@@ -164,6 +420,12 @@ unfolding mappedOf
 in-there [] f r = inl refl
 in-there (e ∷ u) f r = inr (in-there u f r)
 
+in-front : (m : ℕ) (u : List Entry) (f : Entry) (r : List Entry) → In m (mappedOf (u ++ f ∷ r)) → In m (mappedOf (f ∷ u ++ r))
+unfolding mappedOf
+in-front m [] f r h = h
+in-front m (e ∷ u) f r (inl q) = inr (inl q)
+in-front m (e ∷ u) f r (inr h) = ⊎-elim (λ q. inl q) (λ i. inr (inr i)) (in-front m u f r h)
+
 in-inserted : (m : ℕ) (x : Entry) (u r : List Entry) → In m (mappedOf (inserted x u ++ r)) → In m (mappedOf (x ∷ u ++ r))
 unfolding mappedOf inserted
 in-inserted m x [] r h = h
@@ -173,6 +435,7 @@ in-inserted m x (e ∷ u) r h =
     (λ _ k. ⊎-elim (λ q. inr (inl q)) (λ i. ⊎-elim (λ q. inl q) (λ j. inr (inr j)) (in-inserted m x u r i)) k)
     h
 
+-- an entry brought to the front
 mapped-front : (g : Geometry) (u : List Entry) (f : Entry) (r : List Entry) → mappedFit g (u ++ f ∷ r) ≡ true → mappedFit g (f ∷ u ++ r) ≡ true
 unfolding mappedOf
 mapped-front g [] f r h = h
@@ -183,6 +446,23 @@ mapped-front g (e ∷ u) f r h =
     mapped-cons g f (e ∷ u ++ r) (b .0) (b .1)
     (λ i. ⊎-elim (λ q. n (rw (← q) (in-there u f r))) (absent-not-in (f .mapped) (mappedOf (u ++ r)) (b .2)) i)
     (mapped-cons g e (u ++ r) (a .0) (a .1) (λ i. n (in-more (e .mapped) u f r i)) (b .3))
+
+-- and from there behind others
+mapped-behind : (g : Geometry) (u : List Entry) (f : Entry) (r : List Entry) → mappedFit g (f ∷ u ++ r) ≡ true → mappedFit g (u ++ f ∷ r) ≡ true
+unfolding mappedOf
+mapped-behind g [] f r h = h
+mapped-behind g (e ∷ u) f r h =
+    let a = mapped-first g f (e ∷ u ++ r) h in
+    let b = mapped-first g e (u ++ r) (a .3) in
+    let n = absent-not-in (f .mapped) (mappedOf (e ∷ u ++ r)) (a .2) in
+    mapped-cons g e (u ++ f ∷ r) (b .0) (b .1)
+    (λ i. ⊎-elim (λ q. n (inl (sym q))) (absent-not-in (e .mapped) (mappedOf (u ++ r)) (b .2)) (in-front (e .mapped) u f r i))
+    (mapped-behind g u f r (mapped-cons g f (u ++ r) (a .0) (a .1) (λ i. n (inr i)) (b .3)))
+
+-- with another original
+mapped-same : (g : Geometry) (e f : Entry) (l : List Entry) → e .mapped ≡ f .mapped → mappedFit g (e ∷ l) ≡ true → mappedFit g (f ∷ l) ≡ true
+unfolding mappedFit
+mapped-same g e f l q h = rw q at h
 
 mapped-inserted : (g : Geometry) (x : Entry) (u r : List Entry) → mappedFit g (x ∷ u ++ r) ≡ true → mappedFit g (inserted x u ++ r) ≡ true
 unfolding inserted mappedOf
@@ -197,98 +477,179 @@ mapped-inserted g x (e ∷ u) r h =
     (λ i. ⊎-elim (λ q. n (inl (sym q))) (absent-not-in (e .mapped) (mappedOf (u ++ r)) (b .2)) (in-inserted (e .mapped) x u r i))
     (mapped-inserted g x u r (mapped-cons g x (u ++ r) (a .0) (a .1) (λ i. n (inr i)) (b .3))))
 
+-- the entry of p moved behind the entries d, as a defective one
+module _ (p : ℕ) (d : List Entry) where
+  in-turned : (m : ℕ) (u r : List Entry) → In m (mappedOf (without p u ++ (d ++ (turnedDefective p u ++ r)))) → In m (mappedOf (u ++ (d ++ r)))
+  unfolding mappedOf without turnedDefective
+  in-turned m [] r h = h
+  in-turned m (e ∷ u) r h = go (eqb (e .original) p) (in-turned m u r) h
+    where
+      go : (b : Bool) → (In m (mappedOf (without p u ++ (d ++ (turnedDefective p u ++ r)))) → In m (mappedOf (u ++ (d ++ r)))) → In m (mappedOf (cond b (without p u) (e ∷ without p u) ++ (d ++ (cond b (record { original = defective; mapped = e .mapped } ∷ turnedDefective p u) (turnedDefective p u) ++ r)))) → In m (mappedOf (e ∷ u ++ (d ++ r)))
+      go true more k =
+          let x : Entry = record { original = defective; mapped = e .mapped } in
+          let w : List Entry = turnedDefective p u ++ r in
+          ⊎-elim (λ q. inl q) (λ i. inr (more (rw (append-assoc (without p u) d w) at i)))
+          (in-front m (without p u ++ d) x w (rw (← append-assoc (without p u) d (x ∷ w)) at k))
+      go false more (inl q) = inl q
+      go false more (inr i) = inr (more i)
+
+  mapped-turned : (g : Geometry) (u r : List Entry) → mappedFit g (u ++ (d ++ r)) ≡ true → mappedFit g (without p u ++ (d ++ (turnedDefective p u ++ r))) ≡ true
+  unfolding without turnedDefective
+  mapped-turned g [] r h = h
+  mapped-turned g (e ∷ u) r h =
+      let a = mapped-first g e (u ++ (d ++ r)) h in
+      go (eqb (e .original) p) (a .0) (a .1) (λ i. absent-not-in (e .mapped) (mappedOf (u ++ (d ++ r))) (a .2) (in-turned (e .mapped) u r i))
+      (mapped-turned g u r (a .3))
+    where
+      go : (b : Bool) → outside g (e .mapped) ≡ true → apartFrom (e .mapped) (g .tables) ≡ true → (In (e .mapped) (mappedOf (without p u ++ (d ++ (turnedDefective p u ++ r)))) → ⊥)
+          → mappedFit g (without p u ++ (d ++ (turnedDefective p u ++ r))) ≡ true
+          → mappedFit g (cond b (without p u) (e ∷ without p u) ++ (d ++ (cond b (record { original = defective; mapped = e .mapped } ∷ turnedDefective p u) (turnedDefective p u) ++ r))) ≡ true
+      go true o t n k =
+          let x : Entry = record { original = defective; mapped = e .mapped } in
+          let w : List Entry = turnedDefective p u ++ r in
+          let c : mappedFit g (x ∷ without p u ++ (d ++ w)) ≡ true = mapped-cons g x (without p u ++ (d ++ w)) o t n k in
+          ap (mappedFit g) (sym (append-assoc (without p u) d (x ∷ w)))
+          ∙ mapped-behind g (without p u ++ d) x w
+          (ap (λ (l : List Entry). mappedFit g (x ∷ l)) (append-assoc (without p u) d w) ∙ c)
+      go false o t n k = mapped-cons g e (without p u ++ (d ++ (turnedDefective p u ++ r))) o t n k
+
+-- the first free one taken
+mapped-taken : (g : Geometry) (p : ℕ) (u d f : List Entry) → mappedFit g (u ++ (d ++ f)) ≡ true → noEntry f ≡ false
+    → mappedFit g (inserted (record { original = p; mapped = firstFree f }) u ++ (d ++ rest f)) ≡ true
+unfolding rest noEntry firstFree
+mapped-taken g p u d [] h k = absurd (true≢false k)
+mapped-taken g p u d (f ∷ r) h k =
+    let x : Entry = record { original = p; mapped = f .mapped } in
+    mapped-inserted g x u (d ++ r)
+    (mapped-same g f x (u ++ (d ++ r)) refl
+    (ap (λ (l : List Entry). mappedFit g (f ∷ l)) (sym (append-assoc u d r))
+    ∙ mapped-front g (u ++ d) f r (ap (mappedFit g) (append-assoc u d (f ∷ r)) ∙ h)))
+
+-- ---- the entry that turns defective
+
+turned-above : (p n : ℕ) (u : List Entry) → p ≤ n → Above n u → turnedDefective p u ≡ []
+unfolding turnedDefective
+turned-above p n [] l h = refl
+turned-above p n (e ∷ u) l h = rw (ne-eqb (e .original) p (omega (arith, h .0))) (turned-above p n u l (h .1))
+
+-- that of a packet which has one
+pub turned-own : (p m : ℕ) (u : List Entry) → Rising u → spotOf u p ≡ mappedTo m → turnedDefective p u ≡ record { original = defective; mapped = m } ∷ []
+unfolding turnedDefective spotOf
+turned-own p m [] h q = absurd (let z : _≡_ {A = ℕ} 0 1 = cc in omega arith)
+turned-own p m (e ∷ u) h q =
+    by-eq (e .original) p
+    (λ o.
+    let k : mappedTo (e .mapped) ≡ mappedTo m = sym (spot-here e u p o) ∙ q in
+    let s : e .mapped ≡ m = cc in
+    rw (eq-eqb (e .original) p o, s, turned-above p (e .original) u (omega arith) (h .0)))
+    (λ o. rw (ne-eqb (e .original) p o) (turned-own p m u (h .1) (sym (spot-next e u p o) ∙ q)))
+
+-- none where it has none
+pub turned-none : (p : ℕ) (u : List Entry) → spotOf u p ≡ inPlace → turnedDefective p u ≡ []
+unfolding turnedDefective
+turned-none p [] q = refl
+turned-none p (e ∷ u) q = let k = spot-none e u p q in rw (ne-eqb (e .original) p (k .0)) (turned-none p u (k .1))
+
 -- ---- the laws
 
-free-all : (es : List Entry) → allFree (freeOf es) ≡ true
-unfolding freeOf allFree
-free-all [] = refl
-free-all (e ∷ l) =
-    cond-elim (λ (z : List Entry). allFree z ≡ true) (isFree e)
-    (λ f. both f (free-all l))
-    (λ _. free-all l)
+-- a block of a disc is not numbered so
+below-none : (q n : ℕ) → q < n → n ≤ 1048576 → (q ≢ none) × (q ≢ defective)
+unfolding none defective
+below-none q n l h = (omega arith, omega arith)
 
--- the table of used entries u and free ones f, once p took the first of f
-abbrev taken : ℕ → List Entry → List Entry → List Entry
-taken p u f = inserted (record { original = p; mapped = firstFree f }) u ++ rest f
+-- in a table that fits the used entries rise
+pub used-rise : (g : Geometry) (es : List Entry) → entriesFit g es ≡ true → g .span ≤ 1048576 → Rising (usedOf es)
+used-rise g es fits small =
+    rising (usedOf es) (defectiveOf es ++ freeOf es) (each-used es) (ap ascending (sym (three-parts g es fits small)) ∙ fits-ascending g es fits)
 
-taken-length : (p : ℕ) (u f : List Entry) → noEntry f ≡ false → length (taken p u f) ≡ length (u ++ f)
-unfolding rest noEntry
-taken-length p u [] k = absurd (true≢false k)
-taken-length p u (f ∷ r) k =
-    let x : Entry = record { original = p; mapped = firstFree (f ∷ r) } in
-    omega (arith, length-append (inserted x u) r, length-append u (f ∷ r), length-inserted x u)
-
-taken-originals : (n p : ℕ) (u f : List Entry) → p % 32 ≡ 0 → p < n → originalsFit n (u ++ f) ≡ true → noEntry f ≡ false → originalsFit n (taken p u f) ≡ true
-unfolding rest noEntry originalsFit
-taken-originals n p u [] m l o k = absurd (true≢false k)
-taken-originals n p u (f ∷ r) m l o k =
-    let x : Entry = record { original = p; mapped = firstFree (f ∷ r) } in
-    originals-append n (inserted x u) r
-    (originals-inserted n x u
-    (or-right (isFree x) (both (eq-eqb (p % 32) 0 m) (lt-ltb p n l)))
-    (originals-left n u (f ∷ r) o))
-    (and-true (originalFits n f) (originalsFit n r) (originals-right n u (f ∷ r) o) .1)
-
-taken-ascending : (p : ℕ) (u f : List Entry) → ascending (u ++ f) ≡ true → spotOf (u ++ f) p ≡ inPlace → allFree f ≡ true → noEntry f ≡ false → ascending (taken p u f) ≡ true
-unfolding rest noEntry allFree
-taken-ascending p u [] a s h k = absurd (true≢false k)
-taken-ascending p u (f ∷ r) a s h k =
-    let x : Entry = record { original = p; mapped = firstFree (f ∷ r) } in
-    ascending-append (inserted x u) r
-    (ascending-inserted x u (ascending-left u (f ∷ r) a) (spot-left u (f ∷ r) p s))
-    (and-true (isFree f) (allFree r) h .1)
-
-taken-mapped : (g : Geometry) (p : ℕ) (u f : List Entry) → mappedFit g (u ++ f) ≡ true → noEntry f ≡ false → mappedFit g (taken p u f) ≡ true
-unfolding rest noEntry firstFree mappedFit
-taken-mapped g p u [] m k = absurd (true≢false k)
-taken-mapped g p u (f ∷ r) m k =
-    mapped-inserted g (record { original = p; mapped = f .mapped }) u r (mapped-front g u f r m)
-
-taken-same : (p : ℕ) (u f : List Entry) → spotOf (u ++ f) p ≡ inPlace → spotOf (taken p u f) p ≡ mappedTo (firstFree f)
-taken-same p u f s = spot-own (record { original = p; mapped = firstFree f }) u (rest f) (spot-left u f p s)
-
-taken-other : (p q : ℕ) (u f : List Entry) → q ≢ p → q ≢ none → allFree f ≡ true → noEntry f ≡ false → spotOf (taken p u f) q ≡ spotOf (u ++ f) q
-unfolding rest noEntry allFree
-taken-other p q u [] n h a k = absurd (true≢false k)
-taken-other p q u (f ∷ r) n h a k =
-    spot-elsewhere (record { original = p; mapped = firstFree (f ∷ r) }) u r q n
-    ∙ sym (spot-without u f r q (and-true (isFree f) (allFree r) a .0) h)
-
--- a block of a disc is not numbered none
-below-none : (q n : ℕ) → q < n → n ≤ 1048576 → q ≢ none
-unfolding none
-below-none q n l h = omega arith
-
-module _ (g : Geometry) (es : List Entry) (p : ℕ) (fits : entriesFit g es ≡ true) (multiple : p % 32 ≡ 0) (below : p < g .span) (unspared : spotOf es p ≡ inPlace) (small : g .span ≤ 1048576) (some : noEntry (freeOf es) ≡ false) where
-  whole : es ≡ usedOf es ++ freeOf es
-  whole = used-and-free g es fits small
+module _ (g : Geometry) (es : List Entry) (p : ℕ) (fits : entriesFit g es ≡ true) (multiple : p % 32 ≡ 0) (below : p < g .span) (small : g .span ≤ 1048576) (some : noEntry (freeOf es) ≡ false) where
+  whole : es ≡ usedOf es ++ (defectiveOf es ++ freeOf es)
+  whole = three-parts g es fits small
 
   -- as many entries as before
   pub resorted-length : length (resorted es p) ≡ length es
-  unfolding resorted
-  resorted-length = taken-length p (usedOf es) (freeOf es) some ∙ ap (λ (l : List Entry). length l) (sym whole)
+  resorted-length =
+      let u : List Entry = usedOf es in
+      let d : List Entry = defectiveOf es in
+      let t : List Entry = turnedDefective p u in
+      let f : List Entry = freeOf es in
+      omega (
+        arith,
+        ap (λ (l : List Entry). length l) (resorted-parts es p),
+        ap (λ (l : List Entry). length l) whole,
+        length-append u (d ++ f),
+        length-append d f,
+        length-append (inserted (own es p) (without p u)) ((d ++ t) ++ rest f),
+        length-inserted (own es p) (without p u),
+        length-append (d ++ t) (rest f),
+        length-append d t,
+        length-turned p u,
+        length-rest f some,
+      )
+
+  resorted-originals : originalsFit (g .span) (resorted es p) ≡ true
+  resorted-originals =
+      let u : List Entry = usedOf es in
+      ap (originalsFit (g .span)) (resorted-parts es p)
+      ∙ originals-append (g .span) (inserted (own es p) (without p u)) (worn es p ++ rest (freeOf es))
+      (originals-inserted (g .span) (own es p) (without p u) (packet-original (g .span) p multiple below)
+      (originals-without (g .span) p u (originals-used (g .span) es (fits-originals g es fits))))
+      (originals-append (g .span) (worn es p) (rest (freeOf es))
+      (originals-defective (g .span) (worn es p) (worn-defective es p))
+      (originals-free (g .span) (rest (freeOf es)) (each-rest isFree (freeOf es) (each-free es))))
+
+  resorted-ascending : ascending (resorted es p) ≡ true
+  resorted-ascending =
+      ap ascending (resorted-parts es p)
+      ∙ ascending-parts (inserted (own es p) (others es p)) (worn es p) (rest (freeOf es))
+      (rising-inserted (own es p) (others es p) (lacks-without p (usedOf es)) (rising-without p (usedOf es) (used-rise g es fits small)))
+      (own-used es p (multiple-none p multiple) (multiple-defective p multiple))
+      (worn-defective es p)
+      (each-rest isFree (freeOf es) (each-free es))
+
+  resorted-mapped : mappedFit g (resorted es p) ≡ true
+  resorted-mapped =
+      let u : List Entry = usedOf es in
+      let d : List Entry = defectiveOf es in
+      let t : List Entry = turnedDefective p u in
+      ap (mappedFit g) (resorted-parts es p)
+      ∙ mapped-taken g p (without p u) (d ++ t) (freeOf es)
+      (ap (λ (l : List Entry). mappedFit g (without p u ++ l)) (append-assoc d t (freeOf es))
+      ∙ mapped-turned p d g u (freeOf es) (ap (mappedFit g) (sym whole) ∙ fits-mapped g es fits))
+      some
 
   -- the table fits again
   pub resorted-fits : entriesFit g (resorted es p) ≡ true
-  unfolding resorted entriesFit
+  unfolding entriesFit
   resorted-fits =
-      let r : List Entry = taken p (usedOf es) (freeOf es) in
       both
-      (le-leb (56 + 8 * length r) (g .size) (omega (arith, fits-size g es fits, resorted-length)))
-      (both
-      (taken-originals (g .span) p (usedOf es) (freeOf es) multiple below (rw whole at (fits-originals g es fits)) some)
-      (both
-      (taken-ascending p (usedOf es) (freeOf es) (rw whole at (fits-ascending g es fits)) (rw whole at unspared) (free-all es) some)
-      (taken-mapped g p (usedOf es) (freeOf es) (rw whole at (fits-mapped g es fits)) some)))
+      (le-leb (56 + 8 * length (resorted es p)) (g .size) (omega (arith, fits-size g es fits, resorted-length)))
+      (both resorted-originals (both resorted-ascending resorted-mapped))
 
   -- the packet is at the start that was free
   pub spot-same : spotOf (resorted es p) p ≡ mappedTo (firstFree (freeOf es))
-  unfolding resorted
-  spot-same = taken-same p (usedOf es) (freeOf es) (rw whole at unspared)
+  spot-same =
+      ap (λ (l : List Entry). spotOf l p) (resorted-parts es p)
+      ∙ spot-own (own es p) (others es p) (worn es p ++ rest (freeOf es)) (lacks-without p (usedOf es))
 
   -- every other one is where it was
   pub spot-other : (q : ℕ) → q ≢ p → q < g .span → spotOf (resorted es p) q ≡ spotOf es q
-  unfolding resorted
   spot-other q n l =
-      taken-other p q (usedOf es) (freeOf es) n (below-none q (g .span) l small) (free-all es) some
-      ∙ ap (λ (x : List Entry). spotOf x q) (sym whole)
+      let k = below-none q (g .span) l small in
+      ap (λ (x : List Entry). spotOf x q) (resorted-parts es p)
+      ∙ spot-elsewhere (own es p) (others es p) (worn es p ++ rest (freeOf es)) q n
+      ∙ spot-before (others es p) (worn es p ++ rest (freeOf es)) q
+      (spot-worn (worn es p) (rest (freeOf es)) q (k .0) (k .1) (worn-defective es p) (each-rest isFree (freeOf es) (each-free es)))
+      ∙ spot-without (usedOf es) p q n
+      ∙ sym (spot-used es q (k .0) (k .1))
+
+-- the entry of a packet that has one turns defective
+pub turned-spared : (g : Geometry) (es : List Entry) (p m : ℕ) → entriesFit g es ≡ true → g .span ≤ 1048576 → p % 32 ≡ 0 → spotOf es p ≡ mappedTo m
+    → turnedDefective p (usedOf es) ≡ record { original = defective; mapped = m } ∷ []
+turned-spared g es p m fits small multiple q =
+    turned-own p m (usedOf es) (used-rise g es fits small) (sym (spot-used es p (multiple-none p multiple) (multiple-defective p multiple)) ∙ q)
+
+-- and where it has none nothing does
+pub turned-unspared : (es : List Entry) (p : ℕ) → p % 32 ≡ 0 → spotOf es p ≡ inPlace → turnedDefective p (usedOf es) ≡ []
+turned-unspared es p multiple q =
+    turned-none p (usedOf es) (sym (spot-used es p (multiple-none p multiple) (multiple-defective p multiple)) ∙ q)

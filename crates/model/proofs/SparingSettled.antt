@@ -8,10 +8,9 @@ use native.Mathlib.Omega.{arith}
 use lib.Dec.{eqb}
 use Rattle.fields.specs.Bytes.{same}
 use Rattle.fields.specs.Number.{field}
-use Rattle.fields.specs.Regid.{hasRegid}
 use Rattle.fields.proofs.Laws.{AllBytes, field-4, same-true, same-equal}
 use Rattle.model.specs.Disc.{Disc, sector, recorded}
-use Rattle.model.specs.Sparing.{Geometry, sparingName, entries, flat, entriesFit, copyFits, counts, counting, sequenceIn, sequenceAt, tableIn, tableAt, currentSequence, current, firstTable, currentTable, agree}
+use Rattle.model.specs.Sparing.{Geometry, entries, flat, entriesFit, named, copyFits, counts, counting, sequenceIn, sequenceAt, tableIn, tableAt, currentSequence, current, firstTable, currentTable, agree}
 use Rattle.model.specs.Rewrite.{isNone}
 use Rattle.model.proofs.Basics.{and-true, both}
 use Rattle.model.proofs.SparingLists.{In}
@@ -35,8 +34,8 @@ pub counts-fits : (d : Disc) (g : Geometry) (t : ℕ) → counts d g t ≡ true 
 unfolding counts copyFits tableAt
 counts-fits d g t h =
     let b : List ℕ = sector d t in
-    and-true (hasRegid b 16 sparingName) (entriesFit g (entries (tableIn b)))
-    (and-true (eqb (field b 0 2) 0) (hasRegid b 16 sparingName && entriesFit g (entries (tableIn b)))
+    and-true (named b) (entriesFit g (entries (tableIn b)))
+    (and-true (eqb (field b 0 2) 0) (named b && entriesFit g (entries (tableIn b)))
     (and-true (recorded d t) (copyFits g b) h .1) .1) .1
 
 -- a sector that is recorded and fits counts

@@ -1,21 +1,20 @@
 -- A sparing table that was written reads back: its sequence, its entries, and that it fits. Assumes nothing.
 use Prim.Native.Nat.{ℕ, zero, suc, _+_, _-_, _*_, _/_, _%_, _^_, _≤_, _<_}
-use mathlib.Core.Bool.{Bool, true, false, _&&_, _||_}
+use mathlib.Core.Bool.{true}
 use mathlib.Core.Path.{_≡_, refl, sym, ap, _∙_}
 use mathlib.Core.List.{List, [], _∷_, _++_, append-nil}
 use native.Mathlib.Omega.{arith}
-use lib.Dec.{ltb, eqb}
 use lib.ListN.{length, replicate, length-append, length-replicate}
-use borrow.Author.Tests.{eqb-true, eq-eqb}
+use borrow.Author.Tests.{eq-eqb}
 use Rattle.fields.specs.Bytes.{part, same, join}
 use Rattle.fields.specs.Number.{value, field, words, digits, quads}
 use Rattle.fields.specs.Regid.{hasRegid, identifier, regid}
 use Rattle.model.specs.Vat.{none}
 use Rattle.model.specs.VatWritten.{filled}
-use Rattle.model.specs.Sparing.{Geometry, Entry, sparingName, entries, flat, isFree, originalsFit, mappedFit, entriesFit, countIn, sequenceIn, tableIn, copyFits, writtenTable}
+use Rattle.model.specs.Sparing.{Geometry, Entry, sparingName, entries, flat, defective, originalFits, originalsFit, mappedFit, entriesFit, countIn, sequenceIn, tableIn, named, copyFits, writtenTable}
 use Rattle.fields.proofs.Words.{AllWords, length-quads, words-append-add, words-quads}
-use Rattle.model.proofs.Basics.{and-true, both}
-use Rattle.model.proofs.SparingEntries.{entries-flat, length-flat, fits-size, fits-originals, fits-mapped, used-original, mapped-first}
+use Rattle.model.proofs.Basics.{both, or-left}
+use Rattle.model.proofs.SparingEntries.{entries-flat, length-flat, fits-size, fits-originals, fits-mapped, original-cases, originals-first, mapped-first}
 use Rattle.model.proofs.SparingPlaces.{outside-means}
 
 -- the first 56 bytes of a table of c entries
@@ -56,6 +55,19 @@ regid-front : (n c : ℕ) (r : List ℕ) → hasRegid (front n c ++ r) 16 sparin
 unfolding hasRegid same part front regid identifier sparingName digits
 regid-front n c r = refl
 
+-- its suffix
+suffix-front : (n c : ℕ) (r : List ℕ) → part (front n c ++ r) 40 8 ≡ replicate 8 0
+unfolding part front regid identifier sparingName digits
+suffix-front n c r = refl
+
+-- a table has the newer identifier, whatever it is written from
+pub written-name : (n : ℕ) (l : List ℕ) → hasRegid (writtenTable n l) 16 sparingName ≡ true
+written-name n l = ap (λ (x : List ℕ). hasRegid x 16 sparingName) (written-parts n l) ∙ regid-front n (length l / 2) (quads l ++ behind n l)
+
+-- and zeros after it
+pub written-suffix : (n : ℕ) (l : List ℕ) → part (writtenTable n l) 40 8 ≡ replicate 8 0
+written-suffix n l = ap (λ (x : List ℕ). part x 40 8) (written-parts n l) ∙ suffix-front n (length l / 2) (quads l ++ behind n l)
+
 -- the numbers
 words-front : (n c : ℕ) (r : List ℕ) (k : ℕ) → words (front n c ++ r) 56 k ≡ words r 0 k
 words-front n c r k =
@@ -63,23 +75,19 @@ words-front n c r k =
     ap (λ (j : ℕ). words (front n c ++ r) j k) (sym e) ∙ words-append-add (front n c) r 0 k
 
 -- the numbers of entries that fit are numbers of 4 bytes
-original-word : (n : ℕ) (e : Entry) → (isFree e || (eqb (e .original % 32) 0 && ltb (e .original) n)) ≡ true → n ≤ 1048576 → e .original < 2 ^ 32
-unfolding isFree none
-original-word n e h s = go (isFree e) refl
-  where
-    go : (b : Bool) → isFree e ≡ b → e .original < 2 ^ 32
-    go true q = omega (arith, eqb-true (e .original) 0xffffffff q)
-    go false q = omega (arith, used-original n e h q .1)
+original-word : (n o : ℕ) → originalFits n o ≡ true → n ≤ 1048576 → o < 2 ^ 32
+unfolding none defective
+original-word n o h s = original-cases n o h (λ q. omega arith) (λ q. omega arith) (λ m l. omega arith)
 
 flat-words : (g : Geometry) (es : List Entry) → originalsFit (g .span) es ≡ true → mappedFit g es ≡ true → g .sectors ≤ 1048576 → g .span ≤ 1048576 → AllWords (flat es)
-unfolding flat originalsFit
+unfolding flat
 flat-words g [] o m c s i = omega arith
 flat-words g (e ∷ l) o m c s zero =
-    original-word (g .span) e (and-true (isFree e || (eqb (e .original % 32) 0 && ltb (e .original) (g .span))) (originalsFit (g .span) l) o .0) s
+    original-word (g .span) (e .original) (originals-first (g .span) e l o .0) s
 flat-words g (e ∷ l) o m c s (suc zero) = omega (arith, outside-means g (e .mapped) (mapped-first g e l m .0) .on)
 flat-words g (e ∷ l) o m c s (suc (suc i)) =
     flat-words g l
-    (and-true (isFree e || (eqb (e .original % 32) 0 && ltb (e .original) (g .span))) (originalsFit (g .span) l) o .1)
+    (originals-first (g .span) e l o .1)
     (mapped-first g e l m .3) c s i
 
 module _ (g : Geometry) (es : List Entry) (n : ℕ) (fits : entriesFit g es ≡ true) (size : g .size ≤ 2048) (sectors : g .sectors ≤ 1048576) (span : g .span ≤ 1048576) (small : n < 4294967296) where
@@ -137,14 +145,12 @@ module _ (g : Geometry) (es : List Entry) (n : ℕ) (fits : entriesFit g es ≡ 
 
   -- and it fits
   pub written-fits : copyFits g (writtenTable n (flat es)) ≡ true
-  unfolding copyFits
+  unfolding copyFits named
   written-fits =
       let b : List ℕ = writtenTable n (flat es) in
       let r : List ℕ = quads (flat es) ++ behind n (flat es) in
       let tag : field b 0 2 ≡ 0 = ap (λ (x : List ℕ). field x 0 2) (written-parts n (flat es)) ∙ tag-front n (length (flat es) / 2) r in
-      let name : hasRegid b 16 sparingName ≡ true =
-      ap (λ (x : List ℕ). hasRegid x 16 sparingName) (written-parts n (flat es)) ∙ regid-front n (length (flat es) / 2) r in
       let table : entries (tableIn b) ≡ es = ap entries written-table ∙ entries-flat es in
       both (eq-eqb (field b 0 2) 0 tag)
-      (both name
+      (both (or-left _ (written-name n (flat es)))
       (ap (entriesFit g) table ∙ fits))

@@ -23,3 +23,4 @@ pub mod Wait
 pub mod Forecast
 pub mod EitherFirst
 pub mod ReadBack
+pub mod NewerWriters

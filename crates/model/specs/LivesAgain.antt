@@ -1,6 +1,6 @@
 -- What the calls do for a rewritable disc (document 01, "The buyer's note"): a call that always refuses would meet demand 3 (Demand.antt) too. A
--- disc that was made is opened, empty; then a block can be saved and a packet spared, and after another opening both read back.
-use Prim.Native.Nat.{ℕ, _*_, _%_, _≤_, _<_}
+-- disc that was made is opened, empty; then a block can be saved and a packet spared, once and again, and after another opening they read back.
+use Prim.Native.Nat.{ℕ, _+_, _*_, _%_, _≤_, _<_}
 use mathlib.Core.Path.{_≡_}
 use mathlib.Core.Bool.{true, false}
 use mathlib.Core.Logic.{_≢_}
@@ -16,7 +16,7 @@ use Rattle.model.specs.declared.Record.{Record}
 use Rattle.model.specs.declared.Opened.{Opened}
 use Rattle.model.specs.Disc.{Disc, shapely}
 use Rattle.model.specs.Writes.{noCut}
-use Rattle.model.specs.Sparing.{flat, packetOf}
+use Rattle.model.specs.Sparing.{flat, defective, packetOf}
 use Rattle.model.specs.Examine.{Setting, setting, volume, writeOnce}
 use Rattle.model.specs.Once.{filledFrom}
 use Rattle.model.specs.Rewrite.{tableOn}
@@ -98,14 +98,55 @@ RewritableLives =
     → (p : ℕ) (y : List ℕ) → p % 32 ≡ 0 → p < e .span → length y ≡ 65536
     → ReadsBack e (afterOpening e (made e d spares) t) (length spares) b x p y
 
+-- ---- what is spared twice reads back as last spared (02, slip 1)
+
+-- the packet that begins at p is spared with the bytes y, once more with the bytes z, and the disc is opened again; none is cut
+unfoldable pub twiceCalls : ℕ → List ℕ → List ℕ → List Call
+twiceCalls p y z = sparePacket p y noCut ∷ sparePacket p z noCut ∷ openDisc ∷ []
+
+-- each is carried out: R stays, and the sequence goes from 0 to 1 and to 2
+unfoldable pub twiceAnswers : ℕ → List Answer
+twiceAnswers r = done (Record.Rewritable r 1) ∷ done (Record.Rewritable r 2) ∷ opened (Record.Rewritable r 2) 0 ∷ []
+
+-- the table after them: "its entry turns defective and a free one is taken"; all other spares are free
+unfoldable pub twiceTable : ℕ → ℕ → ℕ → List ℕ → List ℕ
+twiceTable p first second more = p ∷ second ∷ defective ∷ first ∷ flat (spareEntries more)
+
+-- what is claimed of these calls from the state st on, on a disc that was made with the spares `first`, `second` and more, and of reading any
+-- block v after them
+pub record SparedTwice (e : Setting) (st : State) (first second : ℕ) (more : List ℕ) (p : ℕ) (y z : List ℕ) : Type 0 where
+  pub answered : answers e st (twiceCalls p y z) ≡ twiceAnswers (2 + length more)
+  pub table : tableOn e (final e st (twiceCalls p y z) .disc) ≡ twiceTable p first second more
+  -- a block of the packet reads as its part of the bytes last lent
+  pub last :
+      (v : ℕ) (out : List ℕ) → length out ≡ 2048 → packetOf v ≡ p
+      → seen e (final e st (twiceCalls p y z)) v out ≡ bytes (part z (2048 * (v % 32)) 2048)
+  -- every other number as before
+  pub others :
+      (v : ℕ) (out : List ℕ) → length out ≡ 2048 → packetOf v ≢ p
+      → seen e (final e st (twiceCalls p y z)) v out ≡ seen e st v out
+
+-- so it is on every made rewritable disc with two tables or more and two spares or more, for every packet of the partition: that no call answers
+-- 18 (NewerWriters.antt) is not by refusing
+unfoldable pub RespareLives : Type 0
+RespareLives =
+    (e : Setting) (d : Disc) (first second : ℕ) (more t : List ℕ)
+    → writeOnce e ≡ false
+    → makeVerdict e d (first ∷ second ∷ more) ≡ Go
+    → 4096 ≤ length t
+    → 2 ≤ length (tablesOf (volume e))
+    → (p : ℕ) (y z : List ℕ) → p % 32 ≡ 0 → p < e .span → length y ≡ 65536 → length z ≡ 65536
+    → SparedTwice e (afterOpening e (made e d (first ∷ second ∷ more)) t) first second more p y z
+
 -- ---- these claims speak of some disc
 
--- a volume with tables at sectors 0 and 32 and a partition of one packet from sector 96 on; its spare is to be at 64 ("The disc and its
+-- a volume with tables at sectors 0 and 32 and a partition of one packet from sector 96 on; its spares are to be at 64 and 128 ("The disc and its
 -- addresses")
 unfoldable pub smallVolume : Setting
-smallVolume = setting (mapsOf (Rewritable 0 2 64) (0 ∷ 32 ∷ 0 ∷ 0 ∷ [])) 96 32
+smallVolume = setting (mapsOf (Rewritable 0 2 72) (0 ∷ 32 ∷ 0 ∷ 0 ∷ [])) 96 32
 
--- it is made on every disc of 128 sectors or more that meets line 1 ("Why a call is turned down"), whatever is recorded there
+-- it is made, with one spare, on every disc of 128 sectors or more that meets line 1 ("Why a call is turned down"), whatever is recorded there;
+-- and with both on every one of 160 sectors or more
 unfoldable pub RewritableMakes : Type 0
 RewritableMakes =
     (d : Disc)
@@ -114,3 +155,4 @@ RewritableMakes =
     → (writeOnce smallVolume ≡ false)
     × (2 ≤ length (tablesOf (volume smallVolume)))
     × (makeVerdict smallVolume d (64 ∷ []) ≡ Go)
+    × (160 ≤ length (d .marks) → makeVerdict smallVolume d (64 ∷ 128 ∷ []) ≡ Go)

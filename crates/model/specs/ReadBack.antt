@@ -1,6 +1,7 @@
 -- What is written reads back: demand 2 of the buyer, in one statement (document 01, "The disc and its addresses", "The VAT and its ICB", "The
 -- sparing table"). A VAT, a sparing table and a map list as they are written are what reading asks for, and give back what they were written
--- from. A reader who has read 01 needs besides this file: Vat.antt and Sparing.antt (as they are read), VatWritten.antt (a VAT as it is written)
+-- from. A sparing table follows UDF 1.50, as 02, slip 1, quotes it, in its identifier and in the mark of a defective spare; all else follows CD
+-- UDF 1.82 in 01's form, and the suffix of the identifier is zeros. A reader who has read 01 needs besides this file: Vat.antt and Sparing.antt (as they are read), VatWritten.antt (a VAT as it is written)
 -- and Written.antt of maps (a map list as it is written).
 use Prim.Native.Nat.{ℕ, _+_, _-_, _*_, _^_, _≤_, _<_}
 use mathlib.Core.Path.{_≡_}
@@ -23,7 +24,7 @@ use Rattle.model.specs.Disc.{Disc, disc, sector, recorded, shapely}
 use Rattle.model.specs.Writes.{landing, write, writes, noCut}
 use Rattle.model.specs.Vat.{none, belowOrNone, allBelow, countOf, entriesOf, previousOf, passes, vatIcb, vatFile}
 use Rattle.model.specs.VatWritten.{dataSectors, writtenData, writtenIcb}
-use Rattle.model.specs.Sparing.{Geometry, Entry, entries, flat, entriesFit, countIn, counts, sequenceAt, tableAt, writtenTable}
+use Rattle.model.specs.Sparing.{Geometry, Entry, entries, flat, defective, entriesFit, countIn, counts, sequenceAt, tableAt, writtenTable}
 use Rattle.model.specs.Plan.{replyOf, discAfter}
 use Rattle.model.specs.Examine.{Setting, setting}
 use Rattle.model.specs.Once.{entriesHeld, lastHeld, isFound, foundAt, newest, newestFile, icbBlock, commitWrites, commitPlan}
@@ -70,8 +71,8 @@ pub record VatBack (d : Disc) (s k : ℕ) (t : List ℕ) (previous : ℕ) : Type
 
 -- ---- a sparing table
 
--- what a sparing table of sequence n is written from, for a volume that lies in g: entries that meet the copy rule; the sizes are those that
--- lines 1, 2 and 5 let pass, and the sequence has 4 bytes
+-- what a sparing table of sequence n is written from, for a volume that lies in g: entries that meet the copy rule, used, defective and free
+-- ones; the sizes are those that lines 1, 2 and 5 let pass, and the sequence has 4 bytes
 pub record TableFrom (g : Geometry) (es : List Entry) (n : ℕ) : Type 0 where
   pub fits : entriesFit g es ≡ true
   pub size : g .size ≤ 2048
@@ -175,17 +176,18 @@ manyEntries = replicate 459 none
 unfoldable pub besideDisc : Disc
 besideDisc = writes 1 noCut (commitWrites (setting [] 0 2) manyEntries (Record.WriteOnce 459 0 none)) (blankDisc 2)
 
--- a rewritable volume of 160 sectors: S 96, L 32, tables at 0 and 32, each of 72 bytes
+-- a rewritable volume of 192 sectors: S 96, L 32, tables at 0 and 32, each of 80 bytes
 unfoldable pub smallGeometry : Geometry
-smallGeometry = record { start = 96; span = 32; sectors = 160; tables = 0 ∷ 32 ∷ []; size = 72 }
+smallGeometry = record { start = 96; span = 32; sectors = 192; tables = 0 ∷ 32 ∷ []; size = 80 }
 
--- packet 0 is spared at 64, and the spare at 128 is free
-unfoldable pub twoEntries : List Entry
-twoEntries = record { original = 0; mapped = 64 } ∷ record { original = none; mapped = 128 } ∷ []
+-- an entry of each kind: packet 0 is spared at 160, the spare at 64 is defective, and that at 128 is free
+unfoldable pub eachEntry : List Entry
+eachEntry =
+    record { original = 0; mapped = 160 } ∷ record { original = defective; mapped = 64 } ∷ record { original = none; mapped = 128 } ∷ []
 
 -- the table, of sequence 1, is written to sector 32
 unfoldable pub tableDisc : Disc
-tableDisc = write 1 noCut 32 (writtenTable 1 (flat twoEntries)) (blankDisc 160)
+tableDisc = write 1 noCut 32 (writtenTable 1 (flat eachEntry)) (blankDisc 192)
 
 -- a volume of each kind, of partition 7
 unfoldable pub onceVolume : Volume
@@ -193,13 +195,13 @@ onceVolume = volumeWith (WriteOnce 7) (replicate 4 0)
 
 -- its tables are those above
 unfoldable pub againVolume : Volume
-againVolume = volumeWith (Rewritable 7 2 72) (0 ∷ 32 ∷ 0 ∷ 0 ∷ [])
+againVolume = volumeWith (Rewritable 7 2 80) (0 ∷ 32 ∷ 0 ∷ 0 ∷ [])
 
 -- each claim of ReadBack speaks of something
 pub record ReadBackMet : Type 0 where
   pub embedded : (length threeEntries ≤ 458) × VatFrom 3 threeEntries 1 × Stands embeddedDisc (sectorAt 0 3) (writtenIcb 3 threeEntries 1)
   pub beside : (459 ≤ length manyEntries) × VatFrom 1 manyEntries none × VatStands besideDisc 0 1 manyEntries none
-  pub table : TableFrom smallGeometry twoEntries 1 × Stands tableDisc 32 (writtenTable 1 (flat twoEntries))
+  pub table : TableFrom smallGeometry eachEntry 1 × Stands tableDisc 32 (writtenTable 1 (flat eachEntry))
   pub once : Ranged onceVolume × (kindInRange (onceVolume .kind) ≡ true) × (tablesApart (tablesOf onceVolume) ≡ true)
   pub again : Ranged againVolume × (kindInRange (againVolume .kind) ≡ true) × (tablesApart (tablesOf againVolume) ≡ true)
   -- the eighteenth call of the run in Run.antt is a commit that is done

@@ -4,14 +4,14 @@ use mathlib.Core.Bool.{Bool, true, false, cond, not, _&&_}
 use mathlib.Core.List.{List, [], _∷_, _++_}
 use lib.ListN.{length, take}
 use lib.Dec.{eqb, leb, ltb}
-use Rattle.refusal.specs.declared.Refusal.the-variants.{OtherKind, NoTable, CopiesDiffer, StaleRecord, NumberOutside, OneTable, AlreadySpared, NoSpare, LastSequence}
+use Rattle.refusal.specs.declared.Refusal.the-variants.{OtherKind, NoTable, CopiesDiffer, StaleRecord, NumberOutside, OneTable, NoSpare, LastSequence}
 use Rattle.refusal.specs.declared.Verdict.{Verdict}
 use Rattle.refusal.specs.Tests.{Test, test, first, andThen}
 use Rattle.fields.specs.Bytes.{same, splice}
 use Rattle.model.specs.declared.Record.{Record}
 use Rattle.model.specs.Disc.{Disc, recordedRun, firstMark, markTests, joined}
 use Rattle.model.specs.Writes.{Write, upward}
-use Rattle.model.specs.Sparing.{Entry, entries, flat, freeOf, counting, current, currentSequence, currentTable, agree, Spot, mappedTo, inPlace, spotOf, packetOf, locate, firstFree, resorted, writtenTable}
+use Rattle.model.specs.Sparing.{Entry, entries, flat, freeOf, counting, current, currentSequence, currentTable, agree, packetOf, locate, firstFree, resorted, writtenTable}
 use Rattle.model.specs.Examine.{Setting, writeOnce, geometry, examined, lentTable}
 use Rattle.model.specs.Once.{filledFrom}
 use Rattle.model.specs.Plan.{Plan, carry, unless}
@@ -120,25 +120,19 @@ savePacketPlan e d t held b packet =
     (rewritableVerdict e d t (packetLent t packet) held (packetTests e b))
     (carry (packetWrites (placeOf e d b) packet) t held)
 
--- ---- spare packet: those bytes to the free entry of lowest index, upward; then the table, sequence plus 1, resorted: first to copies that
--- were not current, then to the others, each in map order
-
--- whether a packet has an entry
-unfoldable pub isSpared : Spot → Bool
-isSpared (mappedTo m) = true
-isSpared inPlace = false
+-- ---- spare packet, also one that is spared already (02, slip 1): those bytes to the free entry of lowest index, upward; then the table,
+-- sequence plus 1, resorted: first to copies that were not current, then to the others, each in map order
 
 -- whether there is no entry
 unfoldable pub noEntry : List Entry → Bool
 noEntry [] = true
 noEntry (x ∷ l) = false
 
--- lines 12 and 17 to 20
+-- lines 12, 17, 19 and 20
 unfoldable pub spareTests : Setting → Disc → ℕ → List Test
 spareTests e d b =
     packetTests e b
     ++ (test (leb 2 (length (geometry e d .tables))) OneTable
-    ∷ test (not (isSpared (spotOf (entriesOn e d) b))) AlreadySpared
     ∷ test (not (noEntry (freeOf (entriesOn e d)))) NoSpare
     ∷ test (not (eqb (sequenceOn e d) 0xffffffff)) LastSequence
     ∷ [])

@@ -1,7 +1,8 @@
--- The sparing table (document 01, "The sparing table"; 004, table 6). A table is the list of its numbers, original and mapped by turns, as
--- in the lent table.
+-- The sparing table (document 01, "The sparing table"; 004, table 6; and 02, slip 1). A table is the list of its numbers, original and mapped by
+-- turns, as in the lent table. In two things tables follow OSTA UDF 1.50, as 02 quotes it: the identifier that is written, and the original that
+-- marks a defective spare. All else is 004 in 01's form, and the suffix of the identifier is written as zeros, like that of every regid.
 use Prim.Native.Nat.{ℕ, _+_, _-_, _*_, _/_, _%_}
-use mathlib.Core.Bool.{Bool, true, cond, _&&_, _||_}
+use mathlib.Core.Bool.{Bool, true, cond, not, _&&_, _||_}
 use mathlib.Core.List.{List, [], _∷_, _++_}
 use lib.ListN.{length, replicate}
 use lib.Dec.{eqb, leb, ltb}
@@ -14,9 +15,13 @@ use Rattle.model.specs.Disc.{Disc, sector, recorded}
 use Rattle.model.specs.Vat.{none}
 use Rattle.model.specs.VatWritten.{filled}
 
--- "*OSTA UDF Sparing Table"
+-- "*UDF Sparing Table", the newer identifier (UDF 1.50; 02, slip 1): it is read and written
 unfoldable pub sparingName : List ℕ
-sparingName = 42 ∷ 79 ∷ 83 ∷ 84 ∷ 65 ∷ 32 ∷ 85 ∷ 68 ∷ 70 ∷ 32 ∷ 83 ∷ 112 ∷ 97 ∷ 114 ∷ 105 ∷ 110 ∷ 103 ∷ 32 ∷ 84 ∷ 97 ∷ 98 ∷ 108 ∷ 101 ∷ []
+sparingName = 42 ∷ 85 ∷ 68 ∷ 70 ∷ 32 ∷ 83 ∷ 112 ∷ 97 ∷ 114 ∷ 105 ∷ 110 ∷ 103 ∷ 32 ∷ 84 ∷ 97 ∷ 98 ∷ 108 ∷ 101 ∷ []
+
+-- "*OSTA UDF Sparing Table", the older identifier (004): it is read
+unfoldable pub olderName : List ℕ
+olderName = 42 ∷ 79 ∷ 83 ∷ 84 ∷ 65 ∷ 32 ∷ 85 ∷ 68 ∷ 70 ∷ 32 ∷ 83 ∷ 112 ∷ 97 ∷ 114 ∷ 105 ∷ 110 ∷ 103 ∷ 32 ∷ 84 ∷ 97 ∷ 98 ∷ 108 ∷ 101 ∷ []
 
 -- what a rewritable volume lies in: the partition's start and length, the sectors of the disc, the table sectors, and the bytes of each table
 pub record Geometry : Type 0 where
@@ -32,7 +37,7 @@ groundOf s l n tables size = record { start = s; span = l; sectors = n; tables =
 
 -- ---- entries
 
--- original is the logical address of a packet's first block, or none for a free spare; mapped is physical
+-- original is the logical address of a packet's first block, or defective or none for a spare that is so or free; mapped is physical
 pub record Entry : Type 0 where
   pub original : ℕ
   pub mapped : ℕ
@@ -52,10 +57,27 @@ flat (e ∷ l) = e .original ∷ e .mapped ∷ flat l
 unfoldable pub isFree : Entry → Bool
 isFree e = eqb (e .original) none
 
+-- "original 0xfffffff0 marks a defective spare" (UDF 1.50; 02, slip 1)
+unfoldable pub defective : ℕ
+defective = 0xfffffff0
+
+-- a defective spare
+unfoldable pub isDefective : Entry → Bool
+isDefective e = eqb (e .original) defective
+
+-- an entry that is neither is a packet's
+unfoldable pub isUsed : Entry → Bool
+isUsed e = not (isFree e || isDefective e)
+
 -- the entries that are used, in their order
 unfoldable pub usedOf : List Entry → List Entry
 usedOf [] = []
-usedOf (e ∷ l) = cond (isFree e) (usedOf l) (e ∷ usedOf l)
+usedOf (e ∷ l) = cond (isUsed e) (e ∷ usedOf l) (usedOf l)
+
+-- the entries that are defective, in their order
+unfoldable pub defectiveOf : List Entry → List Entry
+defectiveOf [] = []
+defectiveOf (e ∷ l) = cond (isDefective e) (e ∷ defectiveOf l) (defectiveOf l)
 
 -- the entries that are free, in their order
 unfoldable pub freeOf : List Entry → List Entry
@@ -64,16 +86,25 @@ freeOf (e ∷ l) = cond (isFree e) (e ∷ freeOf l) (freeOf l)
 
 -- ---- the copy rule over the entries
 
--- used originals are multiples of 32 below L
+-- an original is none, defective, or a multiple of 32 below L
+unfoldable pub originalFits : ℕ → ℕ → Bool
+originalFits l o = eqb o none || (eqb o defective || (eqb (o % 32) 0 && ltb o l))
+
+-- used originals are multiples of 32 below L; from 0xfffffff1 to 0xfffffffe none fits
 unfoldable pub originalsFit : ℕ → List Entry → Bool
 originalsFit l [] = true
-originalsFit l (e ∷ es) = (isFree e || (eqb (e .original % 32) 0 && ltb (e .original) l)) && originalsFit l es
+originalsFit l (e ∷ es) = originalFits l (e .original) && originalsFit l es
 
--- and strictly ascending, free entries after them
+-- an entry of original o may be followed by one of original n: a free one follows any, a defective one any that is not free, and a used one a
+-- lower original
+unfoldable pub mayFollow : ℕ → ℕ → Bool
+mayFollow o n = eqb n none || ((eqb n defective && not (eqb o none)) || ltb o n)
+
+-- used originals are strictly ascending, "defective entries stand after used and before free ones, in the copy rule too" (02, slip 1)
 unfoldable pub ascending : List Entry → Bool
 ascending [] = true
 ascending (e ∷ []) = true
-ascending (e ∷ f ∷ l) = (isFree f || ltb (e .original) (f .original)) && ascending (f ∷ l)
+ascending (e ∷ f ∷ l) = mayFollow (e .original) (f .original) && ascending (f ∷ l)
 
 -- two packets that begin at a and b have no sector in common
 unfoldable pub apart : ℕ → ℕ → Bool
@@ -119,11 +150,21 @@ sequenceIn b = field b 52 4
 unfoldable pub tableIn : List ℕ → List ℕ
 tableIn b = words b 56 (2 * countIn b)
 
--- bytes 0 and 1 are 0, the regid at 16, and the entries fit
+-- no entry is a defective spare
+unfoldable pub noneDefective : List Entry → Bool
+noneDefective [] = true
+noneDefective (e ∷ l) = not (isDefective e) && noneDefective l
+
+-- "both identifiers are to be read": the newer one, or the older one, which knows no defective spare, where there is none ("a copy with the older
+-- identifier and that mark still doesn't count"; 02, slip 1)
+unfoldable pub named : List ℕ → Bool
+named b = hasRegid b 16 sparingName || (hasRegid b 16 olderName && noneDefective (entries (tableIn b)))
+
+-- bytes 0 and 1 are 0, a regid at 16, and the entries fit
 unfoldable pub copyFits : Geometry → List ℕ → Bool
 copyFits g b =
     eqb (field b 0 2) 0
-    && (hasRegid b 16 sparingName && entriesFit g (entries (tableIn b)))
+    && (named b && entriesFit g (entries (tableIn b)))
 
 -- a copy counts
 unfoldable pub counts : Disc → Geometry → ℕ → Bool
@@ -220,9 +261,29 @@ unfoldable pub rest : List Entry → List Entry
 rest [] = []
 rest (e ∷ l) = l
 
--- the entries resorted once packet p took the free entry of lowest index
+-- the entries of other packets than p
+unfoldable pub without : ℕ → List Entry → List Entry
+without p [] = []
+without p (e ∷ l) = cond (eqb (e .original) p) (without p l) (e ∷ without p l)
+
+-- the entry of packet p, if there is one, as a defective one
+unfoldable pub turnedDefective : ℕ → List Entry → List Entry
+turnedDefective p [] = []
+turnedDefective p (e ∷ l) =
+    cond (eqb (e .original) p) (record { original = defective; mapped = e .mapped } ∷ turnedDefective p l) (turnedDefective p l)
+
+-- "its entry turns defective", "a new one last of them" (02, slip 1): a table in which packet p has no entry
+unfoldable pub retired : List Entry → ℕ → List Entry
+retired es p = without p (usedOf es) ++ (defectiveOf es ++ (turnedDefective p (usedOf es) ++ freeOf es))
+
+-- "and a free one is taken": that of lowest index, for packet p, which has no entry
+unfoldable pub freeTaken : List Entry → ℕ → List Entry
+freeTaken es p =
+    inserted (record { original = p; mapped = firstFree (freeOf es) }) (usedOf es) ++ (defectiveOf es ++ rest (freeOf es))
+
+-- the entries resorted once packet p, spared before or not, took the free entry of lowest index
 unfoldable pub resorted : List Entry → ℕ → List Entry
-resorted es p = inserted (record { original = p; mapped = firstFree (freeOf es) }) (usedOf es) ++ rest (freeOf es)
+resorted es p = freeTaken (retired es p) p
 
 -- the sector of a table, field by field
 unfoldable pub writtenTable : ℕ → List ℕ → List ℕ

@@ -3,7 +3,7 @@ use Prim.Native.Nat.{ℕ}
 use Rattle.refusal.specs.declared.Refusal.{Refusal}
 use Rattle.refusal.specs.declared.Verdict.{Verdict}
 use Rattle.refusal.specs.declared.Verdict.the-variants.{Go, Stop}
-use Rattle.refusal.specs.declared.Refusal.the-variants.{DiscShape, SpanOutside, LentLength, MapCut, NeitherKind, Misaligned, OtherKind, NoTable, TooManyEntries, CopiesDiffer, StaleRecord, NumberOutside, UnusedEntry, BlankSector, UnreadableSector, PassesAsIcb, NoRoom, OneTable, AlreadySpared, NoSpare, LastSequence, NotBlank}
+use Rattle.refusal.specs.declared.Refusal.the-variants.{DiscShape, SpanOutside, LentLength, MapCut, NeitherKind, Misaligned, OtherKind, NoTable, TooManyEntries, CopiesDiffer, StaleRecord, NumberOutside, UnusedEntry, BlankSector, UnreadableSector, PassesAsIcb, NoRoom, OneTable, NoSpare, LastSequence, NotBlank}
 
 -- the line by which a call is turned down
 abbrev pub numberOf : Refusal → ℕ
@@ -25,7 +25,6 @@ numberOf UnreadableSector = 14
 numberOf PassesAsIcb = 15
 numberOf NoRoom = 16
 numberOf OneTable = 17
-numberOf AlreadySpared = 18
 numberOf NoSpare = 19
 numberOf LastSequence = 20
 numberOf NotBlank = 21

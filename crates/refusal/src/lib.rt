@@ -4,7 +4,7 @@ ghost use mathlib.Core.Path.{_≡_};
 ghost use Rattle.refusal.specs.Number.{numberOf};
 
 // A variant for each line, in checking order. That is not the order of the numbers: those of document 02 stand where it
-// places them, 25 directly before 14.
+// places them, 25 directly before 14. Line 18 no longer occurs (02, slip 1), and no variant has its number.
 pub enum Refusal {
     // Disc bytes are not 2,048 times the marks, sectors exceed the limit or are none, or a mark exceeds 2.
     DiscShape,
@@ -42,8 +42,6 @@ pub enum Refusal {
     NoRoom,
     // Sparing with one table only.
     OneTable,
-    // The packet is already spared.
-    AlreadySpared,
     // No entry is free.
     NoSpare,
     // The sequence is 0xffffffff.
@@ -81,7 +79,6 @@ pub fn number(r: Refusal) -> u32
         Refusal::PassesAsIcb => 15,
         Refusal::NoRoom => 16,
         Refusal::OneTable => 17,
-        Refusal::AlreadySpared => 18,
         Refusal::NoSpare => 19,
         Refusal::LastSequence => 20,
         Refusal::NotBlank => 21,

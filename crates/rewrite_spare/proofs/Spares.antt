@@ -8,7 +8,7 @@ use native.Mathlib.Omega.{arith}
 use borrow.Author.Tests.{eq-eqb, ne-eqb, eqb-false, le-leb, lt-leb, not-true, not-false}
 use lib.Dec.{eqb, leb}
 use lib.ListN.{length, take, length-append}
-use Rattle.refusal.specs.declared.Refusal.the-variants.{NumberOutside, OneTable, AlreadySpared, NoSpare, LastSequence}
+use Rattle.refusal.specs.declared.Refusal.the-variants.{NumberOutside, OneTable, NoSpare, LastSequence}
 use Rattle.refusal.specs.declared.Verdict.{Verdict}
 use Rattle.refusal.specs.declared.Verdict.the-variants.{Go, Stop}
 use Rattle.refusal.specs.Tests.{Test, test, first}
@@ -17,21 +17,22 @@ use Rattle.model.specs.declared.Cut.{Cut}
 use Rattle.model.specs.declared.Record.{Record}
 use Rattle.model.specs.Disc.{Disc}
 use Rattle.model.specs.Writes.{writes, upward, struck}
-use Rattle.model.specs.Sparing.{Geometry, Entry, entries, flat, usedOf, freeOf, entriesFit, countIn, tableIn, counts, Spot, mappedTo, inPlace, spotOf, firstFree, resorted, writtenTable}
+use Rattle.model.specs.Sparing.{Geometry, Entry, entries, flat, freeOf, entriesFit, countIn, tableIn, counts, firstFree, resorted, writtenTable}
 use Rattle.model.specs.Examine.{Setting, geometry}
 use Rattle.model.specs.Once.{filledFrom}
 use Rattle.model.specs.Plan.{carry}
-use Rattle.model.specs.Rewrite.{entriesOn, sequenceOn, countOn, rewritableVerdict, packetTests, packetLent, packetWrites, isSpared, noEntry, spareTests, copiesTo, sparedTable, copyOrder, spareWrites, sparePlan}
+use Rattle.model.specs.Rewrite.{entriesOn, sequenceOn, countOn, rewritableVerdict, packetTests, packetLent, packetWrites, noEntry, spareTests, copiesTo, sparedTable, copyOrder, spareWrites, sparePlan}
 use Rattle.model.proofs.Verdicts.{unless-go}
 use Rattle.model.proofs.Ground.{Ground}
 use Rattle.model.proofs.Sectors.{writes-append}
 use Rattle.model.proofs.SectorsRuns.{length-upward}
-use Rattle.model.proofs.SparingLaws.{used-and-free, free-on, written-count, written-table, resorted-length, resorted-fits, length-copies, copy-order-length}
+use Rattle.model.proofs.SparingLaws.{fits-ascending, three-parts, free-on, written-count, written-table, resorted-length, resorted-fits, length-copies, copy-order-length}
 use Rattle.sparing_copy.specs.Layout.{geometryIn}
 use Rattle.address.specs.declared.PhysicalAddress.{PhysicalAddress}
 use Rattle.sparing_table.specs.declared.FirstFree.{FirstFree}
 use Rattle.sparing_table.specs.declared.FirstFree.the-variants.{At, Nothing}
 use Rattle.sparing_table.specs.Table.{freeIn}
+use Rattle.sparing_written.specs.Written.{Ordered}
 use Rattle.sparing_writes.specs.Order.{orderOf}
 use Rattle.sparing_writes.proofs.Order.{order-current}
 use Rattle.sparing_current.specs.declared.Judged.{Judged}
@@ -90,22 +91,15 @@ module _ (t : List ℕ) (held : Record) {r : ℕ} {f : FirstFree} (is : r ≡ co
   unfolding someIn
   free-none h = sym (ap someIn h) ∙ ap someIn in-lent ∙ some-free (freeOf (entriesLent t held))
 
--- ---- lines 12 and 17 to 20
+-- ---- lines 12, 17, 19 and 20
 
 -- the lines after 12
 abbrev ownTests : Setting → Disc → ℕ → List Test
 ownTests e d b =
     test (leb 2 (length (geometry e d .tables))) OneTable
-    ∷ test (not (isSpared (spotOf (entriesOn e d) b))) AlreadySpared
     ∷ test (not (noEntry (freeOf (entriesOn e d)))) NoSpare
     ∷ test (not (eqb (sequenceOn e d) 0xffffffff)) LastSequence
     ∷ []
-
--- whether a packet is spared, by the lent table
-pub spared-lent : (e : Setting) (d : Disc) (t : List ℕ) (held : Record) (b : ℕ) {r : ℕ} {x : Bool} → r ≡ countHeld held → x ≡ isSpared (spotOf (entries (take (2 * r) t)) b) → entriesOn e d ≡ entriesLent t held → x ≡ isSpared (spotOf (entriesOn e d) b)
-unfolding entriesLent
-spared-lent e d t held b is h q =
-    h ∙ ap (λ (n : ℕ). isSpared (spotOf (entries (take (2 * n) t)) b)) is ∙ sym (ap (λ (es : List Entry). isSpared (spotOf es b)) q)
 
 module _ (e : Setting) (d : Disc) (b : ℕ) where
   -- b is not a packet's start
@@ -128,47 +122,30 @@ module _ (e : Setting) (d : Disc) (b : ℕ) where
     pub spare-one : length (geometry e d .tables) < 2 → Stop OneTable ≡ first (spareTests e d b)
     spare-one h = on-line (stops _ (lt-leb 2 (length (geometry e d .tables)) h))
 
-    -- x tells whether the packet is spared
-    module _ (two : 2 ≤ length (geometry e d .tables)) {x : Bool} (is : x ≡ isSpared (spotOf (entriesOn e d) b)) where
-      -- it is
-      pub spare-again : x ≡ true → Stop AlreadySpared ≡ first (spareTests e d b)
-      spare-again h = on-line (goes _ (le-leb 2 (length (geometry e d .tables)) two) (stops _ (ap not (sym is ∙ h))))
+    -- y tells whether an entry is free
+    module _ (two : 2 ≤ length (geometry e d .tables)) {y : Bool} (some : y ≡ not (noEntry (freeOf (entriesOn e d)))) where
+      -- none is
+      pub spare-none : not y ≡ true → Stop NoSpare ≡ first (spareTests e d b)
+      spare-none h = on-line (goes _ (le-leb 2 (length (geometry e d .tables)) two) (stops _ (sym some ∙ not-true y h)))
 
-      -- y tells whether an entry is free
-      module _ (new : x ≡ false) {y : Bool} (some : y ≡ not (noEntry (freeOf (entriesOn e d)))) where
-        -- none is
-        pub spare-none : not y ≡ true → Stop NoSpare ≡ first (spareTests e d b)
-        spare-none h =
-            on-line (goes _ (le-leb 2 (length (geometry e d .tables)) two)
-            (goes _ (ap not (sym is ∙ new)) (stops _ (sym some ∙ not-true y h))))
+      -- the sequence is the last
+      pub spare-last : not y ≡ false → sequenceOn e d ≡ 0xffffffff → Stop LastSequence ≡ first (spareTests e d b)
+      spare-last h q =
+          on-line (goes _ (le-leb 2 (length (geometry e d .tables)) two)
+          (goes _ (sym some ∙ not-false y h) (stops _ (ap not (eq-eqb (sequenceOn e d) 0xffffffff q)))))
 
-        -- the sequence is the last
-        pub spare-last : not y ≡ false → sequenceOn e d ≡ 0xffffffff → Stop LastSequence ≡ first (spareTests e d b)
-        spare-last h q =
-            on-line (goes _ (le-leb 2 (length (geometry e d .tables)) two)
-            (goes _ (ap not (sym is ∙ new)) (goes _ (sym some ∙ not-false y h)
-            (stops _ (ap not (eq-eqb (sequenceOn e d) 0xffffffff q))))))
-
-        -- none of the lines
-        pub spare-fits : not y ≡ false → (sequenceOn e d ≡ 0xffffffff → ⊥) → Go ≡ first (spareTests e d b)
-        spare-fits h q =
-            on-line (goes _ (le-leb 2 (length (geometry e d .tables)) two)
-            (goes _ (ap not (sym is ∙ new)) (goes _ (sym some ∙ not-false y h)
-            (goes _ (ap not (ne-eqb (sequenceOn e d) 0xffffffff q)) refl))))
+      -- none of the lines
+      pub spare-fits : not y ≡ false → (sequenceOn e d ≡ 0xffffffff → ⊥) → Go ≡ first (spareTests e d b)
+      spare-fits h q =
+          on-line (goes _ (le-leb 2 (length (geometry e d .tables)) two)
+          (goes _ (sym some ∙ not-false y h) (goes _ (ap not (ne-eqb (sequenceOn e d) 0xffffffff q)) refl)))
 
 -- what they tell
 record Lines (e : Setting) (d : Disc) (b : ℕ) : Type 0 where
   pub start : b % 32 ≡ 0
   pub low : b < e .span
-  pub unspared : spotOf (entriesOn e d) b ≡ inPlace
   pub some : noEntry (freeOf (entriesOn e d)) ≡ false
   pub last : sequenceOn e d ≡ 0xffffffff → ⊥
-
--- a packet that is not spared is in its place
-in-place : (s : Spot) → isSpared s ≡ false → s ≡ inPlace
-unfolding isSpared
-in-place (mappedTo m) h = let z : _≡_ {A = ℕ} 0 1 = cc in absurd (omega arith)
-in-place inPlace h = refl
 
 lines : (e : Setting) (d : Disc) (b : ℕ) → first (spareTests e d b) ≡ Go → Lines e d b
 unfolding spareTests
@@ -179,9 +156,8 @@ lines e d b h =
     record {
       start = k .0;
       low = k .1;
-      unspared = in-place (spotOf (entriesOn e d) b) (not-true _ (a .1 .0));
-      some = not-true _ (a .1 .1 .0);
-      last = eqb-false (sequenceOn e d) 0xffffffff (not-true _ (a .1 .1 .1 .0));
+      some = not-true _ (a .1 .0);
+      last = eqb-false (sequenceOn e d) 0xffffffff (not-true _ (a .1 .1 .0));
     }
 
 -- ---- what a sparing may rely on once nothing stops it; j is what it was judged to be
@@ -200,10 +176,9 @@ pub record Spares (e : Setting) (d : Disc) (t : List ℕ) (held : Record) (b : �
   pub last : sequenceHeld held ≡ 0xffffffff → ⊥
   pub room : 2 * countHeld held ≤ length t
   pub short : 56 + 8 * countHeld held ≤ 2048
-  pub low : b < 0xffffffff
+  pub low : b < 0xfffffff0
   pub lent : entriesLent t held ≡ entriesOn e d
-  pub whole : entriesOn e d ≡ usedOf (entriesOn e d) ++ freeOf (entriesOn e d)
-  pub some : noEntry (freeOf (entriesOn e d)) ≡ false
+  pub ordered : Ordered (entriesOn e d)
   pub on : firstFree (freeOf (entriesOn e d)) + 32 ≤ length (d .marks)
   pub fits : entriesFit (geometry e d) (resorted (entriesOn e d) b) ≡ true
   pub many : length (resorted (entriesOn e d) b) ≡ countOn e d
@@ -236,11 +211,15 @@ spares e d t held b packet j r g =
       short = omega (arith, h .short, n);
       low = omega (arith, k .low, small);
       lent = entries-lent e d t _ held h;
-      whole = used-and-free (geometry e d) (entriesOn e d) (h .fits) small;
-      some = k .some;
+      ordered =
+          record {
+            whole = three-parts (geometry e d) (entriesOn e d) (h .fits) small;
+            rises = fits-ascending (geometry e d) (entriesOn e d) (h .fits);
+            some = k .some;
+          };
       on = free-on (geometry e d) (entriesOn e d) (h .fits) (h .start-32) (h .span-32) (k .some);
-      fits = resorted-fits (geometry e d) (entriesOn e d) b (h .fits) (k .start) (k .low) (k .unspared) small (k .some);
-      many = resorted-length (geometry e d) (entriesOn e d) b (h .fits) (k .start) (k .low) (k .unspared) small (k .some);
+      fits = resorted-fits (geometry e d) (entriesOn e d) b (h .fits) (k .start) (k .low) small (k .some);
+      many = resorted-length (geometry e d) (entriesOn e d) b (h .fits) (k .start) (k .low) small (k .some);
       lies = h .lies;
     }
 
@@ -259,14 +238,11 @@ module _ (e : Setting) (d : Disc) (t : List ℕ) (held : Record) (b : ℕ) (pack
     by-count = ap (λ (k : ℕ). entries (take (2 * k) t)) is ∙ h .lent
 
     -- what is asked of them
-    pub spare-asks : (56 + 8 * r ≤ 2048) × (2 * r ≤ length t) × (b < 0xffffffff)
+    pub spare-asks : (56 + 8 * r ≤ 2048) × (2 * r ≤ length t) × (b < 0xfffffff0)
     spare-asks = (omega (arith, h .short, is), omega (arith, h .room, is), h .low)
 
-    pub spare-whole : entries (take (2 * r) t) ≡ usedOf (entries (take (2 * r) t)) ++ freeOf (entries (take (2 * r) t))
-    spare-whole = rw by-count (h .whole)
-
-    pub spare-some : noEntry (freeOf (entries (take (2 * r) t))) ≡ false
-    spare-some = rw by-count (h .some)
+    pub spare-ordered : Ordered (entries (take (2 * r) t))
+    spare-ordered = rw by-count (h .ordered)
 
     -- its sector
     pub spare-sector : {q n : ℕ} {s : List ℕ} → q ≡ sequenceHeld held → n ≡ q + 1 → s ≡ writtenTable n (flat (resorted (entries (take (2 * r) t)) b)) → s ≡ writtenTable (sequenceOn e d + 1) (sparedTable e d b)

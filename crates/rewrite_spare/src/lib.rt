@@ -60,7 +60,7 @@ fn has_free(table: &[u32], held: Record) -> bool
     }
 }
 
-// Lines 12 and 17 to 20, of a volume of `count` tables. Inside the layers: line 11 has been tested.
+// Lines 12, 17, 19 and 20, of a volume of `count` tables. Inside the layers: line 11 has been tested.
 fn judge_sparing(count: u8, l: u32, table: &[u32], held: Record, b: LogicalAddress) -> Verdict
     requires { ⌜ 2 * countHeld held ≤ length (now table) ⌝ }
     ensures { λ r. ⌜ ((e : Setting) (d : Disc) → e .span ≡ l → length (geometry e d .tables) ≡ count
@@ -75,10 +75,6 @@ fn judge_sparing(count: u8, l: u32, table: &[u32], held: Record, b: LogicalAddre
     }
     if count < 2 {
         return Verdict::Stop(Refusal::OneTable);
-    }
-    let entries = sparing_current::count_held(held);
-    if sparing_table::is_spared(table, entries, b) {
-        return Verdict::Stop(Refusal::AlreadySpared);
     }
     if !has_free(table, held) {
         return Verdict::Stop(Refusal::NoSpare);
@@ -163,7 +159,8 @@ fn write_sparing(
     );
 }
 
-// Spares a packet: its bytes go to the free entry of lowest index, then the table is written anew.
+// Spares a packet, also one that is spared already: its bytes go to the free entry of lowest index, then the table
+// is written anew.
 pub fn spare_packet(
     disc: &mut [u8],
     marks: &mut [u8],

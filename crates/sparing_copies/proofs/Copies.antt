@@ -2,7 +2,7 @@
 use Prim.Native.Nat.{ℕ, zero, suc, _+_, _-_, _*_, _≤_, _<_}
 use mathlib.Core.Path.{_≡_, refl, sym, ap, ap₂, _∙_}
 use mathlib.Core.List.{List, [], _∷_}
-use mathlib.Core.Bool.{Bool, true, false, not, cond, _&&_, false≢true}
+use mathlib.Core.Bool.{Bool, true, false, not, cond, _&&_, _||_, false≢true}
 use native.Mathlib.Omega.{arith}
 use borrow.Author.Tests.{eq-eqb, ne-eqb, lt-ltb, le-ltb, ltb-true}
 use lib.Dec.{eqb, ltb}
@@ -13,9 +13,10 @@ use Rattle.refusal.specs.declared.Verdict.the-variants.{Go, Stop}
 use Rattle.refusal.proofs.Laws.{goes, stops, stop-go}
 use Rattle.fields.specs.Bytes.{part, same}
 use Rattle.fields.specs.Number.{field, words}
+use Rattle.fields.specs.Regid.{hasRegid}
 use Rattle.fields.proofs.Laws.{AllBytes, part-part, field-part, regid-same, same-equal, same-false, same-false-of-length}
 use Rattle.model.specs.Disc.{Disc, disc as discOf, sector, mark, recorded}
-use Rattle.model.specs.Sparing.{Geometry, sparingName, entries, entriesFit, countIn, sequenceIn, tableIn, copyFits, counts, countingOf, counting, sequenceAt, tableAt, highest, withSequence, current, currentSequence, currentTable, firstTable, agree}
+use Rattle.model.specs.Sparing.{Geometry, sparingName, olderName, entries, entriesFit, countIn, sequenceIn, tableIn, noneDefective, named, copyFits, counts, countingOf, counting, sequenceAt, tableAt, highest, withSequence, current, currentSequence, currentTable, firstTable, agree}
 use Rattle.model.specs.Rewrite.{isNone}
 use Rattle.model.proofs.Basics.{cond-elim, and-second}
 use Rattle.model.proofs.OnceOpen.{length-words}
@@ -90,13 +91,16 @@ counts-recorded b m g t i r e q s = holds (eq-eqb _ _ (ap (λ (k : ℕ). getD m 
 
 -- a copy's bytes past its entries do not matter
 copy-front : (g : Geometry) (b : List ℕ) (w : ℕ) → 56 + 8 * countIn b ≤ w → copyFits g (part b 0 w) ≡ copyFits g b
-unfolding copyFits countIn tableIn
+unfolding copyFits named countIn tableIn
 copy-front g b w h =
     let table : tableIn (part b 0 w) ≡ tableIn b =
     ap (λ (n : ℕ). words (part b 0 w) 56 (2 * n)) (field-part b 0 w 48 2 (omega arith))
     ∙ words-part b 0 w 56 (2 * countIn b) (omega arith) in
+    let regid : (name : List ℕ) → hasRegid (part b 0 w) 16 name ≡ hasRegid b 16 name =
+    λ name. regid-same (part b 0 w) b 16 16 name (part-part b 0 w 16 24 (omega arith)) in
     ap₂ _&&_ (ap (λ (n : ℕ). eqb n 0) (field-part b 0 w 0 2 (omega arith)))
-    (ap₂ _&&_ (regid-same (part b 0 w) b 16 16 sparingName (part-part b 0 w 16 24 (omega arith)))
+    (ap₂ _&&_
+    (ap₂ _||_ (regid sparingName) (ap₂ _&&_ (regid olderName) (ap (λ (l : List ℕ). noneDefective (entries l)) table)))
     (ap (λ (l : List ℕ). entriesFit g (entries l)) table))
 
 -- a sector with the bytes of a copy up to the end of its entries is as good a copy

@@ -5,7 +5,7 @@ use mathlib.Core.List.{List, [], _∷_}
 use mathlib.Core.Bool.{Bool, true, false, not, _&&_}
 use native.Mathlib.Omega.{arith}
 use borrow.Author.Tests.{eq-eqb, ne-eqb, le-leb, lt-leb}
-use lib.Dec.{leb, ltb}
+use lib.Dec.{leb, ltb, eqb}
 use lib.ListN.{length, getD, set, drop, length-set}
 use lib.Seq.{drop-drop, getD-set-same, getD-set-other}
 use Rattle.fields.specs.Number.{field}
@@ -13,11 +13,11 @@ use Rattle.fields.specs.Regid.{hasRegid}
 use Rattle.maps.specs.Kinds.{absent}
 use Rattle.maps.proofs.Tests.{fails, holds}
 use Rattle.model.specs.Vat.{none}
-use Rattle.model.specs.Sparing.{Geometry, Entry, isFree, originalsFit, ascending, apartFrom, outside, mappedOf, mappedFit, sparingName, entries, entriesFit, countIn, tableIn, copyFits}
+use Rattle.model.specs.Sparing.{Geometry, Entry, defective, isDefective, originalFits, originalsFit, mayFollow, ascending, apartFrom, outside, mappedOf, mappedFit, sparingName, olderName, entries, entriesFit, countIn, tableIn, noneDefective, named, copyFits}
 use Rattle.model.specs.Both.{spareEntries}
-use Rattle.model.proofs.Basics.{both, and-false, and-false-left}
+use Rattle.model.proofs.Basics.{both, and-false, and-false-left, by-eq, or-left}
 use Rattle.model.proofs.SparingLaws.{table-count}
-use Rattle.sparing_copy.specs.Entries.{entriesIn, originalFits, follows, placed}
+use Rattle.sparing_copy.specs.Entries.{entriesIn, placed}
 use Rattle.sparing_copy.proofs.Entries.{sector-table, length-spares}
 
 -- tests in a row, grouped the other way
@@ -32,30 +32,28 @@ and-end false = refl
 
 -- ---- an original
 
--- that of a free spare
-pub originals-free : (l o : ℕ) → o ≡ 0xffffffff → true ≡ originalFits l o
-unfolding originalFits none
-originals-free l o e = rw (eq-eqb o 0xffffffff e)
+-- one of neither mark that is no multiple of 32
+pub originals-odd : (l o : ℕ) → (o ≡ 0xffffffff → ⊥) → (o ≡ 0xfffffff0 → ⊥) → (o % 32 ≡ 0 → ⊥) → false ≡ originalFits l o
+unfolding originalFits none defective
+originals-odd l o e d q = rw (ne-eqb o 0xffffffff e, ne-eqb o 0xfffffff0 d, ne-eqb (o % 32) 0 q)
 
--- no multiple of 32
-pub originals-odd : (l o : ℕ) → (o ≡ 0xffffffff → ⊥) → (o % 32 ≡ 0 → ⊥) → false ≡ originalFits l o
-unfolding originalFits none
-originals-odd l o e q = rw (ne-eqb o 0xffffffff e, ne-eqb (o % 32) 0 q)
+-- one that is
+pub originals-below : (l o : ℕ) → (o ≡ 0xffffffff → ⊥) → (o ≡ 0xfffffff0 → ⊥) → o % 32 ≡ 0 → ltb o l ≡ originalFits l o
+unfolding originalFits none defective
+originals-below l o e d q = rw (ne-eqb o 0xffffffff e, ne-eqb o 0xfffffff0 d, eq-eqb (o % 32) 0 q)
 
--- one
-pub originals-below : (l o : ℕ) → (o ≡ 0xffffffff → ⊥) → o % 32 ≡ 0 → ltb o l ≡ originalFits l o
-unfolding originalFits none
-originals-below l o e q = rw (ne-eqb o 0xffffffff e, eq-eqb (o % 32) 0 q)
-
--- a free spare may follow any entry
-pub after-free : (o next : ℕ) → next ≡ 0xffffffff → true ≡ follows o next
-unfolding follows none
-after-free o next e = rw (eq-eqb next 0xffffffff e)
+-- a defective spare may follow any entry that is not free
+pub after-defective : (o next : ℕ) → next ≡ 0xfffffff0 → not (eqb o 0xffffffff) ≡ mayFollow o next
+unfolding mayFollow none defective
+after-defective o next e =
+    by-eq o 0xffffffff
+    (λ q. rw (e, q))
+    (λ n. rw (e, ne-eqb o 0xffffffff n))
 
 -- a used entry may follow one of a lower original
-pub after-used : (o next : ℕ) → (next ≡ 0xffffffff → ⊥) → ltb o next ≡ follows o next
-unfolding follows none
-after-used o next e = rw (ne-eqb next 0xffffffff e)
+pub after-used : (o next : ℕ) → (next ≡ 0xffffffff → ⊥) → (next ≡ 0xfffffff0 → ⊥) → ltb o next ≡ mayFollow o next
+unfolding mayFollow none defective
+after-used o next e d = rw (ne-eqb next 0xffffffff e, ne-eqb next 0xfffffff0 d)
 
 -- ---- nothing is left
 
@@ -64,10 +62,19 @@ module _ (es : List Entry) (i : ℕ) (h : drop i es ≡ []) where
   unfolding originalsFit
   originals-end l = sym (ap (originalsFit l) h)
 
-  -- what was found is the whole answer
+  -- what was found of a rule is the whole answer
+  found-end : (rule : List Entry → Bool) → true ≡ rule [] → (a whole : Bool) → a && rule (drop i es) ≡ whole → a ≡ whole
+  found-end rule z a whole w = and-end a ∙ ap (λ (x : Bool). a && x) (z ∙ sym (ap rule h)) ∙ w
+
+  -- so of the mapped starts
   pub absent-end : (m : ℕ) (a whole : Bool) → a && absent m (mappedOf (drop i es)) ≡ whole → a ≡ whole
   unfolding absent mappedOf
-  absent-end m a whole w = and-end a ∙ ap (λ (x : List Entry). a && absent m (mappedOf x)) (sym h) ∙ w
+  absent-end m = found-end (λ l. absent m (mappedOf l)) refl
+
+  -- and of the defective spares
+  pub defective-end : (a whole : Bool) → a && noneDefective (drop i es) ≡ whole → a ≡ whole
+  unfolding noneDefective
+  defective-end = found-end noneDefective refl
 
   pub mapped-end : (g : Geometry) → true ≡ mappedFit g (drop i es)
   unfolding mappedFit
@@ -88,29 +95,45 @@ ascending-end es i h = go (drop i es) (drop-drop 1 i es ∙ h)
 module _ (es : List Entry) (i : ℕ) (e : Entry) (h : drop i es ≡ e ∷ drop (i + 1) es) where
   -- its original does not fit
   pub originals-off : (l o : ℕ) → o ≡ e .original → originalFits l o ≡ false → false ≡ originalsFit l (drop i es)
-  unfolding originalsFit originalFits isFree
+  unfolding originalsFit
   originals-off l o s q = sym (ap (originalsFit l) h ∙ rw (← s, q))
 
   -- it does
   pub originals-next : (l o : ℕ) → o ≡ e .original → originalFits l o ≡ true → originalsFit l (drop (i + 1) es) ≡ originalsFit l (drop i es)
-  unfolding originalsFit originalFits isFree
+  unfolding originalsFit
   originals-next l o s q = sym (ap (originalsFit l) h ∙ rw (← s, q))
+
+  -- whether a holds and the entries left follow a rule: this one does not, or it is up to the others
+  module _ (rule : List Entry → Bool) (a a′ whole : Bool) (w : a && rule (drop i es) ≡ whole) where
+    found-here : rule (e ∷ drop (i + 1) es) ≡ false → a′ ≡ false → a′ && rule (drop (i + 1) es) ≡ whole
+    found-here q r = and-false-left _ r ∙ sym (and-false a (ap rule h ∙ q)) ∙ w
+
+    found-next : rule (e ∷ drop (i + 1) es) ≡ rule (drop (i + 1) es) → a′ ≡ a → a′ && rule (drop (i + 1) es) ≡ whole
+    found-next q r = ap₂ _&&_ r (sym (ap rule h ∙ q)) ∙ w
 
   -- whether a holds and none of the entries left is mapped to m
   module _ (m : ℕ) (a a′ whole : Bool) (w : a && absent m (mappedOf (drop i es)) ≡ whole) where
     -- it is mapped to m
     pub absent-found : m ≡ e .mapped → a′ ≡ false → a′ && absent m (mappedOf (drop (i + 1) es)) ≡ whole
     unfolding absent mappedOf
-    absent-found q r =
-        and-false-left _ r
-        ∙ sym (and-false a (ap (λ (x : List Entry). absent m (mappedOf x)) h ∙ rw (eq-eqb m (e .mapped) q)))
-        ∙ w
+    absent-found q = found-here (λ l. absent m (mappedOf l)) a a′ whole w (rw (eq-eqb m (e .mapped) q))
 
     -- it is not
     pub absent-next : (m ≡ e .mapped → ⊥) → a′ ≡ a → a′ && absent m (mappedOf (drop (i + 1) es)) ≡ whole
     unfolding absent mappedOf
-    absent-next q r =
-        ap₂ _&&_ r (sym (ap (λ (x : List Entry). absent m (mappedOf x)) h ∙ rw (ne-eqb m (e .mapped) q))) ∙ w
+    absent-next q = found-next (λ l. absent m (mappedOf l)) a a′ whole w (rw (ne-eqb m (e .mapped) q))
+
+  -- whether a holds and none of the entries left, of which this has original o, is defective
+  module _ (o : ℕ) (s : o ≡ e .original) (a a′ whole : Bool) (w : a && noneDefective (drop i es) ≡ whole) where
+    -- it is
+    pub defective-found : o ≡ 0xfffffff0 → a′ ≡ false → a′ && noneDefective (drop (i + 1) es) ≡ whole
+    unfolding noneDefective isDefective defective
+    defective-found q = found-here noneDefective a a′ whole w (rw (← s, eq-eqb o 0xfffffff0 q))
+
+    -- it is not
+    pub defective-next : (o ≡ 0xfffffff0 → ⊥) → a′ ≡ a → a′ && noneDefective (drop (i + 1) es) ≡ whole
+    unfolding noneDefective isDefective defective
+    defective-next q = found-next noneDefective a a′ whole w (rw (← s, ne-eqb o 0xfffffff0 q))
 
   -- the rule for it, its place first
   grouped : (g : Geometry) (m : ℕ) → m ≡ e .mapped → mappedFit g (drop i es) ≡ placed g m && (absent m (mappedOf (drop (i + 1) es)) && mappedFit g (drop (i + 1) es))
@@ -133,13 +156,13 @@ module _ (es : List Entry) (i : ℕ) (e : Entry) (h : drop i es ≡ e ∷ drop (
 
   module _ (f : Entry) (k : drop (i + 1) es ≡ f ∷ drop (i + 1 + 1) es) (o p : ℕ) (s : o ≡ e .original) (t : p ≡ f .original) where
     -- the entry f after it does not follow it
-    pub ascending-off : follows o p ≡ false → false ≡ ascending (drop i es)
-    unfolding ascending follows isFree
+    pub ascending-off : mayFollow o p ≡ false → false ≡ ascending (drop i es)
+    unfolding ascending
     ascending-off q = sym (ap ascending (h ∙ ap (λ (x : List Entry). e ∷ x) k) ∙ rw (← s, ← t, q))
 
     -- it does
-    pub ascending-next : follows o p ≡ true → ascending (drop (i + 1) es) ≡ ascending (drop i es)
-    unfolding ascending follows isFree
+    pub ascending-next : mayFollow o p ≡ true → ascending (drop (i + 1) es) ≡ ascending (drop i es)
+    unfolding ascending
     ascending-next q = ap ascending k ∙ sym (ap ascending (h ∙ ap (λ (x : List Entry). e ∷ x) k) ∙ rw (← s, ← t, q))
 
 -- ---- the mapped starts passed, from the last down
@@ -192,6 +215,25 @@ mapped-rest g [] (suc i) q = q
 mapped-rest g (e ∷ es) (suc i) q =
     sym (and-false (outside g (e .mapped)) (and-false (apartFrom (e .mapped) (g .tables)) (and-false (absent (e .mapped) (mappedOf es)) (sym (mapped-rest g es i q)))))
 
+-- ---- the names of a copy
+
+module _ (b : List ℕ) where
+  -- the newer one
+  pub named-newer : hasRegid b 16 sparingName ≡ true → true ≡ named b
+  unfolding named
+  named-newer q = sym (or-left _ q)
+
+  module _ (other : hasRegid b 16 sparingName ≡ false) where
+    -- neither
+    pub named-neither : hasRegid b 16 olderName ≡ false → false ≡ named b
+    unfolding named
+    named-neither q = rw (other, q)
+
+    -- the older one: by its n entries
+    pub named-older : hasRegid b 16 olderName ≡ true → (n : ℕ) → n ≡ countIn b → (r : Bool) → r ≡ noneDefective (entriesIn b n) → r ≡ named b
+    unfolding named
+    named-older q n count r d = d ∙ ap noneDefective (ap (entriesIn b) count ∙ sector-table b) ∙ rw (other, q)
+
 -- ---- a copy, test by test
 
 module _ (g : Geometry) (b : List ℕ) where
@@ -200,47 +242,46 @@ module _ (g : Geometry) (b : List ℕ) where
   unfolding copyFits
   copy-tag e = fails _ (ne-eqb _ _ e)
 
-  -- the regid is another
-  pub copy-name : field b 0 2 ≡ 0 → hasRegid b 16 sparingName ≡ false → false ≡ copyFits g b
-  unfolding copyFits
-  copy-name e q = holds (eq-eqb _ _ e) (fails _ q)
-
-  module _ (tag : field b 0 2 ≡ 0) (name : hasRegid b 16 sparingName ≡ true) (n : ℕ) (count : n ≡ countIn b) where
-    -- the rest is the rule over n entries
-    rest : (r : Bool) → r ≡ leb (56 + 8 * n) (g .size) && (originalsFit (g .span) (entriesIn b n) && (ascending (entriesIn b n) && mappedFit g (entriesIn b n))) → r ≡ copyFits g b
+  module _ (tag : field b 0 2 ≡ 0) (n : ℕ) (count : n ≡ countIn b) where
+    -- the rest is the name and the rule over n entries
+    rest : (r : Bool) → r ≡ named b && (leb (56 + 8 * n) (g .size) && (originalsFit (g .span) (entriesIn b n) && (ascending (entriesIn b n) && mappedFit g (entriesIn b n)))) → r ≡ copyFits g b
     unfolding copyFits entriesFit
     rest r q =
         let es : entriesIn b n ≡ entries (tableIn b) = ap (entriesIn b) count ∙ sector-table b in
         let l : n ≡ length (entries (tableIn b)) = count ∙ sym (table-count b) in
-        holds (eq-eqb _ _ tag) (holds name (q ∙ rw (es, l)))
+        holds (eq-eqb _ _ tag) (q ∙ rw (es, l))
 
     -- more entries than fit the map's size
     pub copy-long : g .size < 56 + 8 * n → false ≡ copyFits g b
-    copy-long h = rest false (fails _ (lt-leb _ _ h))
+    copy-long h = rest false (sym (and-false (named b) (and-false-left _ (lt-leb _ _ h))))
 
-    module _ (short : 56 + 8 * n ≤ g .size) where
+    -- it is not named as a table
+    pub copy-name : named b ≡ false → false ≡ copyFits g b
+    copy-name q = rest false (fails _ q)
+
+    module _ (short : 56 + 8 * n ≤ g .size) (name : named b ≡ true) where
       -- an original does not fit
       pub copy-originals : originalsFit (g .span) (entriesIn b n) ≡ false → false ≡ copyFits g b
-      copy-originals o = rest false (holds (le-leb _ _ short) (fails _ o))
+      copy-originals o = rest false (holds name (holds (le-leb _ _ short) (fails _ o)))
 
       -- they do not ascend
       pub copy-ascending : originalsFit (g .span) (entriesIn b n) ≡ true → ascending (entriesIn b n) ≡ false → false ≡ copyFits g b
-      copy-ascending o a = rest false (holds (le-leb _ _ short) (holds o (fails _ a)))
+      copy-ascending o a = rest false (holds name (holds (le-leb _ _ short) (holds o (fails _ a))))
 
       -- they do
       pub copy-mapped : originalsFit (g .span) (entriesIn b n) ≡ true → ascending (entriesIn b n) ≡ true → (r : Bool) → r ≡ mappedFit g (entriesIn b n) → r ≡ copyFits g b
-      copy-mapped o a r q = rest r (holds (le-leb _ _ short) (holds o (holds a q)))
+      copy-mapped o a r q = rest r (holds name (holds (le-leb _ _ short) (holds o (holds a q))))
 
 -- ---- a list of spares
 
 -- they are free, so that their originals fit and ascend
 spares-free : (l : ℕ) (s : List ℕ) → originalsFit l (spareEntries s) ≡ true
-unfolding originalsFit spareEntries isFree none
+unfolding originalsFit originalFits spareEntries none
 spares-free l [] = refl
 spares-free l (m ∷ s) = spares-free l s
 
 spares-ascend : (s : List ℕ) → ascending (spareEntries s) ≡ true
-unfolding ascending spareEntries isFree none
+unfolding ascending mayFollow spareEntries none
 spares-ascend [] = refl
 spares-ascend (m ∷ []) = refl
 spares-ascend (m ∷ k ∷ s) = spares-ascend (k ∷ s)

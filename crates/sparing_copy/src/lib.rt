@@ -1,5 +1,5 @@
-// The sparing table of a disc (document 01, "The sparing table"; 004, table 6): whether the bytes of a sector are
-// one, and whether a list of spares can become one.
+// The sparing table of a disc (document 01, "The sparing table"; 004, table 6; 02, slip 1): whether the bytes of a
+// sector are one, and whether a list of spares can become one.
 // The layers above count on the equations: each function gives what the definition of its name gives.
 // All functions here are inside the layers: where one has a `requires`, the callers have tested it.
 use address::MediaBlockAddress;
@@ -12,10 +12,10 @@ ghost use mathlib.Core.Bool.{true};
 ghost use Prim.Native.Nat.{_+_, _*_, _/_, _%_, _≤_, _<_};
 ghost use lib.ListN.{length, drop};
 ghost use Rattle.maps.specs.Kinds.{absent};
-ghost use Rattle.model.specs.Sparing.{apart, apartFrom, originalsFit, ascending, mappedOf, mappedFit, entriesFit, copyFits};
+ghost use Rattle.model.specs.Sparing.{apart, apartFrom, originalFits, originalsFit, mayFollow, ascending, mappedOf, mappedFit, entriesFit, countIn, noneDefective, named, copyFits};
 ghost use Rattle.model.specs.Both.{spareEntries};
 ghost use Rattle.sparing_copy.specs.Layout.{geometryIn};
-ghost use Rattle.sparing_copy.specs.Entries.{entryIn, entriesIn, originalFits, follows, placed};
+ghost use Rattle.sparing_copy.specs.Entries.{entryIn, entriesIn, placed};
 
 // Where a table's fields start: two bytes of 0, the regid, the number of entries, the sequence, the entries.
 const TAG_AT: usize = 0;
@@ -38,14 +38,18 @@ const MAPPED_IN: usize = NUMBER;
 // The entries that fit a sector.
 const MOST_ENTRIES: usize = (SECTOR - ENTRIES_AT) / ENTRY;
 
-// The regid of a table.
-pub const REGID: [u8; 32] = *b"\0*OSTA UDF Sparing Table\0\0\0\0\0\0\0\0";
+// The regid of a table as it is written, the newer one (UDF 1.50), and the older one (004), which is read too.
+pub const REGID: [u8; 32] = *b"\0*UDF Sparing Table\0\0\0\0\0\0\0\0\0\0\0\0\0";
+
+const OLDER_REGID: [u8; 32] = *b"\0*OSTA UDF Sparing Table\0\0\0\0\0\0\0\0";
 
 // How many slots tell packets apart: two packets of the same slot are compared.
 const SLOTS: usize = 256;
 
-// The original of a free spare.
+// The original of a free spare, and that of a defective one.
 pub const FREE: u32 = 0xffffffff;
+
+pub const DEFECTIVE: u32 = 0xfffffff0;
 
 // What a rewritable volume lies in: the volume, the sectors of the disc, and what its kind holds, taken out
 // once: the number of its tables and the bytes of each.
@@ -112,11 +116,14 @@ fn mapped_at(b: &[u8], i: usize) -> PhysicalAddress
     address::mapped_to_physical(fields::read32(b, ENTRIES_AT + ENTRY * i + MAPPED_IN))
 }
 
-// Whether an original is that of a free spare, or a multiple of 32 below L.
+// Whether an original is that of a free or a defective spare, or a multiple of 32 below L.
 fn original_fits(original: u32, span: u32) -> bool
     ensures { λ r. ⌜ r ≡ originalFits span original ⌝ }
 {
     if original == FREE {
+        return true;
+    }
+    if original == DEFECTIVE {
         return true;
     }
     if original % PACKET != 0 {
@@ -141,17 +148,20 @@ fn originals_fit(b: &[u8], n: usize, span: u32) -> bool
     true
 }
 
-// Whether an entry may stand after one of this original.
+// Whether an entry of original `next` may stand after one of this original.
 fn is_after(original: u32, next: u32) -> bool
-    ensures { λ r. ⌜ r ≡ follows original next ⌝ }
+    ensures { λ r. ⌜ r ≡ mayFollow original next ⌝ }
 {
     if next == FREE {
         return true;
     }
+    if next == DEFECTIVE {
+        return original != FREE;
+    }
     original < next
 }
 
-// Whether the originals of `n` entries ascend, with the free ones after the used ones.
+// Whether the originals of `n` entries ascend, with the defective ones after the used ones and the free ones last.
 fn is_ascending(b: &[u8], n: usize) -> bool
     requires { ⌜ 56 + 8 * n ≤ length (now b) ⌝ }
     ensures { λ r. ⌜ r ≡ ascending (entriesIn (now (b .entry)) n) ⌝ }
@@ -228,6 +238,37 @@ fn mapped_fit(x: Layout, b: &[u8], n: usize) -> bool
     true
 }
 
+// Whether none of `n` entries is a defective spare.
+fn none_defective(b: &[u8], n: usize) -> bool
+    requires { ⌜ 56 + 8 * n ≤ length (now b) ⌝ }
+    ensures { λ r. ⌜ r ≡ noneDefective (entriesIn (now (b .entry)) n) ⌝ }
+{
+    let mut none = true;
+    let mut i: usize = 0;
+    while i < n {
+        if original_at(b, i) == DEFECTIVE {
+            none = false;
+        }
+        i += 1;
+    }
+    none
+}
+
+// Whether a table of `n` entries has the newer regid, or the older one and no defective spare.
+fn is_named(b: &[u8], n: usize) -> bool
+    requires { ⌜ 56 + 8 * n ≤ length (now b) ⌝ }
+    requires { ⌜ n ≡ countIn (now b) ⌝ }
+    ensures { λ r. ⌜ r ≡ named (now (b .entry)) ⌝ }
+{
+    if fields::has_regid(b, REGID_AT, &REGID) {
+        return true;
+    }
+    if !fields::has_regid(b, REGID_AT, &OLDER_REGID) {
+        return false;
+    }
+    none_defective(b, n)
+}
+
 // Whether a sector's bytes are a table that counts where the sector is recorded. The number of entries is
 // compared with the map's size first, so that no entry past the sector is read.
 pub fn copy_fits(x: Layout, b: &[u8]) -> bool
@@ -238,11 +279,11 @@ pub fn copy_fits(x: Layout, b: &[u8]) -> bool
     if fields::read16(b, TAG_AT) != 0 {
         return false;
     }
-    if !fields::has_regid(b, REGID_AT, &REGID) {
-        return false;
-    }
     let n = fields::usize_of_u16(fields::read16(b, COUNT_AT));
     if fields::usize_of_u32(x.size) < ENTRIES_AT + ENTRY * n {
+        return false;
+    }
+    if !is_named(b, n) {
         return false;
     }
     if !originals_fit(b, n, x.volume.span.length) {

@@ -5,8 +5,7 @@ use mathlib.Core.List.{List, [], _∷_, _++_}
 use mathlib.Core.Bool.{Bool, true, false, cond}
 use native.Mathlib.Omega.{arith}
 use native.Mathlib.Nat.{zero-add}
-use borrow.Author.Tests.{lt-ltb, le-ltb}
-use lib.Dec.{eqb, ltb}
+use lib.Dec.{eqb}
 use lib.ListN.{length, getD, take, drop, set, length-take}
 use lib.Seq.{getD-take, take-all}
 use Rattle.fields.specs.Bytes.{splice, same}
@@ -15,8 +14,7 @@ use Rattle.fields.proofs.Laws.{Copying, copying-next, copying-last, front-next,
 use Rattle.model.specs.Vat.{none}
 use Rattle.model.specs.Sparing.{Entry, entries, countIn, tableIn, isFree, freeOf, firstFree, Spot, mappedTo, inPlace, spotOf, packetOf, startAt, locate}
 use Rattle.model.specs.Once.{filledFrom}
-use Rattle.model.specs.Rewrite.{isSpared, noEntry}
-use Rattle.model.proofs.Basics.{by-lt}
+use Rattle.model.specs.Rewrite.{noEntry}
 use Rattle.model.proofs.OnceOpen.{length-words}
 use Rattle.model.proofs.SparingLaws.{packet-own}
 use Rattle.sparing_table.specs.declared.FirstFree.the-variants.{At, Nothing}
@@ -176,21 +174,6 @@ packet-mapped s es p e r h q = sym (start-of-packet s es p h ∙ ap (λ (x : Spo
 pub packet-in-place : (s : ℕ) (es : List Entry) (p : ℕ) → p % 32 ≡ 0 → drop (placeWhere (has p) es) es ≡ [] → s + p ≡ locate s es p
 unfolding startAt
 packet-in-place s es p h q = sym (start-of-packet s es p h ∙ ap (λ (x : Spot). startAt x s p) (spot-missing es p q))
-
--- whether it has one
-spared-found : (es : List Entry) (p : ℕ) (e : Entry) (r : List Entry) → drop (placeWhere (has p) es) es ≡ e ∷ r → isSpared (spotOf es p) ≡ true
-unfolding isSpared
-spared-found es p e r q = ap isSpared (spot-found es p e r q)
-
-spared-missing : (es : List Entry) (p : ℕ) → drop (placeWhere (has p) es) es ≡ [] → isSpared (spotOf es p) ≡ false
-unfolding isSpared
-spared-missing es p q = ap isSpared (spot-missing es p q)
-
-pub spared-told : (t : List ℕ) (r n i p : ℕ) → 2 * r ≤ length t → n ≡ r → i ≡ placeWhere (has p) (entries (take (2 * n) t)) → ltb i n ≡ isSpared (spotOf (entries (take (2 * r) t)) p)
-spared-told t r n i p h c q =
-    by-lt i n
-    (λ l. lt-ltb i n l ∙ sym (spared-found (entries (take (2 * r) t)) p _ _ (entry-found t r n i p h c q l)))
-    (λ l. le-ltb i n l ∙ sym (spared-missing (entries (take (2 * r) t)) p (entry-missing t r n i p h c q l)))
 
 -- ---- the free entry of lowest index, for those who cite it
 

@@ -13,9 +13,8 @@ ghost use Prim.Native.Nat.{_+_, _*_, _%_, _^_, _≤_, _<_};
 ghost use lib.ListN.{length, take};
 ghost use Rattle.fields.specs.Bytes.{same};
 ghost use Rattle.fields.specs.Number.{field};
-ghost use Rattle.model.specs.Sparing.{entries, freeOf, countIn, tableIn, spotOf, locate};
+ghost use Rattle.model.specs.Sparing.{entries, freeOf, countIn, tableIn, locate};
 ghost use Rattle.model.specs.Once.{filledFrom};
-ghost use Rattle.model.specs.Rewrite.{isSpared};
 ghost use Rattle.sparing_table.specs.Table.{has, above, placeWhere, freeIn};
 
 // The mapped start of the free entry of lowest index, if there is one.
@@ -105,15 +104,6 @@ pub fn find_packet(table: &[u32], r: u32, s: u32, p: LogicalAddress) -> Physical
         return address::mapped_to_physical(table[2 * i + 1]);
     }
     address::sector_of(s, p)
-}
-
-// Whether the packet that begins at block `p` has an entry.
-pub fn is_spared(table: &[u32], r: u32, p: LogicalAddress) -> bool
-    requires { ⌜ 2 * r ≤ length (now table) ⌝ }
-    ensures { λ s. ⌜ s ≡ isSpared (spotOf (entries (take (2 * r) (now (table .entry)))) (p .0)) ⌝ }
-{
-    let n = fields::usize_of_u32(r);
-    find_entry(table, n, p.0) < n
 }
 
 // The free entry of lowest index: an entry of the original that no packet has.

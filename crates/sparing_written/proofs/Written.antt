@@ -13,11 +13,11 @@ use Rattle.fields.proofs.Laws.{splice-append, length-part, drop-zeros}
 use Rattle.fields_written.proofs.Laws.{writing-on}
 use Rattle.model.specs.Vat.{none}
 use Rattle.model.specs.VatWritten.{filled}
-use Rattle.model.specs.Sparing.{Entry, sparingName, flat, writtenTable}
+use Rattle.model.specs.Sparing.{Entry, sparingName, flat, defective, writtenTable}
 use Rattle.model.specs.Both.{spareEntries}
 use Rattle.model.proofs.SparingLaws.{length-flat}
 use Rattle.sparing_copy.proofs.Entries.{length-spares}
-use Rattle.sparing_written.specs.Written.{begun, sparedNumbers}
+use Rattle.sparing_written.specs.Written.{begun, sparedNumbers, resparedNumbers}
 
 -- ---- an entry
 
@@ -105,41 +105,95 @@ spares-next s t i h l =
 
 -- ---- the entries once a packet took a free one
 
--- those before its place, its own, those up to the free one, and those behind that
-pub spared-written : (s t x y z w : List ℕ) (n p k u : ℕ) → k ≤ u → u < n → 2 * n ≤ length t → 56 + 8 * n ≤ length s → x ≡ splice s 56 (quads (take (2 * k) t)) → y ≡ splice x (56 + 8 * k) (quads (p ∷ getD t (2 * u + 1) 0 ∷ [])) → z ≡ splice y (56 + 8 * (k + 1)) (quads (take (2 * u - 2 * k) (drop (2 * k) t))) → w ≡ splice z (56 + 8 * (u + 1)) (quads (take (2 * n - (2 * u + 2)) (drop (2 * u + 2) t))) → w ≡ splice s 56 (quads (sparedNumbers t n p k u))
-unfolding part sparedNumbers
-spared-written s t x y z w n p k u hk hu ht hs ex ey ez ew =
-    let a : List ℕ = take (2 * k) t in
-    let o : List ℕ = p ∷ getD t (2 * u + 1) 0 ∷ [] in
-    let b : List ℕ = part t (2 * k) (2 * (u - k)) in
-    let c : List ℕ = part t (2 * u + 2) (2 * (n - u - 1)) in
-    let la : length a ≡ 2 * k = length-take-le (2 * k) t (omega arith) in
-    let lb : length b ≡ 2 * (u - k) = length-part t (2 * k) (2 * (u - k)) (omega arith) in
-    let lc : length c ≡ 2 * (n - u - 1) = length-part t (2 * u + 2) (2 * (n - u - 1)) (omega arith) in
-    let lo : length (a ++ o) ≡ 2 * k + 2 = length-append a o ∙ omega arith in
-    let lp : length ((a ++ o) ++ b) ≡ 2 * u + 2 = length-append (a ++ o) b ∙ omega arith in
-    let jb : 2 * u - 2 * k ≡ 2 * (u - k) = omega arith in
-    let jc : 2 * n - (2 * u + 2) ≡ 2 * (n - u - 1) = omega arith in
-    let fy : y ≡ splice s 56 (quads (a ++ o)) =
-    ey ∙ ap (λ (l : List ℕ). splice l (56 + 8 * k) (quads o)) ex ∙ writing-on s 56 (56 + 8 * k) a o (omega arith) (omega arith) in
-    let fz : z ≡ splice s 56 (quads ((a ++ o) ++ b)) =
-    ez
-    ∙ ap₂ (λ (l : List ℕ) (j : ℕ). splice l (56 + 8 * (k + 1)) (quads (take j (drop (2 * k) t)))) fy jb
-    ∙ writing-on s 56 (56 + 8 * (k + 1)) (a ++ o) b (omega arith) (omega arith) in
-    ew
-    ∙ ap₂ (λ (l : List ℕ) (j : ℕ). splice l (56 + 8 * (u + 1)) (quads (take j (drop (2 * u + 2) t)))) fz jc
-    ∙ writing-on s 56 (56 + 8 * (u + 1)) ((a ++ o) ++ b) c (omega arith) (omega arith)
-    ∙ ap (λ (l : List ℕ). splice s 56 (quads l)) (append-assoc (a ++ o) b c ∙ append-assoc a o (b ++ c))
+-- numbers written straight after those that stand already, which are 2 * i
+put-on : (s x y a b : List ℕ) (i : ℕ) → x ≡ splice s 56 (quads a) → y ≡ splice x (56 + 8 * i) (quads b) → length a ≡ 2 * i → 56 + 4 * (length a + length b) ≤ length s → y ≡ splice s 56 (quads (a ++ b))
+put-on s x y a b i ex ey l h = ey ∙ ap (λ (z : List ℕ). splice z (56 + 8 * i) (quads b)) ex ∙ writing-on s 56 (56 + 8 * i) a b (omega arith) h
 
--- they are as many as before
-pub length-spared : (t : List ℕ) (n p k u : ℕ) → k ≤ u → u < n → 2 * n ≤ length t → length (sparedNumbers t n p k u) ≡ 2 * n
-unfolding sparedNumbers
-length-spared t n p k u hk hu ht =
-    let a : List ℕ = take (2 * k) t in
-    let o : List ℕ = p ∷ getD t (2 * u + 1) 0 ∷ [] in
-    let b : List ℕ = part t (2 * k) (2 * (u - k)) in
-    let c : List ℕ = part t (2 * u + 2) (2 * (n - u - 1)) in
-    let la : length a ≡ 2 * k = length-take-le (2 * k) t (omega arith) in
-    let lb : length b ≡ 2 * (u - k) = length-part t (2 * k) (2 * (u - k)) (omega arith) in
-    let lc : length c ≡ 2 * (n - u - 1) = length-part t (2 * u + 2) (2 * (n - u - 1)) (omega arith) in
-    length-append a (o ++ (b ++ c)) ∙ omega (arith, length-append b c)
+-- the parts of the lent table t of n entries, with a packet's place k and the free place u
+module _ (t : List ℕ) (n p k u : ℕ) (hu : u < n) (ht : 2 * n ≤ length t) where
+  -- those before the packet's place
+  abbrev below : List ℕ
+  below = take (2 * k) t
+
+  -- its own entry
+  abbrev own : List ℕ
+  own = p ∷ getD t (2 * u + 1) 0 ∷ []
+
+  -- those behind the free one
+  abbrev behind : List ℕ
+  behind = part t (2 * u + 2) (2 * (n - u - 1))
+
+  length-below : k ≤ u → length below ≡ 2 * k
+  length-below h = length-take-le (2 * k) t (omega arith)
+
+  length-behind : length behind ≡ 2 * (n - u - 1)
+  length-behind = length-part t (2 * u + 2) (2 * (n - u - 1)) (omega arith)
+
+  -- ---- a packet that had no entry
+  module _ (hk : k ≤ u) where
+    -- those up to the free one
+    abbrev moved : List ℕ
+    moved = part t (2 * k) (2 * (u - k))
+
+    length-moved : length moved ≡ 2 * (u - k)
+    length-moved = length-part t (2 * k) (2 * (u - k)) (omega arith)
+
+    -- as many as before
+    pub length-spared : length (sparedNumbers t n p k u) ≡ 2 * n
+    unfolding sparedNumbers
+    length-spared =
+        length-append below (own ++ (moved ++ behind)) ∙ omega (arith, length-below hk, length-moved, length-behind, length-append moved behind)
+
+    -- written part by part
+    pub spared-written : (s x y z w : List ℕ) → 56 + 8 * n ≤ length s → x ≡ splice s 56 (quads (take (2 * k) t)) → y ≡ splice x (56 + 8 * k) (quads (p ∷ getD t (2 * u + 1) 0 ∷ [])) → z ≡ splice y (56 + 8 * (k + 1)) (quads (take (2 * u - 2 * k) (drop (2 * k) t))) → w ≡ splice z (56 + 8 * (u + 1)) (quads (take (2 * n - (2 * u + 2)) (drop (2 * u + 2) t))) → w ≡ splice s 56 (quads (sparedNumbers t n p k u))
+    unfolding part sparedNumbers
+    spared-written s x y z w hs ex ey ez ew =
+        let lb = length-below hk in
+        let lm = length-moved in
+        let le = length-behind in
+        let jm : 2 * u - 2 * k ≡ 2 * (u - k) = omega arith in
+        let je : 2 * n - (2 * u + 2) ≡ 2 * (n - u - 1) = omega arith in
+        let l₁ : length (below ++ own) ≡ 2 * (k + 1) = length-append below own ∙ omega arith in
+        let l₂ : length ((below ++ own) ++ moved) ≡ 2 * (u + 1) = length-append (below ++ own) moved ∙ omega arith in
+        let fy = put-on s x y below own k ex ey lb (omega arith) in
+        let fz = put-on s y z (below ++ own) moved (k + 1) fy (ez ∙ ap (λ (j : ℕ). splice y (56 + 8 * (k + 1)) (quads (take j (drop (2 * k) t)))) jm) l₁ (omega arith) in
+        put-on s z w ((below ++ own) ++ moved) behind (u + 1) fz (ew ∙ ap (λ (j : ℕ). splice z (56 + 8 * (u + 1)) (quads (take j (drop (2 * u + 2) t)))) je) l₂ (omega arith)
+        ∙ ap (λ (l : List ℕ). splice s 56 (quads l)) (append-assoc (below ++ own) moved behind ∙ append-assoc below own (moved ++ behind))
+
+  -- ---- a packet whose entry is at place k
+  module _ (hk : k < u) where
+    -- those up to the free one, and its old spare
+    abbrev between : List ℕ
+    between = part t (2 * k + 2) (2 * (u - k - 1))
+
+    abbrev old : List ℕ
+    old = defective ∷ getD t (2 * k + 1) 0 ∷ []
+
+    length-between : length between ≡ 2 * (u - k - 1)
+    length-between = length-part t (2 * k + 2) (2 * (u - k - 1)) (omega arith)
+
+    -- as many as before
+    pub length-respared : length (resparedNumbers t n p k u) ≡ 2 * n
+    unfolding resparedNumbers
+    length-respared =
+        length-append below (own ++ (between ++ (old ++ behind)))
+        ∙ omega (arith, length-below (omega arith), length-between, length-behind, length-append between (old ++ behind))
+
+    -- written part by part
+    pub respared-written : (s x y z w v : List ℕ) → 56 + 8 * n ≤ length s → x ≡ splice s 56 (quads (take (2 * k) t)) → y ≡ splice x (56 + 8 * k) (quads (p ∷ getD t (2 * u + 1) 0 ∷ [])) → z ≡ splice y (56 + 8 * (k + 1)) (quads (take (2 * u - (2 * k + 2)) (drop (2 * k + 2) t))) → w ≡ splice z (56 + 8 * u) (quads (0xfffffff0 ∷ getD t (2 * k + 1) 0 ∷ [])) → v ≡ splice w (56 + 8 * (u + 1)) (quads (take (2 * n - (2 * u + 2)) (drop (2 * u + 2) t))) → v ≡ splice s 56 (quads (resparedNumbers t n p k u))
+    unfolding part resparedNumbers defective
+    respared-written s x y z w v hs ex ey ez ew ev =
+        let lb = length-below (omega arith) in
+        let lm = length-between in
+        let le = length-behind in
+        let jm : 2 * u - (2 * k + 2) ≡ 2 * (u - k - 1) = omega arith in
+        let je : 2 * n - (2 * u + 2) ≡ 2 * (n - u - 1) = omega arith in
+        let l₁ : length (below ++ own) ≡ 2 * (k + 1) = length-append below own ∙ omega arith in
+        let l₂ : length ((below ++ own) ++ between) ≡ 2 * u = length-append (below ++ own) between ∙ omega arith in
+        let l₃ : length (((below ++ own) ++ between) ++ old) ≡ 2 * (u + 1) = length-append ((below ++ own) ++ between) old ∙ omega arith in
+        let fy = put-on s x y below own k ex ey lb (omega arith) in
+        let fz = put-on s y z (below ++ own) between (k + 1) fy (ez ∙ ap (λ (j : ℕ). splice y (56 + 8 * (k + 1)) (quads (take j (drop (2 * k + 2) t)))) jm) l₁ (omega arith) in
+        let fw = put-on s z w ((below ++ own) ++ between) old u fz ew l₂ (omega arith) in
+        put-on s w v (((below ++ own) ++ between) ++ old) behind (u + 1) fw (ev ∙ ap (λ (j : ℕ). splice w (56 + 8 * (u + 1)) (quads (take j (drop (2 * u + 2) t)))) je) l₃ (omega arith)
+        ∙ ap (λ (l : List ℕ). splice s 56 (quads l))
+        (append-assoc ((below ++ own) ++ between) old behind ∙ append-assoc (below ++ own) between (old ++ behind) ∙ append-assoc below own (between ++ (old ++ behind)))

@@ -1,12 +1,15 @@
 -- A table as it is written, in the steps in which it is (document 01, "The sparing table" and "Calls and their sector writes").
 use Prim.Native.Nat.{ℕ, _+_, _-_, _*_}
+use mathlib.Core.Path.{_≡_}
+use mathlib.Core.Bool.{true, false}
 use mathlib.Core.List.{List, [], _∷_, _++_}
 use lib.ListN.{getD, take, replicate}
 use Rattle.fields.specs.Bytes.{part, join}
 use Rattle.fields.specs.Number.{digits}
 use Rattle.fields.specs.Regid.{regid}
 use Rattle.model.specs.VatWritten.{filled}
-use Rattle.model.specs.Sparing.{sparingName}
+use Rattle.model.specs.Rewrite.{noEntry}
+use Rattle.model.specs.Sparing.{sparingName, Entry, usedOf, defectiveOf, freeOf, ascending, defective}
 
 -- the sector of a table up to its entries, of which there are n, and 0 after that
 unfoldable pub begun : ℕ → ℕ → List ℕ
@@ -20,3 +23,18 @@ unfoldable pub sparedNumbers : List ℕ → ℕ → ℕ → ℕ → ℕ → List
 sparedNumbers t n p k u =
     take (2 * k) t
     ++ (p ∷ getD t (2 * u + 1) 0 ∷ (part t (2 * k) (2 * (u - k)) ++ part t (2 * u + 2) (2 * (n - u - 1))))
+
+-- the first n entries of the lent table t once packet p, whose entry is at place k, took the free one at place u: those before k, its own, those
+-- from there to u, in the place of the free one its old spare, defective, and those behind u
+unfoldable pub resparedNumbers : List ℕ → ℕ → ℕ → ℕ → ℕ → List ℕ
+resparedNumbers t n p k u =
+    take (2 * k) t
+    ++ (p ∷ getD t (2 * u + 1) 0
+    ∷ (part t (2 * k + 2) (2 * (u - k - 1))
+    ++ (defective ∷ getD t (2 * k + 1) 0 ∷ part t (2 * u + 2) (2 * (n - u - 1)))))
+
+-- what a table that fits is: its used entries ascend, then come the defective and then the free ones, of which there is one
+pub record Ordered (es : List Entry) : Type 0 where
+  pub whole : es ≡ usedOf es ++ (defectiveOf es ++ freeOf es)
+  pub rises : ascending es ≡ true
+  pub some : noEntry (freeOf es) ≡ false

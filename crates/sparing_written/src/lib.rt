@@ -4,6 +4,7 @@
 // All functions here are inside the layers: where one has a `requires`, the callers have tested it.
 use address::LogicalAddress;
 use sparing_copy::COUNT_AT;
+use sparing_copy::DEFECTIVE;
 use sparing_copy::ENTRIES_AT;
 use sparing_copy::ENTRY;
 use sparing_copy::FREE;
@@ -12,16 +13,15 @@ use sparing_copy::REGID;
 use sparing_copy::REGID_AT;
 use sparing_copy::SEQUENCE_AT;
 ghost use mathlib.Core.Path.{_≡_};
-ghost use mathlib.Core.Bool.{false};
-ghost use mathlib.Core.List.{[], _∷_, _++_};
+ghost use mathlib.Core.List.{[], _∷_};
 ghost use Prim.Native.Nat.{_+_, _*_, _≤_, _<_};
 ghost use lib.ListN.{length, take};
 ghost use Rattle.fields.specs.Bytes.{splice};
 ghost use Rattle.fields.specs.Number.{quads};
-ghost use Rattle.model.specs.Sparing.{entries, flat, usedOf, freeOf, resorted, writtenTable};
-ghost use Rattle.model.specs.Rewrite.{noEntry};
+ghost use Rattle.model.specs.Sparing.{entries, flat, resorted, writtenTable};
 ghost use Rattle.model.specs.Both.{spareEntries};
-ghost use Rattle.sparing_written.specs.Written.{begun, sparedNumbers};
+ghost use Rattle.sparing_table.specs.Table.{has, placeWhere};
+ghost use Rattle.sparing_written.specs.Written.{begun, sparedNumbers, resparedNumbers, Ordered};
 
 // Writes the fields of a table's sector up to its entries, and 0 after that.
 fn begin_table(sector: &mut [u8], entries: u16, sequence: u32)
@@ -75,20 +75,61 @@ fn put_spared(
     put_numbers(sector, free + 1, &table[behind..end]);
 }
 
+// Writes the entries once packet `p`, which has the entry at place `own`, took the free entry at place `free`: its
+// own entry is mapped there, and in the place of the free one, behind the other defective ones, stands its old spare.
+// All others stay.
+fn put_respared(
+    sector: &mut [u8],
+    table: &[u32],
+    n: usize,
+    p: LogicalAddress,
+    own: usize,
+    free: usize,
+)
+    requires { ⌜ (own < free) × (free < n) × (2 * n ≤ length (now table)) × (56 + 8 * n ≤ length (now sector)) ⌝ }
+    ensures { λ _. ⌜ now (sector .exit) ≡ splice (now (sector .entry)) 56 (quads (resparedNumbers (now (table .entry)) n (p .0) own free)) ⌝ }
+{
+    let below = 2 * own;
+    let above = below + 2;
+    let taken = 2 * free;
+    let behind = taken + 2;
+    let end = 2 * n;
+    put_numbers(sector, 0, &table[..below]);
+    put_entry(sector, own, p.0, table[taken + 1]);
+    put_numbers(sector, own + 1, &table[above..taken]);
+    put_entry(sector, free, DEFECTIVE, table[below + 1]);
+    put_numbers(sector, free + 1, &table[behind..end]);
+}
+
+// Writes the entries once packet `p`, spared before or not, took the free entry at place `free`, which is that of
+// lowest index.
+fn put_taken(sector: &mut [u8], table: &[u32], n: usize, p: LogicalAddress, free: usize)
+    requires { ⌜ (free < n) × (2 * n ≤ length (now table)) × (56 + 8 * n ≤ length (now sector)) × (p .0 < 0xfffffff0) ⌝ }
+    requires { ⌜ free ≡ placeWhere (has 0xffffffff) (entries (take (2 * n) (now table))) ⌝ }
+    requires { ⌜ Ordered (entries (take (2 * n) (now table))) ⌝ }
+    ensures { λ _. ⌜ now (sector .exit) ≡ splice (now (sector .entry)) 56 (quads (flat (resorted (entries (take (2 * n) (now (table .entry)))) (p .0)))) ⌝ }
+{
+    let own = sparing_table::find_entry(table, n, p.0);
+    if own < n {
+        put_respared(sector, table, n, p, own, free);
+        return;
+    }
+    let place = sparing_table::find_above(table, n, p);
+    put_spared(sector, table, n, p, place, free);
+}
+
 // Writes the sector of the table once packet `p` took the free entry of lowest index, resorted. The lent
 // table is not changed.
 pub fn write_spared(sector: &mut [u8], table: &[u32], r: u32, p: LogicalAddress, sequence: u32)
     requires { ⌜ length (now sector) ≡ 2048 ⌝ }
-    requires { ⌜ (56 + 8 * r ≤ 2048) × (2 * r ≤ length (now table)) × (p .0 < 0xffffffff) ⌝ }
-    requires { ⌜ entries (take (2 * r) (now table)) ≡ usedOf (entries (take (2 * r) (now table))) ++ freeOf (entries (take (2 * r) (now table))) ⌝ }
-    requires { ⌜ noEntry (freeOf (entries (take (2 * r) (now table)))) ≡ false ⌝ }
+    requires { ⌜ (56 + 8 * r ≤ 2048) × (2 * r ≤ length (now table)) × (p .0 < 0xfffffff0) ⌝ }
+    requires { ⌜ Ordered (entries (take (2 * r) (now table))) ⌝ }
     ensures { λ _. ⌜ now (sector .exit) ≡ writtenTable sequence (flat (resorted (entries (take (2 * r) (now (table .entry)))) (p .0))) ⌝ }
 {
     let n = fields::usize_of_u32(r);
-    let place = sparing_table::find_above(table, n, p);
     let free = sparing_table::find_entry(table, n, FREE);
     begin_table(sector, r as u16, sequence);
-    put_spared(sector, table, n, p, place, free);
+    put_taken(sector, table, n, p, free);
 }
 
 // Writes free entries for a list of spares.

@@ -13,7 +13,7 @@ use Rattle.model.specs.Rewrite.{sequenceOn, countOn, sparedTable, spareWrites, 
 use Rattle.model.proofs.Verdicts.{unless-stop}
 use Rattle.sparing_current.specs.declared.Judged.{Judged}
 use Rattle.model.proofs.Plans.{refused, cut-short, carried}
-use Rattle.rewrite_spare.proofs.Spares.{Spares, spares, spare-plan, spare-asks, spare-whole, spare-some, spare-sector, spare-room, spare-filled, spare-on, spare-written, spare-struck, spare-record}
+use Rattle.rewrite_spare.proofs.Spares.{Spares, spares, spare-plan, spare-asks, spare-ordered, spare-sector, spare-room, spare-filled, spare-on, spare-written, spare-struck, spare-record}
 use Rattle.rewrite_spare.proofs.spare_packet.Statement.{statement}
 use Rattle.rewrite_spare.proofs.spare_packet.Tie as tie
 
@@ -99,7 +99,7 @@ write-spared-requires c κs =
     let z = c .before .before .before .before .before .before .before .before .before .before .before .before .before .before .before .before .before .before .before .before in
     let h = safe (c .before .before .before .before .before .before .before .before .before) in
     let n = c .before .before .before .before .before .before .count-held .ensures in
-    (refl, (spare-asks (settingOf z) (discOf z) (z .args .table .now) (z .args .held) (z .args .b) (z .args .packet .now) _ h n, (spare-whole (settingOf z) (discOf z) (z .args .table .now) (z .args .held) (z .args .b) (z .args .packet .now) _ h n, spare-some (settingOf z) (discOf z) (z .args .table .now) (z .args .held) (z .args .b) (z .args .packet .now) _ h n)))
+    (refl, (spare-asks (settingOf z) (discOf z) (z .args .table .now) (z .args .held) (z .args .b) (z .args .packet .now) _ h n, spare-ordered (settingOf z) (discOf z) (z .args .table .now) (z .args .held) (z .args .b) (z .args .packet .now) _ h n))
 
 slice-aggregate-write-sparing : tie.Need-slice-aggregate-write-sparing
 slice-aggregate-write-sparing c = search needs

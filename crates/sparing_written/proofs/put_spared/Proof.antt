@@ -85,7 +85,7 @@ returns c =
     let n1 = e .before .before .before .before .before in
     let s = n1 .before .before .before .before .before in
     let a = s .args in
-    spared-written (a .sector .now) (a .table .now) _ _ _ _ (a .n) (a .p .0) (a .place) (a .free) (s .pre .0) (s .pre .1) (s .pre .2) (s .pre .3) (n1 .put-numbers .ensures) (e .put-entry .ensures) (n2 .put-numbers2 .ensures) (n3 .put-numbers3 .ensures)
+    spared-written (a .table .now) (a .n) (a .p .0) (a .place) (a .free) (s .pre .1) (s .pre .2) (s .pre .0) (a .sector .now) _ _ _ _ (s .pre .3) (n1 .put-numbers .ensures) (e .put-entry .ensures) (n2 .put-numbers2 .ensures) (n3 .put-numbers3 .ensures)
 
 pub put-spared-spec : {M : Type 1} → statement M
 put-spared-spec =
