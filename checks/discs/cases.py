@@ -757,7 +757,7 @@ def turned():
     spare(32, 64)
     change(32, 85)
     reads(32)
-    p("# line 18 before line 19, and line 19")
+    p("# line 19: no spare is left, for the spared packet nor for the other one")
     volume(2, "192")
     spare(32, 64)
     spare(32, 96)
@@ -855,8 +855,8 @@ def counting():
             ("byte 1", ["poke 0 0 256"]),
             ("byte 2 is not looked at", ["poke 0 0 65536"]),
             ("byte 15 is not looked at", ["poke 0 12 16777216"]),
-            ("regid flags", ["poke 0 16 %d" % int.from_bytes(b"\x01*OS", "little")]),
-            ("regid identifier", ["poke 0 16 %d" % int.from_bytes(b"\x00*OT", "little")]),
+            ("regid flags", ["poke 0 16 %d" % int.from_bytes(b"\x01*UD", "little")]),
+            ("regid identifier", ["poke 0 16 %d" % int.from_bytes(b"\x00*UE", "little")]),
             ("regid suffix is not looked at", ["poke 0 40 1"]),
             ("R 0", ["poke 0 48 0"]),
             ("R 2", ["poke 0 48 2"]),
@@ -900,7 +900,270 @@ def sized():
     p("open")
 
 
-GROUPS = ["tables", "sizes", "cuts", "forged", "rooms", "forecasts", "either", "refused", "spared", "turned", "unrecorded", "counting", "sized"]
+NEWER = b"*UDF Sparing Table"
+OLDER = b"*OSTA UDF Sparing Table"
+DEFECTIVE = 0xfffffff0
+
+
+def again():
+    def name(identifier):
+        """The identifier of a table, in the lent block."""
+        b = bytes(1) + identifier + bytes(23 - len(identifier))
+        for i in range(0, 24, 4):
+            p("set32 %d %d" % (16 + i, int.from_bytes(b[i:i + 4], "little")))
+
+    def put(*qs):
+        for q in qs:
+            p("put %d 1" % q)
+
+    def originals(q, *os, sequence=None):
+        for i, x in enumerate(os):
+            p("poke %d %d %s" % (q, 56 + 8 * i, x))
+        if sequence is not None:
+            p("poke %d 52 %s" % (q, sequence))
+
+    def remade():
+        p("make 192 224 256")
+
+    def shows(*qs):
+        for q in qs:
+            p("show %d" % q)
+
+    p("# 02, slip 1: the table that making writes, and the same one spelt out in sector 300; then that one under the older identifier")
+    volume(2)
+    p("bytes 0")
+    name(NEWER)
+    p("set32 48 3")
+    for i, m in enumerate((192, 224, 256)):
+        p("set32 %d none" % (56 + 8 * i))
+        p("set32 %d %d" % (60 + 8 * i, m))
+    put(300)
+    shows(300, 0, 32)
+    name(OLDER)
+    put(300)
+    shows(300)
+    p("# that one at sector 0, equal to the newer one, at one sequence; then both are older ones")
+    put(0)
+    p("open")
+    put(32)
+    p("open")
+    p("# beside a newer one it differs in an original: line 10; its sequence is higher, then lower")
+    remade()
+    put(0)
+    originals(0, 0)
+    p("open")
+    p("poke 0 52 5")
+    p("open")
+    p("poke 32 52 6")
+    p("open")
+    p("# a defective spare under the older identifier: the sequence is higher, equal, and the copy is alone; then the mark is behind R")
+    remade()
+    put(0)
+    originals(0, DEFECTIVE, sequence=5)
+    p("open")
+    p("poke 0 52 0")
+    p("open")
+    p("mark 32 2")
+    p("open")
+    originals(0, 32, DEFECTIVE)
+    p("open")
+    originals(0, 32, "none", DEFECTIVE)
+    p("poke 0 48 2")
+    p("open")
+    p("# and under the newer one, alone too; every one may be defective")
+    remade()
+    p("mark 32 2")
+    originals(0, DEFECTIVE)
+    p("open")
+    originals(0, 32, DEFECTIVE)
+    p("open")
+    originals(0, DEFECTIVE, DEFECTIVE, DEFECTIVE)
+    p("open")
+    for os in ((DEFECTIVE, 32, "none"), ("none", DEFECTIVE, "none"), (32, "none", DEFECTIVE), (0, DEFECTIVE, 32), (32, 32, DEFECTIVE)):
+        p("# line 8: originals " + ", ".join({"none": "free", DEFECTIVE: "defective"}.get(x, str(x)) for x in os))
+        originals(0, *os)
+        p("open")
+    for x in (0xffffffef, 0xfffffff1, 0xfffffffe):
+        p("# line 8: original 0x%08x, under each identifier" % x)
+        for older in (False, True):
+            if older:
+                put(0)
+            else:
+                remade()
+                p("mark 32 2")
+            originals(0, x)
+            p("open")
+    p("# the rule of mapped starts is that of all entries: of a defective one, behind a used one")
+    remade()
+    p("mark 32 2")
+    originals(0, 32, DEFECTIVE)
+    for m in (64, 96, 32, 192, 256, 208, 2144, 2112, 224):
+        p("poke 0 68 %d" % m)
+        p("open")
+    p("# the suffix is not looked at; bytes 35 and 39, behind the identifier, and the flags are")
+    p("poke 0 40 none")
+    p("poke 0 44 none")
+    p("open")
+    for at, n in ((35, 1), (35, 0), (39, 0xffffff01), (39, 0xffffff00)):
+        p("poke 0 %d %d" % (at, n))
+        p("open")
+    p("poke 0 16 %d" % int.from_bytes(b"\x01*UD", "little"))
+    p("open")
+    put(0)
+    p("poke 0 40 none")
+    p("open")
+    p("poke 0 16 %d" % int.from_bytes(b"\x01*OS", "little"))
+    p("open")
+
+    def cut(c, e, b, byte):
+        p("cut %d %s" % (c, e))
+        spare(b, byte)
+        p("cut 0 old")
+
+    p("# an older copy beside a newer one, packet 32 spared in both and now again: each is written as a newer one; power failures in it")
+    for c, e in ((33, "unreadable"), (33, "whole"), (34, "unreadable"), (35, "old")):
+        remade()
+        put(0)
+        originals(0, 32)
+        originals(32, 32)
+        p("open")
+        cut(c, e, 32, 64)
+        shows(0, 32)
+        p("open")
+        p("numbers 6")
+    p("# the older one has a defective spare and a higher sequence: it is written first, and the sequence is 1")
+    for c, e in ((33, "unreadable"), (34, "unreadable"), (35, "old")):
+        remade()
+        put(32)
+        originals(32, DEFECTIVE, sequence=5)
+        p("open")
+        cut(c, e, 32, 64)
+        shows(0, 32)
+        p("open")
+    p("# four copies, the second and the third older ones; a packet spared three times, the other one and the last free spare untouched")
+    p("rewritable 4 2048 0 32 128 160")
+    p("make 192 224 256 288")
+    p("fill 7 7 7 7")
+    p("open")
+    packet(32, 128)
+    put(32, 128)
+    p("poke 32 48 4")
+    p("poke 128 48 4")
+    for q in (32, 128):
+        p("poke %d 80 none" % q)
+        p("poke %d 84 288" % q)
+    p("open")
+    p("numbers 9")
+    for byte in (16, 48, 80):
+        spare(0, byte)
+        p("numbers 9")
+        copies()
+        reads(0, 31, 32)
+    p("fill 7 7 7 7")
+    p("open")
+    p("numbers 9")
+    shows(192, 223, 224, 255, 256, 287, 288)
+    p("# the other packet takes the last one; line 19 for both then, and saves at their places")
+    spare(32, 112)
+    p("numbers 9")
+    spare(32, 1)
+    spare(0, 1)
+    change(33, 85)
+    packet(0, 144)
+    reads(0, 31, 32, 33, 63)
+    shows(192, 224, 256, 287, 288, 289)
+    p("# two packets, spared by turns: the used ones stand by their originals, the defective ones by their age")
+    p("rewritable 2 2048 0 32")
+    p("make 288 256 224 192")
+    p("open")
+    for b, byte in ((32, 16), (0, 48), (32, 80), (0, 112)):
+        spare(b, byte)
+        p("numbers 8")
+    reads(0, 31, 32, 63)
+    p("open")
+    reads(0, 31, 32, 63)
+    p("# line 11: a defective one is in the lent table too")
+    p("entry 4 none")
+    reads(0)
+    p("# a spared packet is saved, and a block of it, before it is spared again and after")
+    remade()
+    p("open")
+    spare(32, 16)
+    packet(32, 48)
+    change(33, 85)
+    reads(32, 33)
+    spare(32, 80)
+    reads(32, 33)
+    shows(192, 193, 224, 225)
+    change(33, 102)
+    reads(32, 33, 63)
+    packet(32, 112)
+    reads(32, 33, 63)
+    p("open")
+    reads(32, 33, 63, 0)
+    shows(192, 193)
+    p("# a sector of its spare is unreadable: no other block of it is saved there, and sparing it heals it")
+    p("mark 230 2")
+    reads(38)
+    p("change 33")
+    spare(32, 144)
+    reads(38)
+    p("change 33")
+    p("# line 12 of sparing again, and line 19 with two defective ones")
+    for b in (33, 64, 32, 0, DEFECTIVE, "none"):
+        p("spare %s" % b)
+    p("# power failures in a second sparing; then opened, read, and the packet spared once more")
+    for c, e in [(c, e) for c in (1, 32, 33, 34) for e in EFFECTS] + [(35, "unreadable")]:
+        remade()
+        p("open")
+        spare(32, 64)
+        cut(c, e, 32, 96)
+        p("open")
+        p("numbers 6")
+        reads(0, 32, 63)
+        spare(32, 16)
+        reads(32)
+    p("# three copies, of which the first sparing leaves a new one, an unreadable one and an old one; the second writes the new one last")
+    p("rewritable 3 2048 0 32 128")
+    for c in (33, 34, 35):
+        remade()
+        p("open")
+        cut(34, "unreadable", 32, 64)
+        p("open")
+        cut(c, "unreadable", 32, 96)
+        shows(0, 32, 128)
+        p("open")
+        p("numbers 6")
+        reads(32)
+    p("# lines 17, 19 and 20 in their order: one table; with a second one; with a free spare; with a sequence less")
+    remade()
+    p("rewritable 1 2048 0")
+    originals(0, 32)
+    p("open")
+    spare(32, 64)
+    originals(0, 32, DEFECTIVE, DEFECTIVE, sequence="none")
+    p("open")
+    p("spare 32")
+    p("spare 0")
+    p("rewritable 2 2048 0 32")
+    p("spare 32")
+    p("spare 0")
+    originals(0, 32, DEFECTIVE, "none")
+    p("open")
+    p("spare 32")
+    p("spare 0")
+    p("poke 0 52 4294967294")
+    p("open")
+    p("spare 32")
+    p("numbers 6")
+    p("spare 32")
+    p("open")
+    reads(32, 63)
+    shows(0, 32)
+
+
+GROUPS = ["tables", "sizes", "cuts", "forged", "rooms", "forecasts", "either", "refused", "spared", "turned", "unrecorded", "counting", "sized",
+          "again"]
 
 if __name__ == "__main__":
     for name in sys.argv[1:] or GROUPS:

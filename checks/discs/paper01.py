@@ -1,4 +1,4 @@
-"""Document 01 in Python, with slips 4 and 5 of document 02, written from their text alone: what each call answers and leaves."""
+"""Document 01 in Python, with slips 1, 4, 5 and 9 of document 02, written from their text alone: what each call answers and leaves."""
 from fractions import Fraction
 
 NONE = 0xffffffff
@@ -339,6 +339,12 @@ class Once:
 
 # ---- rewritable
 
+# the table's identifiers: the newer one is written, both are read; and the original of a defective spare (02, slip 1)
+NEWER = b"*UDF Sparing Table"
+OLDER = b"*OSTA UDF Sparing Table"
+DEFECTIVE = 0xfffffff0
+
+
 def geometry(d, kind, s, l):
     return s, l, len(d.m), kind[2], kind[1]
 
@@ -348,10 +354,10 @@ def copy_entries(sec):
 
 
 def entries_fit(es, s, l, sectors, tables):
-    used = [o for o, _ in es if o != NONE]
-    if [o for o, _ in es] != used + [NONE] * (len(es) - len(used)):
-        return False
-    if any(o % 32 or o >= l for o in used) or any(a >= b for a, b in zip(used, used[1:])):
+    # used ones, each lower than the next, then defective ones, then free ones; no other original is allowed
+    os = [o for o, _ in es]
+    used = sorted({o for o in os if o % 32 == 0 and o < l})
+    if os != used + [DEFECTIVE] * os.count(DEFECTIVE) + [NONE] * os.count(NONE):
         return False
     ms = [m for _, m in es]
     if len(set(ms)) != len(ms):
@@ -368,13 +374,18 @@ def counts(d, t, s, l, tables, size):
     if d.m[t] != 1:
         return False
     sec = d.sector(t)
-    if sec[0] or sec[1] or not regid_ok(sec[16:48], b"*OSTA UDF Sparing Table") or 56 + 8 * le(sec, 48, 2) > size:
+    if sec[0] or sec[1] or 56 + 8 * le(sec, 48, 2) > size:
         return False
-    return entries_fit(copy_entries(sec), s, l, len(d.m), tables)
+    es = copy_entries(sec)
+    if not regid_ok(sec[16:48], NEWER):
+        # the older identifier knows no defective spare
+        if not regid_ok(sec[16:48], OLDER) or DEFECTIVE in [o for o, _ in es]:
+            return False
+    return entries_fit(es, s, l, len(d.m), tables)
 
 
 def table_sector(es, seq):
-    b = bytes(16) + regid(b"*OSTA UDF Sparing Table") + len(es).to_bytes(2, "little") + bytes(2) + seq.to_bytes(4, "little")
+    b = bytes(16) + regid(NEWER) + len(es).to_bytes(2, "little") + bytes(2) + seq.to_bytes(4, "little")
     for o, m in es:
         b += o.to_bytes(4, "little") + m.to_bytes(4, "little")
     return b + bytes(2048 - len(b))
@@ -459,15 +470,19 @@ class Rw:
             raise Refuse(12)
         if len(tables) == 1:
             raise Refuse(17)
-        if any(o == b for o, _ in es):
-            raise Refuse(18)
         free = [m for o, m in es if o == NONE]
         if not free:
             raise Refuse(19)
         if top == NONE:
             raise Refuse(20)
-        m = free[0]
-        new = sorted([e for e in es if e[0] != NONE] + [(b, m)]) + [(NONE, x) for x in free[1:]]
+        m = free.pop(0)
+        bad = [x for o, x in es if o == DEFECTIVE]
+        used = {o: x for o, x in es if o < l}
+        if b in used:
+            # spared already: that spare is defective now, the last of them (02, slip 1)
+            bad.append(used[b])
+        used[b] = m
+        new = sorted(used.items()) + [(DEFECTIVE, x) for x in bad] + [(NONE, x) for x in free]
         sec = table_sector(new, top + 1)
         ws = [(m + i, packet[2048 * i:2048 * i + 2048]) for i in range(32)]
         ws += [(t, sec) for t in tables if t not in cur] + [(t, sec) for t in tables if t in cur]
