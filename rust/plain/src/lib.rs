@@ -3,8 +3,8 @@
 //! It was written from these documents, with the readings of open points in `docs/DECISIONS.md`, and shares no code with the proved layer.
 //! The tests hold the two against each other, and the benchmarks take it as their baseline. Each function is the one of the same name in
 //! `include/tuormik.h`, with slices for pointers and lengths; the CRC goes by tables and has names of its own. "Line n" is line n of 01,
-//! "Why a call is turned down", or number n of 02, which stands where 02 places it among them: 25 directly before 14. A call is turned
-//! down by `Err(n)`.
+//! "Why a call is turned down", or number n of 02, which stands where 02 places it among them: 25 directly before 14. Line 18 never occurs
+//! (02, slip 1). A call is turned down by `Err(n)`.
 #![deny(missing_docs)]
 #![allow(clippy::too_many_arguments)]
 
@@ -20,6 +20,8 @@ const MOST_SECTORS: usize = 1 << 20;
 const MOST_ENTRIES: usize = 4096;
 const RECORD: usize = 5;
 const NONE: u32 = u32::MAX;
+/// The original of a defective spare (02, slip 1).
+const DEFECTIVE: u32 = 0xffff_fff0;
 
 const BLANK: u8 = 0;
 const RECORDED: u8 = 1;
@@ -89,7 +91,9 @@ impl Regid {
 static VIRTUAL: Regid = Regid::new("*UDF Virtual Partition");
 static SPARABLE: Regid = Regid::new("*UDF Sparable Partition");
 static VAT: Regid = Regid::new("*UDF Virtual Alloc Tbl");
-static SPARING: Regid = Regid::new("*OSTA UDF Sparing Table");
+/// The sparing table's two identifiers (02, slip 1): both are read, the newer one is written.
+static SPARING: Regid = Regid::new("*UDF Sparing Table");
+static OLDER_SPARING: Regid = Regid::new("*OSTA UDF Sparing Table");
 
 // ---- the tag's CRC and checksum
 
@@ -597,20 +601,21 @@ impl Current<'_> {
     }
 }
 
-/// The copy rule over entries of original and mapped.
+/// The copy rule over entries of original and mapped. The originals are packets of the partition and two numbers above them, first that of
+/// defective spares and then that of free ones: used entries, defective and free ones stand in this order where the originals never
+/// descend, and only those two numbers stand more than once.
 fn entries_fit(entries: impl ExactSizeIterator<Item = (u32, u32)>, sectors: usize, span: Span, tables: &Tables) -> bool {
     if 56 + 8 * entries.len() > tables.size as usize {
         return false;
     }
     let mut seen = [0u64; MOST_SECTORS / PACKET / 64];
-    let mut before = None;
+    let mut lowest = 0;
     for (original, mapped) in entries {
-        let ascends = original == NONE || before.is_none_or(|b| b < original);
         let is_packet = original % PACKET as u32 == 0 && (original as usize) < span.l;
-        if !ascends || !(original == NONE || is_packet) {
+        if original < lowest || !(is_packet || original == DEFECTIVE || original == NONE) {
             return false;
         }
-        before = Some(original);
+        lowest = if is_packet { original + 1 } else { original };
         let start = mapped as usize;
         if !start.is_multiple_of(PACKET) || start + PACKET > sectors || !span.is_clear_of(start) {
             return false;
@@ -631,11 +636,16 @@ fn counting_copy<'a>(disc: &'a [u8], marks: &[u8], span: Span, tables: &Tables, 
         return None;
     }
     let copy = sector(disc, at as usize);
-    if u16_at(copy, 0) != 0 || !SPARING.is_at(copy, 16) {
+    let is_older = OLDER_SPARING.is_at(copy, 16);
+    if u16_at(copy, 0) != 0 || !(is_older || SPARING.is_at(copy, 16)) {
         return None;
     }
     let entries = copy[56..].get(..8 * usize::from(u16_at(copy, 48)))?;
     let pairs = entries.chunks_exact(8).map(|e| (u32_at(e, 0), u32_at(e, 4)));
+    // under the older identifier no spare is marked as defective
+    if is_older && pairs.clone().any(|(original, _)| original == DEFECTIVE) {
+        return None;
+    }
     entries_fit(pairs, marks.len(), span, tables).then_some(entries)
 }
 
@@ -976,7 +986,8 @@ pub fn save_packet(
     number_or_cut(call())
 }
 
-/// Spare packet: those bytes to the free entry of lowest index, then the resorted table, first to copies that were not current.
+/// Spare packet: those bytes to the free entry of lowest index, then the resorted table, first to copies that were not current. A packet
+/// that is spared already takes a free entry too, and the one that it had turns defective, the last of the defective ones (02, slip 1).
 pub fn spare_packet(
     disc: &mut [u8],
     marks: &mut [u8],
@@ -996,24 +1007,27 @@ pub fn spare_packet(
         let mut spared = examine_rewritable(disc, marks, maps, s, l, table, record, lent)?;
         spared.need_packet(b)?;
         need(spared.tables.count >= 2, 17)?;
-        need(spared.mapped(table, b).is_none(), 18)?;
-        let entries = &table[..spared.numbers];
-        let free = entries.chunks_exact(2).position(|e| e[0] == NONE).ok_or(19u32)?;
+        let (entries, _) = table[..spared.numbers].as_chunks();
+        let free = entries.partition_point(|&[original, _]| original != NONE);
+        let &[_, spare] = entries.get(free).ok_or(19u32)?;
         need(spared.sequence != u32::MAX, 20)?;
         spared.sequence += 1;
-        // the new entry goes before the first of a higher original; what stood between it and the free one moves up
-        let to = entries.chunks_exact(2).position(|e| e[0] > b).unwrap_or(free);
-        let mut sorted = [0; SECTOR / 4];
+        // those of lower packets, the new one, those of higher packets and the defective ones, the one that turns, and the free ones left
+        let (lower, rest) = entries[..free].split_at(entries.partition_point(|&[original, _]| original < b));
+        let (had, higher) = match rest {
+            [[original, mapped], higher @ ..] if *original == b => (Some([DEFECTIVE, *mapped]), higher),
+            _ => (None, rest),
+        };
+        let taken = [[b, spare]];
+        let resorted = lower.iter().chain(&taken).chain(higher).chain(&had).chain(&entries[free + 1..]);
+        let mut sorted = [[0; 2]; SECTOR / 8];
         let sorted = &mut sorted[..entries.len()];
-        sorted.copy_from_slice(entries);
-        sorted.copy_within(2 * to..2 * free, 2 * to + 2);
-        sorted[2 * to] = b;
-        sorted[2 * to + 1] = entries[2 * free + 1];
+        sorted.iter_mut().zip(resorted).for_each(|(to, entry)| *to = *entry);
+        let sorted = sorted.as_flattened();
 
-        let spare = entries[2 * free + 1] as usize;
         let copy = table_sector(spared.sequence, sorted.iter().copied());
         let mut writer = Writer::new(disc, marks, cut);
-        writer.write_upward(spare, packet);
+        writer.write_upward(spare as usize, packet);
         for current in [false, true] {
             for (i, &t) in spared.tables.sectors().iter().enumerate() {
                 if spared.is_current[i] == current {

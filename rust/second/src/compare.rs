@@ -10,6 +10,7 @@
 mod bytes;
 mod draw;
 mod step;
+pub mod tables;
 
 use crate::layer::Layer;
 use bytes::Random;
@@ -20,6 +21,7 @@ use std::fmt;
 use std::panic::{catch_unwind, AssertUnwindSafe};
 use std::sync::Once;
 use step::{Call, Start, Step, World};
+use tables::Tables;
 
 /// The name under which the calls of a list are counted.
 pub const IN_A_LIST: &str = "in a list";
@@ -184,6 +186,7 @@ fn draw_and_compare(
 }
 
 fn compare_step(a: &Layer, b: &Layer, step: &Step, ours: &mut World, theirs: &mut World, tally: &mut Tally) -> Option<String> {
+    let before = Tables::of(theirs);
     let one = step.take(a, ours);
     let other = step.take(b, theirs);
     if let (Some(one), Some(other)) = (&one, &other) {
@@ -203,6 +206,9 @@ fn compare_step(a: &Layer, b: &Layer, step: &Step, ours: &mut World, theirs: &mu
                 }
                 Call::Forecast { .. } if one.number == 0 => tally.note(FORECAST_TELLS, one.lent[0]),
                 _ => {}
+            }
+            if let (Step::Call(call), Some(before)) = (step, &before) {
+                tables::note(tally, before, call, one.number, theirs);
             }
         }
     }

@@ -2,7 +2,10 @@
 //!
 //! `TUORMIK_SEED` and `TUORMIK_CASES` choose another seed and number of cases; the program `compare` does the same with progress.
 
-use tuormik::{BLANK, COMMIT, NONE, PACKET, RECORDED};
+use tuormik::{BLANK, COMMIT, DEFECTIVE, NONE, PACKET, RECORDED, SECTOR};
+use tuormik_second::compare::tables::{
+    AGAIN, BOTH_NAMES, CUT_AGAIN, HOLDS_DEFECTIVE, KEEPS_DEFECTIVE, OLDER_MARKED, OLDER_NAME, RENEWED, RESERVED_ABOVE,
+};
 use tuormik_second::compare::{compare_cases, Difference, Tally, FORECAST_TELLS, IN_A_LIST};
 use tuormik_second::layer::{Layer, PLAIN, PROVED};
 
@@ -22,7 +25,7 @@ fn compared() -> Tally {
 }
 
 /// What each call can answer: lines of 01 and 02, 0 done and 255 cut.
-const ANSWERS: [(&str, &[u32]); 17] = [
+const ANSWERS: [(&str, &[u32]); 18] = [
     ("open", &[0, 1, 2, 3, 4, 5, 6, 8, 9, 10]),
     ("read", &[0, 1, 2, 3, 4, 5, 6, 8, 10, 11, 12, 13, 14, 25]),
     ("save_virtual", &[0, 1, 2, 3, 4, 5, 6, 7, 11, 12, 15, 16, 255]),
@@ -30,7 +33,8 @@ const ANSWERS: [(&str, &[u32]); 17] = [
     ("commit", &[0, 1, 2, 3, 4, 5, 6, 7, 11, 16, 255]),
     ("save_block", &[0, 1, 2, 3, 4, 5, 6, 7, 8, 10, 11, 12, 14, 25, 255]),
     ("save_packet", &[0, 1, 2, 3, 4, 5, 6, 7, 8, 10, 11, 12, 255]),
-    ("spare_packet", &[0, 1, 2, 3, 4, 5, 6, 7, 8, 10, 11, 12, 17, 18, 19, 20, 255]),
+    ("spare_packet", &[0, 1, 2, 3, 4, 5, 6, 7, 8, 10, 11, 12, 17, 19, 20, 255]),
+    (AGAIN, &[0, 17, 19, 20, 255]),
     ("make", &[0, 1, 2, 4, 5, 6, 21]),
     ("fullness", &[0, 1, 2, 3, 4, 5, 6, 7, 11]),
     ("forecast", &[0, 1, 2, 3, 4, 5, 6, 7, 11]),
@@ -39,7 +43,7 @@ const ANSWERS: [(&str, &[u32]); 17] = [
     ("write_maps", &[0, 3, 5, 6]),
     ("look_up", &[0, 3, 8, 9, 12, 13]),
     ("run", &[0, 1, 2, 3, 4, 5, 6, 8, 9, 10]),
-    (IN_A_LIST, &[0, 3, 7, 12, 13, 14, 16, 17, 18, 19, 20, 25, 255]),
+    (IN_A_LIST, &[0, 3, 7, 12, 13, 14, 16, 17, 19, 20, 25, 255]),
 ];
 
 #[test]
@@ -55,6 +59,26 @@ fn the_two_agree_and_every_answer_is_met() {
             assert!(met || !answers.contains(&answer), "{call} never answered {answer}");
             assert!(!met || answers.contains(&answer) || call == IN_A_LIST, "{call} answered {answer}, which 01 and 02 do not let it");
         }
+        assert_eq!(tally.count(call, NEVER), 0, "{call} answered {NEVER}, which never occurs");
+    }
+    tables_are_met(&tally);
+}
+
+/// The line that never occurs (02, slip 1).
+const NEVER: u32 = 18;
+
+/// The write of a sparing that is the first of a table.
+const FIRST_TABLE: u32 = PACKET as u32 + 1;
+
+/// Both identifiers and defective spares came up, and sparings of packets that are spared already, cut at every write of a table and
+/// before them.
+fn tables_are_met(tally: &Tally) {
+    for what in [BOTH_NAMES, OLDER_NAME, OLDER_MARKED, RESERVED_ABOVE, HOLDS_DEFECTIVE, KEEPS_DEFECTIVE, RENEWED] {
+        assert!(tally.count(what, 0) > 0, "{what} did not come up");
+    }
+    assert!((1..FIRST_TABLE).any(|at| tally.count(CUT_AGAIN, at) > 0), "no sparing again was cut before its tables");
+    for at in FIRST_TABLE..FIRST_TABLE + 4 {
+        assert!(tally.count(CUT_AGAIN, at) > 0, "no sparing again was cut at write {at}");
     }
 }
 
@@ -275,4 +299,94 @@ fn other_rules_for_forecasts_are_found() {
     for layer in wrong {
         is_found(&layer, 2_000, "then: what is handed back differs");
     }
+}
+
+// ---- layers that read or write sparing tables by another rule
+
+const NEWER: &[u8; 24] = b"\0*UDF Sparing Table\0\0\0\0\0";
+const OLDER: &[u8; 24] = b"\0*OSTA UDF Sparing Table";
+
+/// The sectors of the tables that a map list names, as far as they are on the disc.
+fn tables_in(maps: &[u8], sectors: usize) -> Vec<usize> {
+    if maps.len() != 64 {
+        return Vec::new();
+    }
+    let named = maps[48..].chunks_exact(4).take(usize::from(maps[42]));
+    named.map(|t| u32::from_le_bytes([t[0], t[1], t[2], t[3]]) as usize).filter(|&t| t < sectors).collect()
+}
+
+fn is_marked(copy: &[u8]) -> bool {
+    let count = usize::from(u16::from_le_bytes([copy[48], copy[49]]));
+    copy[56..].chunks_exact(8).take(count).any(|entry| entry[..4] == DEFECTIVE.to_le_bytes())
+}
+
+/// The plain opening, but that each copy is altered before it is read.
+fn open_altered(
+    disc: &[u8],
+    marks: &[u8],
+    maps: &[u8],
+    span: (u32, u32),
+    table: &mut [u32],
+    record: &mut [u32],
+    alter: fn(&mut [u8]),
+) -> u32 {
+    let mut altered = disc.to_vec();
+    for at in tables_in(maps, disc.len() / SECTOR) {
+        alter(&mut altered[SECTOR * at..][..SECTOR]);
+    }
+    (PLAIN.open)(&altered, marks, maps, span.0, span.1, table, record)
+}
+
+/// The random discs have copies of both identifiers, defective spares and reserved originals: a layer that goes by another rule is found.
+#[test]
+fn other_rules_for_sparing_tables_are_found() {
+    let open = |name, open| Layer { name, open, ..PLAIN };
+    let opens = [
+        open("an older copy with the mark", |disc, marks, maps, s, l, table, record| {
+            open_altered(disc, marks, maps, (s, l), table, record, |copy| {
+                if copy[16..40] == *OLDER && is_marked(copy) {
+                    copy[16..40].copy_from_slice(NEWER);
+                }
+            })
+        }),
+        open("no older copy", |disc, marks, maps, s, l, table, record| {
+            open_altered(disc, marks, maps, (s, l), table, record, |copy| {
+                if copy[16..40] == *OLDER {
+                    copy[16] = 1;
+                }
+            })
+        }),
+        open("0xfffffffe as a free spare", |disc, marks, maps, s, l, table, record| {
+            open_altered(disc, marks, maps, (s, l), table, record, |copy| {
+                let reserved = |entry: &&mut [u8]| entry[..4] == (NONE - 1).to_le_bytes();
+                copy[56..].chunks_exact_mut(8).filter(reserved).for_each(|entry| entry[0] = 0xff);
+            })
+        }),
+        open("no suffix", |disc, marks, maps, s, l, table, record| {
+            open_altered(disc, marks, maps, (s, l), table, record, |copy| {
+                if copy[40..48] != [0; 8] {
+                    copy[16] = 1;
+                }
+            })
+        }),
+    ];
+    for layer in opens {
+        is_found(&layer, 2_000, &format!("then: {} answers", layer.name));
+    }
+    let older_kept = Layer {
+        name: "the older identifier kept",
+        spare_packet: |disc, marks, maps, s, l, table, record, b, packet, at, effect| {
+            let before = disc.to_vec();
+            let answer = (PLAIN.spare_packet)(disc, marks, maps, s, l, table, record, b, packet, at, effect);
+            for at in tables_in(maps, disc.len() / SECTOR) {
+                let name = SECTOR * at + 16..SECTOR * at + 40;
+                if before[name.clone()] == *OLDER {
+                    disc[name].copy_from_slice(OLDER);
+                }
+            }
+            answer
+        },
+        ..PLAIN
+    };
+    is_found(&older_kept, 2_000, "differs first at byte");
 }

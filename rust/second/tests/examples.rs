@@ -1,7 +1,7 @@
 //! Document 01's worked examples, a to l, through both implementations; l, and every fullness of small partitions, as document 02, slip 4,
-//! has them.
+//! has them, and k with a second sparing of its packet, as slip 1 has it.
 
-use tuormik::{BLANK, MOST_ENTRIES, NONE, PACKET_BYTES, RECORDED, SECTOR};
+use tuormik::{BLANK, DEFECTIVE, MOST_ENTRIES, NONE, PACKET_BYTES, RECORDED, SECTOR};
 use tuormik_second::layer::{Layer, PLAIN, PROVED};
 
 /// A lent disc, whose every sector begins with its own number.
@@ -115,12 +115,15 @@ fn e_to_h_data_sectors() {
     });
 }
 
-/// The record of a rewritable disc whose only copies are made here.
-fn put_copies(world: &mut World, tables: &[u32], entries: &[u32]) {
-    for &t in tables {
+const NEWER: &[u8; 23] = b"*UDF Sparing Table\0\0\0\0\0";
+const OLDER: &[u8; 23] = b"*OSTA UDF Sparing Table";
+
+/// The record of a rewritable disc whose only copies are made here, each with an identifier.
+fn put_copies(world: &mut World, tables: &[(u32, &[u8; 23])], entries: &[u32]) {
+    for &(t, name) in tables {
         let copy = &mut world.disc[SECTOR * t as usize..][..SECTOR];
         copy.fill(0);
-        copy[17..40].copy_from_slice(b"*OSTA UDF Sparing Table");
+        copy[17..40].copy_from_slice(name);
         copy[48] = (entries.len() / 2) as u8;
         for (to, n) in copy[56..].chunks_exact_mut(4).zip(entries) {
             to.copy_from_slice(&n.to_le_bytes());
@@ -129,15 +132,21 @@ fn put_copies(world: &mut World, tables: &[u32], entries: &[u32]) {
     world.marks.fill(RECORDED);
 }
 
+/// Two tables with every choice of their identifiers.
+const NAMED: [[(u32, &[u8; 23]); 2]; 4] =
+    [[(0, OLDER), (32, OLDER)], [(0, OLDER), (32, NEWER)], [(0, NEWER), (32, OLDER)], [(0, NEWER), (32, NEWER)]];
+
 #[test]
 fn i_spared_blocks() {
     both(|layer| {
-        let mut world = World::new(layer, 1088, 512, 64, &[0, 32]);
-        put_copies(&mut world, &[0, 32], &[32, 1024]);
-        assert_eq!(world.open(layer), 0);
-        assert_eq!(world.read(layer, 31), Ok(543));
-        assert_eq!(world.read(layer, 63), Ok(1055));
-        assert_eq!(world.read(layer, 64), Err(12));
+        for tables in NAMED {
+            let mut world = World::new(layer, 1088, 512, 64, &[0, 32]);
+            put_copies(&mut world, &tables, &[32, 1024]);
+            assert_eq!(world.open(layer), 0);
+            assert_eq!(world.read(layer, 31), Ok(543));
+            assert_eq!(world.read(layer, 63), Ok(1055));
+            assert_eq!(world.read(layer, 64), Err(12));
+        }
     });
 }
 
@@ -154,19 +163,68 @@ fn j_room() {
     });
 }
 
+/// The sector of a table of some numbers, as it is written.
+fn written(sequence: u32, numbers: &[u32]) -> Vec<u8> {
+    let mut sector = [&[0; 17], &NEWER[..], &[0; 8], &[(numbers.len() / 2) as u8, 0, 0, 0], &sequence.to_le_bytes()].concat();
+    sector.extend(numbers.iter().flat_map(|n| n.to_le_bytes()));
+    sector.resize(SECTOR, 0);
+    sector
+}
+
+impl World {
+    /// The lent table, the record and both copies have these numbers after a sparing, and opening gives them again.
+    fn holds(&mut self, layer: &Layer, sequence: u32, numbers: &[u32]) {
+        for _ in 0..2 {
+            let held = &self.table[..numbers.len() + 1];
+            assert_eq!(held, [numbers, &[7]].concat(), "{}", layer.name);
+            assert_eq!(self.record, [1, numbers.len() as u32 / 2, sequence, 0, 0], "{}", layer.name);
+            for t in [0, 32] {
+                assert_eq!(self.disc[SECTOR * t..SECTOR * (t + 1)], written(sequence, numbers), "{}: table at {t}", layer.name);
+            }
+            self.table.fill(7);
+            assert_eq!(self.open(layer), 0, "{}", layer.name);
+        }
+    }
+}
+
 #[test]
 fn k_sparing() {
     both(|layer| {
-        let mut world = World::new(layer, 2144, 512, 96, &[0, 32]);
-        put_copies(&mut world, &[0, 32], &[64, 2048, NONE, 2080, NONE, 2112]);
+        for tables in NAMED {
+            let mut world = World::new(layer, 2144, 512, 96, &[0, 32]);
+            put_copies(&mut world, &tables, &[64, 2048, NONE, 2080, NONE, 2112]);
+            assert_eq!(world.open(layer), 0);
+            assert_eq!(world.spare(layer, 32, &[3; PACKET_BYTES]), 0);
+            world.holds(layer, 1, &[32, 2080, 64, 2048, NONE, 2112]);
+            assert_eq!(world.disc[SECTOR * 2080..SECTOR * 2112], [3; PACKET_BYTES]);
+            // the same packet again
+            assert_eq!(world.spare(layer, 32, &[4; PACKET_BYTES]), 0);
+            world.holds(layer, 2, &[32, 2112, 64, 2048, DEFECTIVE, 2080]);
+            assert_eq!(world.disc[SECTOR * 2080..SECTOR * 2112], [3; PACKET_BYTES]);
+            assert_eq!(world.disc[SECTOR * 2112..SECTOR * 2144], [4; PACKET_BYTES]);
+            // no entry is free
+            for b in [0, 32, 64] {
+                assert_eq!(world.spare(layer, b, &[5; PACKET_BYTES]), 19, "{}: {b}", layer.name);
+            }
+            world.holds(layer, 2, &[32, 2112, 64, 2048, DEFECTIVE, 2080]);
+        }
+    });
+}
+
+/// The packet's entry turns defective as the last of the defective ones, and the free one of lowest index is taken.
+#[test]
+fn sparing_again() {
+    both(|layer| {
+        let mut world = World::new(layer, 2176, 512, 96, &[0, 32]);
+        put_copies(&mut world, &NAMED[3], &[32, 2080, 64, 2048, DEFECTIVE, 2144, NONE, 2112]);
         assert_eq!(world.open(layer), 0);
         assert_eq!(world.spare(layer, 32, &[3; PACKET_BYTES]), 0);
-        assert_eq!(world.table[..7], [32, 2080, 64, 2048, NONE, 2112, 7]);
-        assert_eq!(world.record, [1, 3, 1, 0, 0]);
-        assert_eq!(world.disc[SECTOR * 2080..SECTOR * 2112], [3; PACKET_BYTES]);
-        assert_eq!(world.open(layer), 0);
-        assert_eq!(world.table[..7], [32, 2080, 64, 2048, NONE, 2112, 7]);
-        assert_eq!(world.spare(layer, 32, &[3; PACKET_BYTES]), 18);
+        world.holds(layer, 1, &[32, 2112, 64, 2048, DEFECTIVE, 2144, DEFECTIVE, 2080]);
+        // a copy with the older identifier and the mark does not count
+        for (tables, answer) in [(NAMED[0], 8), (NAMED[1], 0), (NAMED[2], 0), (NAMED[3], 0)] {
+            put_copies(&mut world, &tables, &[32, 2112, DEFECTIVE, 2144]);
+            assert_eq!(world.open(layer), answer, "{}", layer.name);
+        }
     });
 }
 

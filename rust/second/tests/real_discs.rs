@@ -3,7 +3,8 @@
 //! The images stand in `tests/discs` as their sectors that are not zeros; `tests/discs/README.md` says how each was made.
 
 use tuormik::descriptors::find_volume;
-use tuormik::{calls, marks_by_rule, read_maps, Disc, Error, Held, Maps, Open, Record, Refusal, BLANK, NONE, SECTOR};
+use tuormik::{calls, marks_by_rule, read_maps, Disc, Error, Held, Maps, Open, Record, Refusal};
+use tuormik::{BLANK, DEFECTIVE, NONE, PACKET, PACKET_BYTES, RECORDED, SECTOR};
 use tuormik_second::plain;
 
 const HEAD: &[u8] = b"tuormik sectors\n";
@@ -50,6 +51,7 @@ fn unpack(file: &[u8]) -> Vec<u8> {
 }
 
 /// A disc in memory.
+#[derive(Clone)]
 struct Loaded {
     bytes: Vec<u8>,
     marks: Vec<u8>,
@@ -84,6 +86,33 @@ impl Loaded {
         let (mut table, mut record) = ([0; 4096], [0; 5]);
         Error::check(plain::open(&self.bytes, &self.marks, &self.maps, self.start, self.length, &mut table, &mut record))?;
         Ok(Record::from_numbers(record))
+    }
+
+    /// Opens the disc and spares the packet that begins at logical block b, by both implementations alike; the table then.
+    fn spare(&mut self, b: u32, packet: &[u8]) -> Result<Vec<u32>, Error> {
+        let Loaded { mut bytes, mut marks, maps, start: s, length: l } = self.clone();
+        let (mut table, mut record) = ([0; 4096], [0; 5]);
+        Error::check(plain::open(&bytes, &marks, &maps, s, l, &mut table, &mut record))?;
+        let answer = plain::spare_packet(&mut bytes, &mut marks, &maps, s, l, &mut table, &mut record, b, packet, 0, 0);
+        let mut open = self.open()?;
+        let spared = open.spare_packet(b, packet).map(|()| open.table().to_vec());
+        assert_eq!(spared.as_ref().map(|_| ()).map_err(|e| *e), Error::check(answer), "the plain implementation spares it otherwise");
+        assert!(self.bytes == bytes && self.marks == marks, "the plain implementation leaves another disc");
+        spared
+    }
+
+    fn sector(&self, at: u32) -> &[u8] {
+        &self.bytes[SECTOR * at as usize..][..SECTOR]
+    }
+
+    fn sector_mut(&mut self, at: u32) -> &mut [u8] {
+        &mut self.bytes[SECTOR * at as usize..][..SECTOR]
+    }
+
+    /// Filled up with blank sectors.
+    fn fill_up(&mut self, sectors: usize) {
+        self.bytes.resize(SECTOR * sectors, 0);
+        self.marks.resize(sectors, BLANK);
     }
 }
 
@@ -187,47 +216,252 @@ fn cdr_201_is_refused() {
     assert_eq!(loaded.open().err(), Some(Error::Refused(Refusal::NoTable)));
 }
 
-/// 004 names the sparing table *OSTA UDF Sparing Table, UDF 1.50 and mkudffs *UDF Sparing Table.
-fn rename_tables(loaded: &mut Loaded, tables: [u32; 2]) {
-    for t in tables {
-        let regid = &mut loaded.bytes[SECTOR * t as usize + 16..][..24];
-        assert_eq!(regid, b"\0*UDF Sparing Table\0\0\0\0\0");
-        regid.copy_from_slice(b"\0*OSTA UDF Sparing Table");
-    }
-}
+// ---- rewritable discs
+
+const TAB2: &[u8] = include_bytes!("discs/real-cdrw-1.50-2048-tab2.sectors");
+const TAB2_TABLES: [u32; 2] = [160, 2016];
+
+/// UDF 1.50 and mkudffs name the sparing table *UDF Sparing Table, 004 *OSTA UDF Sparing Table.
+const NEWER: &[u8; 24] = b"\0*UDF Sparing Table\0\0\0\0\0";
+const OLDER: &[u8; 24] = b"\0*OSTA UDF Sparing Table";
 
 fn free_spares(mapped: impl Iterator<Item = u32>) -> Vec<u32> {
     mapped.flat_map(|m| [NONE, m]).collect()
 }
 
-/// No copy has 004's regid, so none counts: line 8. With that regid the disc opens.
-#[test]
-fn cdrw_2048_is_refused_by_its_regid() {
-    let mut loaded = Loaded::new(include_bytes!("discs/real-cdrw-1.50-2048-tab2.sectors"));
-    assert_eq!((loaded.start, loaded.length), (544, 1440));
-    let maps = read_maps(&loaded.maps);
-    assert_eq!(maps, Ok(Maps::Rewritable { partition: 0, table_bytes: 120, tables: vec![160, 2016] }));
-    assert_eq!(loaded.open().err(), Some(Error::Refused(Refusal::NoTable)));
-    rename_tables(&mut loaded, [160, 2016]);
-    let open = loaded.open().expect("it opens");
-    assert_eq!(open.record(), Record { held: Held::Rewritable { entries: 8, sequence: 0 }, passed_over: 0 });
-    assert_eq!(open.table(), free_spares((288..544).step_by(32)));
-    assert_eq!(descriptor_of(&open.read(32).expect("a block"), 32), FILE_SET);
+/// A reader of sparable partitions that goes by UDF 1.50 alone and shares nothing with either implementation. It takes one table as it
+/// stands, with no look at the other copies, the sequence or the tag before the table, and asks for its identifier.
+struct Foreign<'a> {
+    loaded: &'a Loaded,
+    packet: u32,
+    /// original and mapped location
+    entries: Vec<(u32, u32)>,
 }
 
-/// The second table's packet, sectors 992 to 1,023, is not whole on a disc of 1,000: line 6. On a disc of 1,024 it is line 8.
+impl Foreign<'_> {
+    /// By table i of the sparable partition map.
+    fn new(loaded: &Loaded, i: usize) -> Foreign<'_> {
+        let map = &loaded.maps;
+        assert_eq!((map[0], map[1], &map[5..28]), (2, 64, &b"*UDF Sparable Partition"[..]));
+        let (packet, tables) = (u32::from(u16_at(map, 40)), usize::from(map[42]));
+        assert!(i < tables, "the map has no table {i}");
+        let table = loaded.sector(u32_at(map, 48 + 4 * i));
+        assert_eq!((u16_at(table, 0), &table[17..35]), (0, &b"*UDF Sparing Table"[..]), "no sparing table");
+        let entries = table[56..].chunks_exact(8).take(usize::from(u16_at(table, 48)));
+        Foreign { loaded, packet, entries: entries.map(|entry| (u32_at(entry, 0), u32_at(entry, 4))).collect() }
+    }
+
+    /// A logical block: at its packet's mapped location, or in the partition.
+    fn block(&self, b: u32) -> &[u8] {
+        let first = b / self.packet * self.packet;
+        let mapped = self.entries.iter().filter(|entry| entry.0 == first).map(|entry| entry.1).next();
+        self.loaded.sector(mapped.unwrap_or(self.loaded.start + first) + b % self.packet)
+    }
+}
+
+/// Every block of the partition reads as through the foreign reader, by whichever of the tables it goes.
+fn reads_as_foreign(loaded: &mut Loaded) {
+    let as_it_is = loaded.clone();
+    let foreign: Vec<Foreign> = (0..usize::from(as_it_is.maps[42])).map(|i| Foreign::new(&as_it_is, i)).collect();
+    let open = loaded.open().expect("it opens");
+    for b in 0..as_it_is.length {
+        let block = open.read(b).expect("a block");
+        assert!(foreign.iter().all(|reader| reader.block(b) == block), "block {b} reads otherwise");
+    }
+    assert_eq!(open.read(as_it_is.length), Err(Error::Refused(Refusal::NumberOutside)));
+}
+
+/// The packet of a logical block as it reads.
+fn packet_of(loaded: &mut Loaded, first: u32) -> Vec<u8> {
+    let open = loaded.open().expect("it opens");
+    (first..first + PACKET as u32).flat_map(|b| open.read(b).expect("a block")).collect()
+}
+
+/// The disc opens with this record and table.
+fn opens_with(loaded: &mut Loaded, sequence: u32, table: &[u32]) {
+    let open = loaded.open().expect("it opens");
+    assert_eq!(open.record(), Record { held: Held::Rewritable { entries: table.len() as u32 / 2, sequence }, passed_over: 0 });
+    assert_eq!(open.table(), table);
+}
+
+/// It opens as it stands, and the File Set Descriptor, block 32, says so itself.
+#[test]
+fn cdrw_2048_opens() {
+    let mut loaded = Loaded::new(TAB2);
+    assert_eq!((loaded.start, loaded.length), (544, 1440));
+    let maps = read_maps(&loaded.maps);
+    assert_eq!(maps, Ok(Maps::Rewritable { partition: 0, table_bytes: 120, tables: TAB2_TABLES.to_vec() }));
+    for t in TAB2_TABLES {
+        let table = loaded.sector(t);
+        assert_eq!(&table[16..40], NEWER);
+        // the suffix, which is ignored, and the tag, of which 01 asks for the identifier only
+        assert_eq!(table[40..48], [0x50, 1, 4, 5, 0, 0, 0, 0]);
+        assert_eq!((descriptor_of(table, t), u16_at(table, 2)), (0, 2));
+    }
+    opens_with(&mut loaded, 0, &free_spares((288..544).step_by(32)));
+    assert_eq!(descriptor_of(&loaded.open().expect("it opens").read(32).expect("a block"), 32), FILE_SET);
+    reads_as_foreign(&mut loaded);
+}
+
+/// Block 32's packet is spared twice: the first spare turns defective. A reader that goes by UDF 1.50 finds every block after either.
+#[test]
+fn cdrw_2048_is_spared_twice() {
+    let mut loaded = Loaded::new(TAB2);
+    let mut packet = packet_of(&mut loaded, 32);
+    let rest = free_spares((352..544).step_by(32));
+    let expected = [[&[32, 288, NONE, 320][..], &rest].concat(), [&[32, 320, DEFECTIVE, 288][..], &rest].concat()];
+    for (sequence, table) in [1, 2].into_iter().zip(expected) {
+        packet[SECTOR..2 * SECTOR].fill(sequence as u8);
+        assert_eq!(loaded.spare(32, &packet), Ok(table.clone()));
+        opens_with(&mut loaded, sequence, &table);
+        for t in TAB2_TABLES {
+            let copy = loaded.sector(t);
+            assert_eq!((&copy[..16], &copy[16..40], &copy[40..48]), (&[0; 16][..], &NEWER[..], &[0; 8][..]), "table at {t}");
+            assert_eq!((u16_at(copy, 48), u32_at(copy, 52)), (8, sequence), "table at {t}");
+        }
+        reads_as_foreign(&mut loaded);
+        assert!(packet_of(&mut loaded, 32) == packet);
+        assert_eq!(descriptor_of(&loaded.open().expect("it opens").read(32).expect("a block"), 32), FILE_SET);
+    }
+    // the other six go the same way, and then no spare is left
+    for spare in (352..544).step_by(32) {
+        let table = loaded.spare(32, &packet).expect("a spare is free");
+        assert_eq!(table[..2], [32, spare]);
+    }
+    opens_with(
+        &mut loaded,
+        8,
+        &[
+            [32, 512],
+            [DEFECTIVE, 288],
+            [DEFECTIVE, 320],
+            [DEFECTIVE, 352],
+            [DEFECTIVE, 384],
+            [DEFECTIVE, 416],
+            [DEFECTIVE, 448],
+            [DEFECTIVE, 480],
+        ]
+        .concat(),
+    );
+    reads_as_foreign(&mut loaded);
+    assert_eq!(loaded.spare(32, &packet), Err(Error::Refused(Refusal::NoSpare)));
+}
+
+/// The second table's packet, sectors 992 to 1,023, is not whole on a disc of 1,000: line 6. On a disc of 1,024 it opens.
 #[test]
 fn cdrw_1000_is_refused_by_its_last_packet() {
     let mut loaded = Loaded::new(include_bytes!("discs/real-cdrw-1.50-1000-R3.sectors"));
     assert_eq!((loaded.start, loaded.length, loaded.marks.len()), (384, 576, 1000));
     assert_eq!(loaded.open().err(), Some(Error::Refused(Refusal::Misaligned)));
-    loaded.bytes.resize(SECTOR * 1024, 0);
-    loaded.marks.resize(1024, BLANK);
-    assert_eq!(loaded.open().err(), Some(Error::Refused(Refusal::NoTable)));
-    rename_tables(&mut loaded, [160, 992]);
-    let open = loaded.open().expect("it opens");
-    assert_eq!(open.record(), Record { held: Held::Rewritable { entries: 3, sequence: 0 }, passed_over: 0 });
-    assert_eq!(open.table(), free_spares((288..384).step_by(32)));
+    loaded.fill_up(1024);
+    opens_with(&mut loaded, 0, &free_spares((288..384).step_by(32)));
+    reads_as_foreign(&mut loaded);
+}
+
+// ---- what is derived here from an image: no tool made these
+
+/// The disc of two tables with other ones, each with a copy of the table that it has, and other entries and bytes of each table.
+fn derived(tables: &[u32], table_bytes: u32, entries: &[u32]) -> Loaded {
+    let mut loaded = Loaded::new(TAB2);
+    let reach = entries.chunks_exact(2).map(|entry| entry[1]).chain(tables.iter().copied()).max().unwrap_or(0) as usize + PACKET;
+    loaded.fill_up(reach.max(loaded.marks.len()));
+    loaded.maps[42] = tables.len() as u8;
+    loaded.maps[44..48].copy_from_slice(&table_bytes.to_le_bytes());
+    for (to, t) in loaded.maps[48..].chunks_exact_mut(4).zip(tables) {
+        to.copy_from_slice(&t.to_le_bytes());
+    }
+    let mut table = loaded.sector(TAB2_TABLES[0]).to_vec();
+    table[48..50].copy_from_slice(&(entries.len() as u16 / 2).to_le_bytes());
+    table[56..].fill(0);
+    for (to, n) in table[56..].chunks_exact_mut(4).zip(entries) {
+        to.copy_from_slice(&n.to_le_bytes());
+    }
+    for &t in tables {
+        loaded.sector_mut(t).copy_from_slice(&table);
+        loaded.marks[t as usize] = RECORDED;
+    }
+    loaded
+}
+
+/// So many free spares: the image's eight, and then whole packets behind its last sector.
+fn spares(count: u32) -> Vec<u32> {
+    free_spares((288..544).step_by(32).chain((2048..).step_by(32)).take(count as usize))
+}
+
+static PACKET_OF_FIVES: [u8; PACKET_BYTES] = [5; PACKET_BYTES];
+
+/// R of 0, 32 and 249, the most that 2,048 bytes hold. A table of 250 entries is longer than a sector, and its map is of neither kind.
+#[test]
+fn derived_with_other_numbers_of_entries() {
+    for (count, table_bytes) in [(0, 56), (0, 120), (32, 312), (249, 2048)] {
+        let mut loaded = derived(&TAB2_TABLES, table_bytes, &spares(count));
+        opens_with(&mut loaded, 0, &spares(count));
+        reads_as_foreign(&mut loaded);
+        if count == 0 {
+            assert_eq!(loaded.spare(32, &PACKET_OF_FIVES), Err(Error::Refused(Refusal::NoSpare)));
+            continue;
+        }
+        for (sequence, first) in [(1, [32, 288, NONE, 320]), (2, [32, 320, DEFECTIVE, 288])] {
+            let table = [&first, &spares(count)[4..]].concat();
+            assert_eq!(loaded.spare(32, &PACKET_OF_FIVES), Ok(table.clone()));
+            opens_with(&mut loaded, sequence, &table);
+            reads_as_foreign(&mut loaded);
+        }
+    }
+    // one entry more than the bytes of each table hold, in the table or in the map
+    assert_eq!(derived(&TAB2_TABLES, 312, &spares(33)).open().err(), Some(Error::Refused(Refusal::NoTable)));
+    let mut too_long = derived(&TAB2_TABLES, 2056, &spares(249));
+    assert_eq!(read_maps(&too_long.maps), Err(Error::Refused(Refusal::NeitherKind)));
+    assert_eq!(too_long.open().err(), Some(Error::Refused(Refusal::NeitherKind)));
+}
+
+/// With one table a disc opens, and no packet of it is spared; with four all copies are written.
+#[test]
+fn derived_with_one_table_and_with_four() {
+    let mut one = derived(&TAB2_TABLES[..1], 120, &spares(8));
+    opens_with(&mut one, 0, &spares(8));
+    reads_as_foreign(&mut one);
+    assert_eq!(one.spare(32, &PACKET_OF_FIVES), Err(Error::Refused(Refusal::OneTable)));
+    let tables = [160, 2016, 2048, 2080];
+    let mut four = derived(&tables, 120, &spares(8));
+    opens_with(&mut four, 0, &spares(8));
+    reads_as_foreign(&mut four);
+    for (sequence, first) in [(1, [32, 288, NONE, 320]), (2, [32, 320, DEFECTIVE, 288])] {
+        let table = [&first, &spares(8)[4..]].concat();
+        assert_eq!(four.spare(32, &PACKET_OF_FIVES), Ok(table.clone()));
+        opens_with(&mut four, sequence, &table);
+        reads_as_foreign(&mut four);
+        assert!(tables.iter().all(|&t| four.sector(t) == four.sector(160)));
+    }
+}
+
+/// Under 004's identifier the image opens the same, in one copy or in both; with a defective spare such a copy does not count.
+#[test]
+fn derived_with_the_older_identifier() {
+    let defective = [&[DEFECTIVE, 288], &spares(8)[2..]].concat();
+    for older in [&TAB2_TABLES[..1], &TAB2_TABLES[1..], &TAB2_TABLES] {
+        let with_older = |entries: &[u32]| {
+            let mut loaded = derived(&TAB2_TABLES, 120, entries);
+            older.iter().for_each(|&t| loaded.sector_mut(t)[16..40].copy_from_slice(OLDER));
+            loaded
+        };
+        let mut loaded = with_older(&spares(8));
+        opens_with(&mut loaded, 0, &spares(8));
+        assert_eq!(descriptor_of(&loaded.open().expect("it opens").read(32).expect("a block"), 32), FILE_SET);
+        // a sparing renews both
+        loaded.spare(32, &PACKET_OF_FIVES).expect("a spare is free");
+        assert!(TAB2_TABLES.iter().all(|&t| loaded.sector(t)[16..40] == *NEWER));
+        reads_as_foreign(&mut loaded);
+        let mut marked = with_older(&defective);
+        if older.len() == 2 {
+            assert_eq!(marked.open().err(), Some(Error::Refused(Refusal::NoTable)));
+        } else {
+            opens_with(&mut marked, 0, &defective);
+        }
+    }
+    let mut newer = derived(&TAB2_TABLES, 120, &defective);
+    opens_with(&mut newer, 0, &defective);
+    reads_as_foreign(&mut newer);
 }
 
 fn put_number(bytes: &mut Vec<u8>, mut number: usize) {

@@ -1,7 +1,11 @@
-//! Long tables, on which the two implementations must agree: sparing tables with mapped starts far apart, equal ones among them, and VATs
-//! whose files lie in many extents. The random lists of calls have short tables.
+//! Long tables, on which the two implementations must agree: sparing tables with mapped starts far apart, equal ones among them, under both
+//! identifiers and with defective spares, and VATs whose files lie in many extents. The random lists of calls have short tables.
 
-use tuormik::{MOST_ENTRIES, NONE, PACKET, PACKET_BYTES, RECORDED, SECTOR, UNREADABLE};
+#[path = "lists/met.rs"]
+mod met;
+
+use met::Met;
+use tuormik::{DEFECTIVE, MOST_ENTRIES, NONE, PACKET, PACKET_BYTES, RECORDED, SECTOR, UNREADABLE};
 use tuormik_second::layer::{Layer, PLAIN, PROVED};
 use tuormik_second::plain;
 
@@ -48,7 +52,23 @@ impl Lent {
         let at = SECTOR * copy as usize + 56 + 8 * i;
         &mut self.disc[at..at + 8]
     }
+
+    fn set_original(&mut self, copy: u32, i: usize, original: u32) {
+        self.entry(copy, i)[..4].copy_from_slice(&original.to_le_bytes());
+    }
+
+    fn set_name(&mut self, copy: u32, is_older: bool) {
+        self.disc[SECTOR * copy as usize + 17..][..23].copy_from_slice(if is_older { OLDER } else { NEWER });
+    }
+
+    /// The originals of the table that was opened.
+    fn originals(&self) -> impl Iterator<Item = u32> + '_ {
+        self.table.chunks_exact(2).take(self.record[1] as usize).map(|entry| entry[0])
+    }
 }
+
+const NEWER: &[u8; 23] = b"*UDF Sparing Table\0\0\0\0\0";
+const OLDER: &[u8; 23] = b"*OSTA UDF Sparing Table";
 
 fn assert_same(a: &Lent, b: &Lent, what: &str) {
     assert!(a.disc == b.disc, "{what}: the discs differ");
@@ -69,16 +89,26 @@ fn long_sparing_tables_are_read_alike() {
     let mut draw = Draw(20_040_182);
     let mut maps = vec![0; 64];
     assert_eq!((PLAIN.write_maps)(1, 0, SECTOR as u32, &TABLES, &mut maps), 0);
-    let mut met = [0; 12];
+    let (mut met, mut seen) = ([0; 12], Met::default());
     for case in 0..80 {
         let count = [1, 2, 16, 64, 100, 248, 249][draw.below(7)];
         let mut lent = Lent { disc: vec![0; SECTOR * SECTORS], marks: vec![0; SECTORS], table: vec![7; MOST_ENTRIES], record: [9; 5] };
         let made = (PLAIN.make)(&mut lent.disc, &mut lent.marks, &maps, S, L, &spares(count, draw.below(2) == 0));
         assert_eq!(made, 0, "case {case}");
         let mut other = lent.clone();
+        // packets that are spared, then defective spares, then free ones; each copy with an identifier of its own
+        let used: Vec<u32> = (0..L).step_by(PACKET).filter(|_| draw.below(3) == 0).take(count).collect();
+        let defective = [0, 0, 1, count / 2, count - used.len()][draw.below(5)].min(count - used.len());
+        let originals = used.iter().copied().chain(std::iter::repeat_n(DEFECTIVE, defective));
+        for copy in TABLES {
+            originals.clone().enumerate().for_each(|(i, original)| lent.set_original(copy, i, original));
+            lent.set_name(copy, draw.below(3) == 0);
+        }
         for _ in 0..draw.below(4) {
-            let (damage, i, j) = (draw.below(4), draw.below(count), draw.below(count));
+            let (damage, i, j) = (draw.below(6), draw.below(count), draw.below(count));
             let (first, sequence) = (draw.below(4), draw.below(3) as u8);
+            // the last is neither used, defective nor free
+            let original = [DEFECTIVE, NONE, (j % 9 * PACKET) as u32, DEFECTIVE + 1 + j as u32 % 14][draw.below(4)];
             // one copy, or all of them alike
             let copies = if draw.below(3) == 0 { &TABLES[..] } else { &TABLES[first..first + 1] };
             for &copy in copies {
@@ -95,6 +125,8 @@ fn long_sparing_tables_are_read_alike() {
                         lent.entry(copy, j).copy_from_slice(&a);
                     }
                     2 => lent.disc[SECTOR * copy as usize + 52] = sequence,
+                    3 => lent.set_original(copy, i, original),
+                    4 => lent.set_name(copy, i % 2 == 0),
                     _ => lent.marks[copy as usize] = UNREADABLE,
                 }
             }
@@ -108,16 +140,25 @@ fn long_sparing_tables_are_read_alike() {
         if answer != 0 {
             continue;
         }
-        for b in [0, 7] {
+        seen.note("an opening with defective spares", lent.originals().any(|original| original == DEFECTIVE));
+        for b in [0, 7, 0, 7] {
             let packet = vec![b as u8 + 1; PACKET_BYTES];
             let (b, cut) = ((b * PACKET) as u32, draw.below(40) as u32);
             let spare = |layer: &Layer, x: &mut Lent| {
                 (layer.spare_packet)(&mut x.disc, &mut x.marks, &maps, S, L, &mut x.table, &mut x.record, b, &packet, cut, 1)
             };
-            assert_eq!(spare(&PROVED, &mut lent), spare(&PLAIN, &mut other), "case {case}: sparing {b}");
+            let is_spared = lent.originals().any(|original| original == b);
+            let answer = spare(&PROVED, &mut lent);
+            assert_eq!(answer, spare(&PLAIN, &mut other), "case {case}: sparing {b}");
             assert_same(&lent, &other, &format!("case {case}: sparing {b}"));
+            seen.note("a packet spared", answer == 0 && !is_spared);
+            seen.note("a packet spared again", answer == 0 && is_spared);
+            seen.note("a packet spared again, cut before the tables", answer == 255 && is_spared && cut <= 32);
+            seen.note("a packet spared again, cut at the tables", answer == 255 && is_spared && cut > 32);
+            seen.note("a packet spared already, no spare left", answer == 19 && is_spared);
         }
     }
+    seen.all();
     assert!(met[0] > 10 && met[8] > 0 && met[10] > 0, "answers of opening: {met:?}");
 }
 

@@ -275,30 +275,56 @@ fn measure_forecast(sectors: usize, rows: &mut Rows) -> Result<(), String> {
     rows.add("forecast of up to 4,095 new blocks and a commit", measure(&mut world, forecast, |_| ()))
 }
 
-const SPARES: u32 = 64;
-const USED: u32 = 30;
-const TABLES: [u32; 2] = [0, 32];
-const REWRITABLE_START: u32 = PACKET as u32 * (TABLES.len() as u32 + SPARES);
+/// The spares of a rewritable disc: how many there are, how many of them are used and defective, and what its rows are called by.
+struct Spares {
+    all: u32,
+    used: u32,
+    defective: u32,
+    called: &'static str,
+}
 
-/// A rewritable disc with 64 spares, of which 30 are used.
-fn rewritable(sectors: usize) -> Result<World, String> {
-    let l = (sectors as u32 - REWRITABLE_START) / PACKET as u32 * PACKET as u32;
+const SPARES: Spares = Spares { all: 64, used: 30, defective: 0, called: "" };
+/// As many as a table of 2,048 bytes holds.
+const MOST_SPARES: Spares = Spares { all: 249, used: 120, defective: 8, called: ", 249 entries" };
+
+const TABLES: [u32; 2] = [0, 32];
+
+impl Spares {
+    /// The sectors before the partition: the packets of the tables and of the spares.
+    fn start(&self) -> u32 {
+        PACKET as u32 * (TABLES.len() as u32 + self.all)
+    }
+
+    /// The first block of the packet that is measured, which is not spared: the one after the next.
+    fn unspared(&self) -> u32 {
+        PACKET as u32 * (self.used + 1)
+    }
+
+    /// Whether a disc of so many sectors has room for them and for the packets that are measured.
+    fn fit(&self, sectors: usize) -> bool {
+        (self.start() + self.unspared()) as usize + PACKET <= sectors
+    }
+}
+
+/// A rewritable disc with so many spares: the first packets are spared, as many as are used, and as many of these as are defective once more.
+fn rewritable(sectors: usize, spared: &Spares) -> Result<World, String> {
+    let l = (sectors as u32 - spared.start()) / PACKET as u32 * PACKET as u32;
     let mut world = World {
         disc: vec![0; SECTOR * sectors],
         marks: vec![RECORDED; sectors],
         maps: vec![0; 64],
-        s: REWRITABLE_START,
+        s: spared.start(),
         l,
         table: vec![0; MOST_ENTRIES],
         record: [0; 5],
     };
     plain::write_maps(1, 0, 2048, &TABLES, &mut world.maps);
-    let spares: Vec<u32> = (0..SPARES).map(|i| PACKET as u32 * (TABLES.len() as u32 + i)).collect();
+    let spares: Vec<u32> = (0..spared.all).map(|i| PACKET as u32 * (TABLES.len() as u32 + i)).collect();
     fill(&mut world.disc);
     let World { disc, marks, maps, s, l, table, record } = &mut world;
     let mut answers = vec![plain::make(disc, marks, maps, *s, *l, &spares), plain::open(disc, marks, maps, *s, *l, table, record)];
     let packet = vec![0x33; PACKET_BYTES];
-    for i in 0..USED {
+    for i in (0..spared.used).chain(0..spared.defective) {
         answers.push(plain::spare_packet(disc, marks, maps, *s, *l, table, record, PACKET as u32 * i, &packet, 0, 0));
     }
     match answers.iter().find(|answer| **answer != 0) {
@@ -307,25 +333,28 @@ fn rewritable(sectors: usize) -> Result<World, String> {
     }
 }
 
-fn measure_rewritable(sectors: usize, rows: &mut Rows) -> Result<(), String> {
+fn measure_rewritable(sectors: usize, spared: &Spares, rows: &mut Rows) -> Result<(), String> {
+    if !spared.fit(sectors) {
+        return Ok(());
+    }
     let nothing = |_: &mut World| ();
-    let mut world = rewritable(sectors)?;
+    let mut world = rewritable(sectors, spared)?;
+    let (b, called) = (spared.unspared(), spared.called);
     let (table, record) = (world.table.clone(), world.record);
     let copies: Vec<Vec<u8>> = TABLES.iter().map(|&t| world.disc[SECTOR * t as usize..][..SECTOR].to_vec()).collect();
     let block = [0x44; SECTOR];
     let packet = vec![0x55; PACKET_BYTES];
-    rows.add("open, rewritable", measure(&mut world, open, nothing))?;
-    rows.add("read, rewritable", measure(&mut world, |y, w| read(y, w, 33), nothing))?;
+    rows.add(&format!("open, rewritable{called}"), measure(&mut world, open, nothing))?;
+    rows.add(&format!("read, rewritable{called}"), measure(&mut world, |y, w| read(y, w, 33), nothing))?;
     let save = |y: &Layer, w: &mut World| {
-        (y.save_block)(&mut w.disc, &mut w.marks, &w.maps, w.s, w.l, &w.table, &mut w.record, 1000, &block, 0, 0)
+        (y.save_block)(&mut w.disc, &mut w.marks, &w.maps, w.s, w.l, &w.table, &mut w.record, b + 8, &block, 0, 0)
     };
-    rows.add("save_block", measure(&mut world, save, nothing))?;
-    let save = |y: &Layer, w: &mut World| {
-        (y.save_packet)(&mut w.disc, &mut w.marks, &w.maps, w.s, w.l, &w.table, &mut w.record, 992, &packet, 0, 0)
-    };
-    rows.add("save_packet", measure(&mut world, save, nothing))?;
-    let spare = |y: &Layer, w: &mut World| {
-        (y.spare_packet)(&mut w.disc, &mut w.marks, &w.maps, w.s, w.l, &mut w.table, &mut w.record, 992, &packet, 0, 0)
+    rows.add(&format!("save_block{called}"), measure(&mut world, save, nothing))?;
+    let save =
+        |y: &Layer, w: &mut World| (y.save_packet)(&mut w.disc, &mut w.marks, &w.maps, w.s, w.l, &w.table, &mut w.record, b, &packet, 0, 0);
+    rows.add(&format!("save_packet{called}"), measure(&mut world, save, nothing))?;
+    let spare = |y: &Layer, w: &mut World, b: u32| {
+        (y.spare_packet)(&mut w.disc, &mut w.marks, &w.maps, w.s, w.l, &mut w.table, &mut w.record, b, &packet, 0, 0)
     };
     let undo = |w: &mut World| {
         for (&t, copy) in TABLES.iter().zip(&copies) {
@@ -334,7 +363,10 @@ fn measure_rewritable(sectors: usize, rows: &mut Rows) -> Result<(), String> {
         w.table.copy_from_slice(&table);
         w.record = record;
     };
-    rows.add("spare_packet", measure(&mut world, spare, undo))
+    rows.add(&format!("spare_packet{called}"), measure(&mut world, |y, w| spare(y, w, b), undo))?;
+    // the packet in the middle of those that are spared
+    let again = PACKET as u32 * (spared.used / 2);
+    rows.add(&format!("spare_packet, spared already{called}"), measure(&mut world, |y, w| spare(y, w, again), undo))
 }
 
 /// On a disc so small that nothing else counts: a block to save whose tag is right, so that its CRC is tested.
@@ -459,7 +491,8 @@ fn run(sizes: &[usize]) -> Result<(), String> {
         eprintln!("{} sectors", grouped(sectors));
         rows.column = i;
         measure_once(sectors, &mut rows)?;
-        measure_rewritable(sectors, &mut rows)?;
+        measure_rewritable(sectors, &SPARES, &mut rows)?;
+        measure_rewritable(sectors, &MOST_SPARES, &mut rows)?;
     }
     let (crc, crcs) = (measure_crc()?, measure_all_crcs()?);
     print_tables(sizes, &rows, crc);

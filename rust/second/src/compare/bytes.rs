@@ -1,7 +1,7 @@
 //! Random numbers, and bytes that a few numbers tell: blocks, ICBs and copies of a sparing table, right or forged.
 
 use crate::plain;
-use tuormik::{MOST_ENTRIES, NONE, SECTOR};
+use tuormik::{DEFECTIVE, MOST_ENTRIES, NONE, SECTOR};
 
 /// A random sequence (splitmix64), given by its seed.
 #[derive(Clone)]
@@ -216,9 +216,33 @@ pub fn mend_checksum(sector: &mut [u8]) {
     sector[4] = sector[..16].iter().fold(0, |sum: u8, &b| sum.wrapping_add(b));
 }
 
+/// The identifier of a copy.
+#[derive(Clone, Copy, Debug, PartialEq)]
+pub enum Name {
+    Newer,
+    Older,
+}
+
+impl Name {
+    /// As 23 bytes filled with zeros.
+    fn bytes(self) -> &'static [u8; 23] {
+        match self {
+            Name::Newer => b"*UDF Sparing Table\0\0\0\0\0",
+            Name::Older => b"*OSTA UDF Sparing Table",
+        }
+    }
+
+    /// The one that a sector has, if it has one.
+    pub fn of(sector: &[u8]) -> Option<Name> {
+        [Name::Newer, Name::Older].into_iter().find(|name| sector[16] == 0 && sector[17..40] == *name.bytes())
+    }
+}
+
 /// A copy of a sparing table.
 #[derive(Clone, Debug)]
 pub struct Copy {
+    pub name: Name,
+    pub suffix: u8,
     pub sequence: u32,
     /// original and mapped
     pub entries: Vec<(u32, u32)>,
@@ -228,7 +252,8 @@ pub struct Copy {
 impl Copy {
     pub fn make(&self) -> [u8; SECTOR] {
         let mut copy = [0; SECTOR];
-        copy[17..40].copy_from_slice(b"*OSTA UDF Sparing Table");
+        copy[17..40].copy_from_slice(self.name.bytes());
+        copy[40..48].fill(self.suffix);
         copy[48..50].copy_from_slice(&(self.entries.len() as u16).to_le_bytes());
         copy[52..56].copy_from_slice(&self.sequence.to_le_bytes());
         for (to, (original, mapped)) in copy[56..].chunks_exact_mut(8).zip(&self.entries) {
@@ -244,7 +269,11 @@ impl Copy {
         let word = |at: usize| u32::from_le_bytes([sector[at], sector[at + 1], sector[at + 2], sector[at + 3]]);
         let count = usize::from(u16::from_le_bytes([sector[48], sector[49]])).min((SECTOR - 56) / 8);
         let entries = (0..count).map(|i| (word(56 + 8 * i), word(60 + 8 * i))).collect();
-        Copy { sequence: word(52), entries, twist: None }
+        Copy { name: Name::of(sector).unwrap_or(Name::Newer), suffix: 0, sequence: word(52), entries, twist: None }
+    }
+
+    pub fn has_defective(&self) -> bool {
+        self.entries.iter().any(|entry| entry.0 == DEFECTIVE)
     }
 }
 

@@ -1,10 +1,11 @@
 //! Which steps a case takes: drawn at random, by what the disc has come to.
 
-use super::bytes::{Allocation, Bytes, Copy, Entries, File, Icb, Random, Twist, COUNTS};
+use super::bytes::{Allocation, Bytes, Copy, Entries, File, Icb, Name, Random, Twist, COUNTS};
 use super::step::{Call, Fail, Odd, Start, Step, World};
+use super::tables::RESERVED;
 use crate::plain;
 use std::collections::VecDeque;
-use tuormik::{BLANK, COMMIT, MOST_ENTRIES, NONE, PACKET, PACKET_BYTES, SECTOR, UNREADABLE};
+use tuormik::{BLANK, COMMIT, DEFECTIVE, MOST_ENTRIES, NONE, PACKET, PACKET_BYTES, SECTOR, UNREADABLE};
 
 /// What a case is drawn by.
 pub struct Drawer {
@@ -23,10 +24,25 @@ impl Drawer {
         if !random.once_in(12) {
             drawer.queue.push_back(Step::Call(Call::Make { spares: drawer.spares.clone() }));
         }
+        if random.once_in(3) {
+            drawer.made_by_others(random);
+        }
         if !random.once_in(12) {
             drawer.queue.push_back(Step::Call(Call::Open));
         }
         drawer
+    }
+
+    /// The tables of a disc that another writer made: each copy with an identifier and a suffix of its own.
+    fn made_by_others(&mut self, random: &mut Random) {
+        let entries: Vec<(u32, u32)> = self.spares.iter().map(|&spare| (NONE, spare)).collect();
+        let same = random.once_in(3).then(|| name(random));
+        for &t in &self.tables {
+            let name = same.unwrap_or_else(|| name(random));
+            let (suffix, sequence) = (random.pick(&[0, 0, 1, 255]), random.pick(&[0, 0, 0, 1]));
+            let copy = Copy { name, suffix, sequence, entries: entries.clone(), twist: None };
+            self.queue.push_back(Step::PutCopy { sector: t as usize, copy });
+        }
     }
 
     pub fn start(&self) -> &Start {
@@ -62,6 +78,7 @@ impl Drawer {
             }
             5 => Step::Call(self.run(random, world)),
             6 => Step::Call(Call::Open),
+            7 if !self.is_once() => self.sparings(random, world),
             _ => Step::Call(self.call(random, world)),
         }
     }
@@ -139,6 +156,22 @@ impl Drawer {
             0 => random.odd_number(world.l),
             _ => random.below(world.l.div_ceil(PACKET as u32)) * PACKET as u32,
         }
+    }
+
+    /// One packet spared over and over, mostly one that has an entry, and its blocks read.
+    fn sparings(&mut self, random: &mut Random, world: &World) -> Step {
+        let entries = world.table[..2 * world.record[1].min(MOST_ENTRIES as u32 / 2) as usize].chunks_exact(2);
+        let spared: Vec<u32> = entries.map(|entry| entry[0]).filter(|&original| original < world.l).collect();
+        let b = if spared.is_empty() || random.once_in(4) { self.packet_number(random, world) } else { random.pick(&spared) };
+        for _ in 0..random.between(1, 3) {
+            let fail = if random.once_in(2) { Fail { at: 0, effect: 0 } } else { self.sparing_fail(random) };
+            self.queue.push_back(Step::Call(Call::SparePacket { b, packet: packet(random), fail }));
+            if fail.at != 0 || random.once_in(4) {
+                self.queue.push_back(Step::Call(Call::Open));
+            }
+            self.queue.push_back(Step::Call(Call::Read { number: b | random.below(PACKET as u32) }));
+        }
+        self.queue.pop_front().unwrap_or(Step::Call(Call::Open))
     }
 
     fn sparing_fail(&self, random: &mut Random) -> Fail {
@@ -437,10 +470,12 @@ impl Drawer {
             _ => {
                 let mut copy = Copy::of(held);
                 self.forge(random, world, &mut copy);
-                // on one table, or on all of them
+                // on one table, or on all of them, at times each under an identifier of its own
                 if random.once_in(2) {
+                    let is_mixed = random.once_in(2);
                     for &t in &self.tables {
-                        self.queue.push_back(Step::PutCopy { sector: t as usize, copy: copy.clone() });
+                        let name = if is_mixed { name(random) } else { copy.name };
+                        self.queue.push_back(Step::PutCopy { sector: t as usize, copy: Copy { name, ..copy.clone() } });
                     }
                 } else {
                     self.queue.push_back(Step::PutCopy { sector: table, copy });
@@ -473,7 +508,7 @@ impl Drawer {
     fn forge(&self, random: &mut Random, world: &World, copy: &mut Copy) {
         copy.entries.truncate(300);
         let i = random.below(copy.entries.len() as u32) as usize;
-        match random.below(10) {
+        match random.below(16) {
             0 => copy.sequence = random.pick(&[0, 1, u32::MAX - 1, u32::MAX]),
             1 => copy.sequence = copy.sequence.wrapping_add(random.between(0, 2)).wrapping_sub(1),
             2 if !copy.entries.is_empty() => {
@@ -494,16 +529,34 @@ impl Drawer {
             6 => copy.entries.push((NONE, random.below(world.marks.len() as u32 / PACKET as u32) * PACKET as u32)),
             7 => copy.entries.resize(random.pick(&[0, 1, 200, 249, 250, 300]), (NONE, 0)),
             8 => copy.twist = Some(Twist { at: random.below(56) as usize, by: 1 << random.below(8) }),
-            _ => {
-                // some packets spared, sorted
-                let packets = world.l / PACKET as u32;
-                let mut from = 0;
-                for entry in &mut copy.entries {
-                    from += random.below(3);
-                    entry.0 = if from < packets { from * PACKET as u32 } else { NONE };
-                    from += 1;
+            9 if !copy.entries.is_empty() => copy.entries[i].0 = DEFECTIVE,
+            10 if !copy.entries.is_empty() => copy.entries[i].0 = random.between(*RESERVED.start(), *RESERVED.end()),
+            11 => {
+                // entries in their order, but for two neighbours or one that is reserved
+                some_spared(random, world, copy);
+                let count = copy.entries.len();
+                if count > 1 && random.once_in(2) {
+                    copy.entries.swap(i.min(count - 2), i.min(count - 2) + 1);
+                } else if let Some(entry) = copy.entries.get_mut(i) {
+                    entry.0 = random.pick(&[*RESERVED.start(), *RESERVED.end(), DEFECTIVE - 1, DEFECTIVE - 16]);
                 }
             }
+            12 => {
+                // the older identifier with a defective spare, above all others
+                some_spared(random, world, copy);
+                if let Some(entry) = copy.entries.iter_mut().rfind(|entry| entry.0 == NONE) {
+                    entry.0 = DEFECTIVE;
+                    copy.entries.sort_by_key(|entry| entry.0);
+                }
+                copy.name = Name::Older;
+                copy.sequence = copy.sequence.saturating_add(random.between(1, 3));
+                return;
+            }
+            13 => copy.suffix = random.next() as u8,
+            _ => some_spared(random, world, copy),
+        }
+        if random.once_in(3) {
+            copy.name = name(random);
         }
         if random.once_in(3) {
             copy.sequence = copy.sequence.wrapping_add(1);
@@ -593,6 +646,31 @@ fn fail(random: &mut Random, writes: u32) -> Fail {
     Fail { at, effect }
 }
 
+/// An identifier of a copy.
+fn name(random: &mut Random) -> Name {
+    random.pick(&[Name::Newer, Name::Older])
+}
+
+/// Some packets spared and some spares defective, in their order.
+fn some_spared(random: &mut Random, world: &World, copy: &mut Copy) {
+    let packets = world.l / PACKET as u32;
+    let defective = random.pick(&[0, 0, 1, 1, 2]);
+    let mut from = 0;
+    let mut left = defective;
+    for entry in &mut copy.entries {
+        from += random.below(3);
+        entry.0 = if from < packets {
+            from * PACKET as u32
+        } else if left > 0 {
+            left -= 1;
+            DEFECTIVE
+        } else {
+            NONE
+        };
+        from += 1;
+    }
+}
+
 fn packet(random: &mut Random) -> Bytes {
     Bytes::Noise { seed: random.next(), length: PACKET_BYTES }
 }
@@ -667,7 +745,7 @@ fn once(random: &mut Random) -> Drawer {
 fn rewritable(random: &mut Random) -> Drawer {
     let packets = random.between(1, 3);
     let count = random.pick(&[1usize, 2, 2, 2, 3, 4]);
-    let spares = random.below(4) as usize;
+    let spares = random.pick(&[0usize, 1, 2, 3, 3, 4]);
     let others = (count + spares) as u32 + random.below(2);
     let before = random.below(others + 1);
     let mut places: Vec<u32> = (0..others).map(|i| PACKET as u32 * if i < before { i } else { i + packets }).collect();

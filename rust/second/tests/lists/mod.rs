@@ -1,5 +1,6 @@
 //! Random lists of calls, the discs that they are run on, and the plain store of document 01 ("The plain store"), which document 02,
-//! slip 5, gives blank as a fourth reading. It is fed each call's arguments and cut and whether the call was accepted.
+//! slip 5, gives blank as a fourth reading. It is fed each call's arguments and cut and whether the call was accepted. A sparing is done or
+//! not by the same rule where its packet is spared already (document 02, slip 1).
 
 mod random;
 mod sizes;
@@ -103,7 +104,10 @@ impl Store {
             let entries = &world.table[..world.record[1] as usize];
             entries.iter().map(|&entry| if entry == NONE { Slot::Unused } else { sector(world.s + entry) }).collect()
         } else {
-            (0..world.l).map(|b| sector(world.s + b)).collect()
+            let entries = || world.table[..2 * world.record[1] as usize].chunks_exact(2);
+            let start = |packet: u32| entries().find(|entry| entry[0] == packet).map_or(world.s + packet, |entry| entry[1]);
+            let within = |b: u32| b % PACKET as u32;
+            (0..world.l).map(|b| sector(start(b - within(b)) + within(b))).collect()
         };
         Store { is_once, copy: blocks.clone(), blocks }
     }
