@@ -5,7 +5,8 @@
 Compared with crates/capi/src/lib.rt, function by function: the name, each parameter's name, place and type, whether what a pointer
 points to may be written, and what is returned. A lent slice of the source is a pointer and a length there. Compared with
 crates/refusal/src/lib.rt: the name and number of every refusal, and the order in which they are tested; with the crates that have them:
-the numbers of answers, kinds, effects, calls and lengths. And the header's version is the Rust package's.
+the numbers of answers, kinds, effects, calls and lengths, and the originals of a free and of a defective spare, these in Rust too. And the
+header's version is the Rust package's.
 
 It also tries itself: each of the wrong copies below, one slip away from the files as they are, has to be told from them.
 """
@@ -21,11 +22,13 @@ ANSWERS = "crates/call_numbers/src/lib.rt"
 LISTS = "crates/call_lists/src/lib.rt"
 CALLS = "crates/list_step/src/lib.rt"
 ITEMS = "crates/once_forecast/src/lib.rt"
+ENTRIES = "crates/sparing_copy/src/lib.rt"
 HEADER = "include/tuormik.h"
 DECLARED = "rust/src/ffi.rs"
 RUST_REFUSALS = "rust/src/refusal.rs"
+RUST_NUMBERS = "rust/src/lib.rs"
 PACKAGE = "rust/Cargo.toml"
-FILES = (SOURCE, REFUSALS, SHARED, ANSWERS, LISTS, CALLS, ITEMS, HEADER, DECLARED, RUST_REFUSALS, PACKAGE)
+FILES = (SOURCE, REFUSALS, SHARED, ANSWERS, LISTS, CALLS, ITEMS, ENTRIES, HEADER, DECLARED, RUST_REFUSALS, RUST_NUMBERS, PACKAGE)
 
 # constants of a source, and what they are called in the header
 CONSTANTS = {
@@ -48,6 +51,7 @@ CONSTANTS = {
         "FORECAST": "FORECAST_LENGTH",
     },
     ITEMS: {"COMMIT": "ITEM_COMMIT"},
+    ENTRIES: {"FREE": "NONE", "DEFECTIVE": "DEFECTIVE"},
     LISTS: {"VOLUME": "MAPS_RESULT_LENGTH"},
     CALLS: {
         "SAVE_VIRTUAL": "CALL_SAVE_VIRTUAL",
@@ -59,6 +63,9 @@ CONSTANTS = {
         "OPEN": "CALL_OPEN",
     },
 }
+
+# constants of the header that Rust has under the same name
+IN_RUST = ("NONE", "DEFECTIVE")
 
 # parameters that the source calls otherwise than the header does
 RENAMED = {"kept": "record", "at": "cut_at", "effect": "cut_effect", "size": "table_bytes"}
@@ -204,7 +211,7 @@ def in_header(refusals):
 
 
 def order_in_words(refusals):
-    """The numbers in their order, those that follow on each other as one run: 1 to 13, 25, 14 to 21."""
+    """The numbers in their order, those that follow on each other as one run: 1 to 13, 25, 14 to 17, 19 to 21."""
     runs = []
     for number in refusals.values():
         if runs and number == runs[-1][1] + 1:
@@ -261,6 +268,11 @@ def constants_of_header(text, names):
     return {name: int(number, 0) for name, number in found.items() if name in names}
 
 
+def constants_of_rust(text):
+    found = dict(re.findall(r"^pub const (\w+): u32 = (0x[0-9a-f_]+|u32::MAX);$", text, flags=re.M))
+    return {name: 0xffffffff if found[name] == "u32::MAX" else int(found[name], 0) for name in IN_RUST if name in found}
+
+
 def version_of_header(text):
     found = re.search(r'^#define TUORMIK_VERSION "(.*)"$', text, flags=re.M)
     return found.group(1) if found else None
@@ -304,6 +316,7 @@ def compare(files):
                         % (HEADER, order_of_header(files[HEADER]), order_in_words(refusals)))
         constants = constants_of_source(files)
         said += differences(constants, constants_of_header(files[HEADER], constants), HEADER)
+        said += differences({name: constants[name] for name in IN_RUST}, constants_of_rust(files[RUST_NUMBERS]), RUST_NUMBERS)
         said += ["%s: %s has no text" % (HEADER, name) for name in sorted(set(in_header(refusals)) - texts_of_header(files[HEADER]))]
         versions = version_of_header(files[HEADER]), version_of_package(files[PACKAGE])
         if versions[0] is None or versions[0] != versions[1]:
@@ -345,8 +358,13 @@ SLIPS = [
     (HEADER, "#define TUORMIK_BLANK_SECTOR 25u\n#define TUORMIK_NOT_RECORDED 14u\n",
      "#define TUORMIK_NOT_RECORDED 14u\n#define TUORMIK_BLANK_SECTOR 25u\n"),
     (HEADER, "#define TUORMIK_NOT_RECORDED 14u\n", "#define TUORMIK_UNREADABLE_SECTOR 14u\n"),
-    (HEADER, "in this order: 1 to 13, 25, 14 to 21.", "in this order: 1 to 14, 25, 15 to 21."),
-    (HEADER, "in this order: 1 to 13, 25, 14 to 21.", "in the order of their numbers."),
+    (HEADER, "in this order: 1 to 13, 25, 14 to 17, 19 to 21.", "in this order: 1 to 14, 25, 15 to 17, 19 to 21."),
+    (HEADER, "in this order: 1 to 13, 25, 14 to 17, 19 to 21.", "in this order: 1 to 13, 25, 14 to 21."),
+    (HEADER, "in this order: 1 to 13, 25, 14 to 17, 19 to 21.", "in the order of their numbers."),
+    (HEADER, "#define TUORMIK_NO_SPARE 19u\n", "#define TUORMIK_ALREADY_SPARED 18u\n#define TUORMIK_NO_SPARE 19u\n"),
+    (HEADER, "#define TUORMIK_DEFECTIVE 0xfffffff0u", "#define TUORMIK_DEFECTIVE 0xfffffff1u"),
+    (HEADER, "#define TUORMIK_DEFECTIVE 0xfffffff0u", "#define TUORMIK_BROKEN 0xfffffff0u"),
+    (HEADER, "#define TUORMIK_NONE 0xffffffffu", "#define TUORMIK_NONE 0xfffffff0u"),
     (HEADER, "#define TUORMIK_EFFECT_UNREADABLE 1u", "#define TUORMIK_EFFECT_UNREADABLE 2u"),
     (HEADER, "#define TUORMIK_RECORD_LAST 3", "#define TUORMIK_RECORD_LAST 2"),
     (HEADER, "#define TUORMIK_CALL_COMMIT 2u\n", ""),
@@ -378,12 +396,15 @@ SLIPS = [
     (REFUSALS, "    NoRoom,\n", ""),
     (SHARED, "const CUT: u32 = 255;", "const CUT: u32 = 254;"),
     (ITEMS, "const COMMIT: u32 = 0x80000000;", "const COMMIT: u32 = 0x80000001;"),
+    (ENTRIES, "const DEFECTIVE: u32 = 0xfffffff0;", "const DEFECTIVE: u32 = 0xfffffffe;"),
     (HEADER, "#define TUORMIK_FORECAST_LENGTH 3u", "#define TUORMIK_FORECAST_LENGTH 2u"),
     (CALLS, "const SAVE_PACKET: u32 = 4;", "const SAVE_PACKET: u32 = 5;"),
     (RUST_REFUSALS, "    OneTable,\n", "    OneSparingTable,\n"),
     (RUST_REFUSALS, "    OneTable,\n", ""),
     (RUST_REFUSALS, "(OneTable, 17,", "(OneSparingTable, 17,"),
     (RUST_REFUSALS, "(OneTable, 17,", "(OneTable, 18,"),
+    (RUST_NUMBERS, "pub const DEFECTIVE: u32 = 0xffff_fff0;", "pub const DEFECTIVE: u32 = 0xffff_ff0f;"),
+    (RUST_NUMBERS, "pub const DEFECTIVE: u32", "pub const BROKEN: u32"),
 ]
 
 

@@ -9,7 +9,8 @@
  *   marks    one byte a sector: 0 blank, 1 recorded, 2 unreadable
  *   maps     the map list of the logical volume descriptor, which tells the kind of the volume
  *   s, l     the partition's first sector S and its number of sectors L
- *   table    at least 4,096 numbers: the entries of the VAT, or original and mapped by turns of the sparing table
+ *   table    at least 4,096 numbers: the entries of the VAT, or original and mapped by turns of the sparing table, its entries in
+ *            this order: packets that are spared, by their first blocks, then defective spares, then free ones
  *   record   5 numbers, as below
  *
  * A slice is a pointer and the number of its elements. A slice through a pointer to const is never written.
@@ -18,9 +19,9 @@
  * type and has as many elements behind it as the length says; and no two lent slices of one call overlap where one of them may be
  * written.
  *
- * Every call returns a number: 0 (TUORMIK_DONE), a refusal (its line: 1 to 21, or 25), or 255 (TUORMIK_CUT) where the power failed in it.
- * Refusals are tested in this order: 1 to 13, 25, 14 to 21. The first that applies is returned, and nothing lent has changed. The functions
- * of the CRC return its value and refuse nothing. Every call returns, whatever it is lent.
+ * Every call returns a number: 0 (TUORMIK_DONE), a refusal (its line: 1 to 17, 19 to 21, or 25), or 255 (TUORMIK_CUT) where the power
+ * failed in it. Refusals are tested in this order: 1 to 13, 25, 14 to 17, 19 to 21. The first that applies is returned, and nothing lent
+ * has changed. The functions of the CRC return its value and refuse nothing. Every call returns, whatever it is lent.
  *
  * The layer has no variables of its own and allocates nothing: all that a call reads or writes is lent to it, but for at most
  * TUORMIK_STACK bytes of stack. It calls nothing but the C library's functions on memory (memcpy and its like). Nothing has to be begun
@@ -68,7 +69,7 @@ extern "C" {
 #define TUORMIK_PASSES_AS_ICB 15u
 #define TUORMIK_NO_ROOM 16u
 #define TUORMIK_ONE_TABLE 17u
-#define TUORMIK_ALREADY_SPARED 18u
+/* 18 is no longer given: a packet that is spared already can be spared again (02, slip 1). */
 #define TUORMIK_NO_SPARE 19u
 #define TUORMIK_LAST_SEQUENCE 20u
 #define TUORMIK_NOT_BLANK 21u
@@ -118,8 +119,6 @@ static inline const char *tuormik_refusal_text(uint32_t number) {
         return "The partition has no room for this and a commit after it.";
     case TUORMIK_ONE_TABLE:
         return "Sparing with one table only.";
-    case TUORMIK_ALREADY_SPARED:
-        return "The packet is already spared.";
     case TUORMIK_NO_SPARE:
         return "No entry of the sparing table is free.";
     case TUORMIK_LAST_SEQUENCE:
@@ -153,7 +152,8 @@ static inline const char *tuormik_refusal_text(uint32_t number) {
 #define TUORMIK_PACKET_BYTES 65536u
 #define TUORMIK_MOST_SECTORS 1048576u /* sectors that a disc has at most */
 #define TUORMIK_TABLE_LENGTH 4096u    /* places that a lent table has at least */
-#define TUORMIK_NONE 0xffffffffu      /* an unused entry; no previous ICB; a free spare */
+#define TUORMIK_NONE 0xffffffffu      /* an unused entry; no previous ICB; as an original, a free spare */
+#define TUORMIK_DEFECTIVE 0xfffffff0u /* as an original, a defective spare, which is not used again */
 #define TUORMIK_STACK 8192u           /* bytes of stack that a call takes at most */
 
 /* ---- the record: TUORMIK_RECORD_LENGTH numbers, filled by an opening and kept up by the calls after it */
@@ -185,8 +185,11 @@ static inline const char *tuormik_refusal_text(uint32_t number) {
 
 /*
  * Opens the disc. Write-once: goes down from the last sector of the partition that is not blank to the first VAT ICB. Rewritable: takes
- * the current sparing table.
- * Leaves: the table filled from its start, places beyond kept; the record. The disc is only read.
+ * the current sparing table. Its copies are read by either identifier, also side by side: *UDF Sparing Table, the newer one (UDF 1.50), and
+ * *OSTA UDF Sparing Table, the older one (CD UDF 1.82). A copy with the older one and a defective spare does not count: only the newer one
+ * knows that mark.
+ * Leaves: the table filled from its start, places beyond kept; the record. An original of the sparing table is the first logical block of a
+ * packet, TUORMIK_DEFECTIVE or TUORMIK_NONE. The disc is only read.
  * Refuses: 1 to 6, 8, 9 (write-once), 10 (rewritable).
  * Passed over (TUORMIK_RECORD_PASSED): rewritable: 0. Write-once: how many sectors lie between that VAT ICB and NWA, which is 0 exactly if
  * the partition's last sector that is not blank is a VAT ICB. Wherever the power failed in the calls before, it is at most the number of
@@ -217,8 +220,8 @@ uint32_t tuormik_read(const uint8_t *disc, size_t disc_length,
 
 /*
  * Makes a disc: a blank write-once partition gets an empty VAT (1 sector); a rewritable one gets packets of zeros, the free spares whose
- * packets begin at the sectors `spares`, and tables of sequence 0. On a write-once disc the spares are not looked at. It hands back no
- * record: open the disc after it.
+ * packets begin at the sectors `spares`, and tables of sequence 0 with the newer identifier, *UDF Sparing Table. On a write-once disc the
+ * spares are not looked at. It hands back no record: open the disc after it.
  * Leaves: disc and marks written.
  * Refuses: 1, 2, 4, 5, 6 (rewritable), 21 (write-once).
  */
@@ -348,9 +351,13 @@ uint32_t tuormik_save_packet(uint8_t *disc, size_t disc_length,
 
 /*
  * Spares the packet that begins at logical block b: 65,536 bytes are written upward to the free spare of lowest index, then the new
- * table, of sequence plus 1, to every copy: those that were not current first, then the others, each in map order.
+ * table, of sequence plus 1, to every copy: those that were not current first, then the others, each in map order. Each copy gets the newer
+ * identifier, *UDF Sparing Table, whichever it had.
+ * A packet that is spared already can be spared again, as often as a spare is free: its entry turns defective (its original becomes
+ * TUORMIK_DEFECTIVE), the last of those that are, and the packet takes the free spare. A defective spare is never free again.
+ * Cut, the sparing is done exactly if a new copy of the table is whole, which is so where write 33 is.
  * Leaves: disc and marks written; the new table in the lent one, places beyond kept; the record.
- * Refuses: 1 to 8, 10 to 12, 17 to 20.
+ * Refuses: 1 to 8, 10 to 12, 17, 19 (also where the packet has a spare of its own), 20.
  */
 uint32_t tuormik_spare_packet(uint8_t *disc, size_t disc_length,
                               uint8_t *marks, size_t marks_length,

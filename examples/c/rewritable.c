@@ -1,7 +1,8 @@
 /*
  * A rewritable disc in memory: made with two sparing tables and two spares, saved to and spared; then the power is cut in a sparing and
- * in a save, the disc is opened after each, and the packet that the save hurt is saved whole again. At last a sector that was never
- * recorded is told from one that cannot be read.
+ * in a save, the disc is opened after each, and the packet that the save hurt is saved whole again. The spared packet is spared a second
+ * time, its first spare turns defective, and no spare is left. At last a sector that was never recorded is told from one that cannot be
+ * read.
  *
  *     cc -std=c99 -Iinclude examples/c/rewritable.c target/staticlib/libcapi.a -o rewritable && ./rewritable
  */
@@ -45,6 +46,17 @@ static int reads(uint32_t b, const char *text) {
     return same;
 }
 
+/* What an original of the sparing table says. */
+static const char *kind_of(uint32_t original) {
+    return original == TUORMIK_NONE ? "free" : original == TUORMIK_DEFECTIVE ? "defective" : "used";
+}
+
+/* Whether entry i of the sparing table is this one. */
+static int has_entry(uint32_t i, uint32_t original, uint32_t mapped) {
+    printf("the spare at sector %u is %s\n", (unsigned)table[2 * i + 1], kind_of(table[2 * i]));
+    return table[2 * i] == original && table[2 * i + 1] == mapped;
+}
+
 static uint32_t save(uint32_t b, const char *text, uint32_t cut_at, uint32_t cut_effect) {
     uint8_t block[TUORMIK_SECTOR] = {0};
     strncpy((char *)block, text, sizeof block - 1);
@@ -75,7 +87,7 @@ int main(void) {
         /* the packet's own sectors have worn out: it goes to a spare, and reads from there */
         is("spare packet 32", tuormik_spare_packet(DISC, HELD, 32, TUORMIK_LENT_PACKET(packet_of("plovers")), TUORMIK_NO_CUT),
            TUORMIK_DONE) &&
-        reads(40, "plovers") &&
+        reads(40, "plovers") && has_entry(0, 32, FIRST_SPARE) && has_entry(1, TUORMIK_NONE, SECOND_SPARE) &&
 
         /* 32 writes to the spare, then one to each table: cut at the first table, nothing has changed */
         is("spare packet 0, cut at write 33",
@@ -91,8 +103,22 @@ int main(void) {
         is("save block 7", save(7, "13 May: two pairs of plovers", TUORMIK_NO_CUT), TUORMIK_NOT_RECORDED) &&
         is("save packet 0", tuormik_save_packet(DISC, HELD, 0, TUORMIK_LENT_PACKET(packet_of("dunlins")), TUORMIK_NO_CUT), TUORMIK_DONE) &&
         reads(5, "dunlins") &&
+
+        /* the spare has worn out too: the packet goes to the other one, and is found there after an opening */
         is("spare packet 32 again",
-           tuormik_spare_packet(DISC, HELD, 32, TUORMIK_LENT_PACKET(packet_of("plovers")), TUORMIK_NO_CUT), TUORMIK_ALREADY_SPARED);
+           tuormik_spare_packet(DISC, HELD, 32, TUORMIK_LENT_PACKET(packet_of("ringed plovers")), TUORMIK_NO_CUT), TUORMIK_DONE) &&
+        has_entry(0, 32, SECOND_SPARE) && has_entry(1, TUORMIK_DEFECTIVE, FIRST_SPARE) &&
+        is("open again", tuormik_open(DISC, HELD), TUORMIK_DONE) &&
+        has_entry(0, 32, SECOND_SPARE) && has_entry(1, TUORMIK_DEFECTIVE, FIRST_SPARE) &&
+        reads(32, "ringed plovers") && reads(63, "ringed plovers") &&
+        reads(5, "dunlins") &&
+
+        /* a defective spare is not free: no packet is spared any more, also not the one that has a spare */
+        is("spare packet 0", tuormik_spare_packet(DISC, HELD, 0, TUORMIK_LENT_PACKET(packet_of("dunlins")), TUORMIK_NO_CUT),
+           TUORMIK_NO_SPARE) &&
+        is("spare packet 32", tuormik_spare_packet(DISC, HELD, 32, TUORMIK_LENT_PACKET(packet_of("plovers")), TUORMIK_NO_CUT),
+           TUORMIK_NO_SPARE) &&
+        reads(40, "ringed plovers");
 
     /* a blank sector, as where a disc was formatted in part: it is not read, nor is another block of its packet saved, until it is saved
        itself */

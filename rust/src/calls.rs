@@ -220,7 +220,7 @@ pub fn save_packet(
     }
 }
 
-/// Spares the packet that begins at logical block b.
+/// Spares the packet that begins at logical block b, also one that is spared already.
 pub fn spare_packet(
     disc: &mut [u8],
     marks: &mut [u8],

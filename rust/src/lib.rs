@@ -53,8 +53,10 @@ pub const PACKET_BYTES: usize = PACKET * SECTOR;
 pub const MOST_SECTORS: usize = 1 << 20;
 /// The most entries a VAT can have, and the places of a lent table.
 pub const MOST_ENTRIES: usize = 4096;
-/// An unused entry; a free spare; no previous ICB.
+/// An unused entry; no previous ICB; as an original of the sparing table, a free spare.
 pub const NONE: u32 = u32::MAX;
+/// As an original of the sparing table, a defective spare, which is not used again (document 02, slip 1).
+pub const DEFECTIVE: u32 = 0xffff_fff0;
 
 /// A commit, in a list that is to be forecast; any number above it is one too, and a number below it is a save of that virtual block.
 pub const COMMIT: u32 = 0x8000_0000;

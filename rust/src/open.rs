@@ -54,13 +54,14 @@ impl<'a> Disc<'a> {
     }
 
     /// Makes a disc: an empty VAT in a blank write-once partition; packets of zeros, spares that begin at the named sectors, and tables
-    /// of sequence 0 on a rewritable one.
+    /// of sequence 0, with the identifier of UDF 1.50, on a rewritable one.
     pub fn make(&mut self, spares: &[u32]) -> Result<(), Error> {
         let (start, length) = (self.start, self.length);
         Error::check(calls::make(self.bytes, self.marks, self.maps, start, length, spares))
     }
 
-    /// Opens the disc.
+    /// Opens the disc. Copies of a sparing table are read by the identifier of UDF 1.50 and by that of CD UDF 1.82; with the latter a copy
+    /// that has a defective spare does not count.
     pub fn open(self) -> Result<Open<'a>, Error> {
         let mut table = vec![0; MOST_ENTRIES];
         let record = self.to_read().open_into(&mut table)?;
@@ -257,7 +258,8 @@ impl<'a> OpenRef<'a> {
         self.found.record
     }
 
-    /// The entries of the VAT, or original and mapped by turns of the sparing table.
+    /// The entries of the VAT, or original and mapped by turns of the sparing table: first its packets that are spared, each by its first
+    /// block, then defective spares ([`DEFECTIVE`](crate::DEFECTIVE)), then free ones ([`NONE`](crate::NONE)).
     pub fn table(&self) -> &[u32] {
         self.found.entries()
     }
@@ -314,7 +316,8 @@ impl<'a> Open<'a> {
         self.found.record
     }
 
-    /// The entries of the VAT, or original and mapped by turns of the sparing table.
+    /// The entries of the VAT, or original and mapped by turns of the sparing table: first its packets that are spared, each by its first
+    /// block, then defective spares ([`DEFECTIVE`](crate::DEFECTIVE)), then free ones ([`NONE`](crate::NONE)).
     pub fn table(&self) -> &[u32] {
         self.found.entries()
     }
@@ -509,7 +512,24 @@ impl<'a> Open<'a> {
         self.settle(number, record)
     }
 
-    /// Spares the packet that begins at a logical block: its bytes go to a free spare.
+    /// Spares the packet that begins at a logical block: its bytes go to the free spare of lowest index. A packet that is spared already
+    /// can be spared again: its old spare turns defective ([`DEFECTIVE`](crate::DEFECTIVE)), the last of those that are. Every copy of the
+    /// table is written with the identifier of UDF 1.50, whichever it had.
+    ///
+    /// ```
+    /// # use tuormik::{write_maps, Disc, Error, Maps, Refusal, DEFECTIVE, NONE};
+    /// # let maps = write_maps(&Maps::Rewritable { partition: 0, table_bytes: 2048, tables: vec![0, 32] })?;
+    /// # let (mut bytes, mut marks) = (vec![0; 2048 * 160], vec![0; 160]);
+    /// # let mut disc = Disc { bytes: &mut bytes, marks: &mut marks, maps: &maps, start: 128, length: 32 };
+    /// # disc.make(&[64, 96])?;
+    /// let mut open = disc.open()?;
+    /// open.spare_packet(0, &[1; 65_536])?;
+    /// assert_eq!(open.table(), [0, 64, NONE, 96]);
+    /// open.spare_packet(0, &[2; 65_536])?;
+    /// assert_eq!(open.table(), [0, 96, DEFECTIVE, 64]);
+    /// assert_eq!(open.spare_packet(0, &[3; 65_536]), Err(Error::Refused(Refusal::NoSpare)));
+    /// # Ok::<(), Error>(())
+    /// ```
     pub fn spare_packet(&mut self, b: u32, packet: &[u8]) -> Result<(), Error> {
         self.spare_packet_cut(b, packet, Cut::NONE)
     }

@@ -1,5 +1,5 @@
-//! Why a call is turned down: the lines of document 01, "Why a call is turned down", and the one that document 02, slip 5, adds, with
-//! their words.
+//! Why a call is turned down: the lines of document 01, "Why a call is turned down", but for 18, which no longer occurs (document 02, slip
+//! 1), and the one that slip 5 adds, with their words.
 
 use std::fmt;
 
@@ -46,8 +46,6 @@ pub enum Refusal {
     NoRoom,
     /// The disc has one sparing table only, which is not enough to spare.
     OneTable,
-    /// The packet is spared already.
-    AlreadySpared,
     /// No spare is free.
     NoSpare,
     /// The sparing table cannot be written again.
@@ -59,7 +57,7 @@ pub enum Refusal {
 use Refusal::*;
 
 /// Each line with its number and its words, in the order of the variants, which is that of checking: a line does not stand at its number.
-const LINES: [(Refusal, u32, &str); 22] = [
+const LINES: [(Refusal, u32, &str); 21] = [
     (DiscShape, 1, "Disc bytes are not 2,048 times the marks, sectors exceed the limit or are none, or a mark exceeds 2."),
     (SpanOutside, 2, "L is 0 or S + L exceeds the sectors."),
     (LentLength, 3, "The lent table has under 4,096 entries, or block, packet or written map bytes have the wrong length."),
@@ -96,14 +94,13 @@ const LINES: [(Refusal, u32, &str); 22] = [
     (PassesAsIcb, 15, "The block would pass as a VAT ICB at NWA."),
     (NoRoom, 16, "NWA + 1 + d + 1 exceeds L (save, d for the N after it), or NWA + d + 1 does (commit)."),
     (OneTable, 17, "Sparing with one table only."),
-    (AlreadySpared, 18, "The packet is already spared."),
     (NoSpare, 19, "No entry is free."),
     (LastSequence, 20, "The sequence is 0xffffffff."),
     (NotBlank, 21, "A write-once partition to be made is not blank."),
 ];
 
 impl Refusal {
-    /// The number of the line. From 22 on the numbers have gaps.
+    /// The number of the line. No refusal has 18, and from 22 on the numbers have gaps.
     pub fn number(self) -> u32 {
         LINES[self as usize].1
     }
@@ -183,7 +180,7 @@ mod tests {
     use super::*;
 
     /// The numbers in checking order, as documents 01 and 02 give it.
-    const NUMBERS: [u32; 22] = [1, 2, 3, 4, 5, 6, 7, 8, 9, 10, 11, 12, 13, 25, 14, 15, 16, 17, 18, 19, 20, 21];
+    const NUMBERS: [u32; 21] = [1, 2, 3, 4, 5, 6, 7, 8, 9, 10, 11, 12, 13, 25, 14, 15, 16, 17, 19, 20, 21];
 
     #[test]
     fn lines_have_their_numbers_in_checking_order() {
@@ -201,6 +198,7 @@ mod tests {
         }
         assert_eq!(Refusal::from_number(25), Some(BlankSector));
         assert_eq!(Refusal::from_number(14), Some(UnreadableSector));
+        assert_eq!(Refusal::from_number(18), None);
     }
 
     /// Who is told that a sector was never recorded does not clean the disc.

@@ -141,9 +141,10 @@ const ENTRIES: [Entry; 16] = [
 
 Opens the disc of each image and tells its kind, how many blocks are used, and of these unreadable or blank (never recorded), how many more
 fit and how full it is, then in the letters of document 01 S, L, N, NWA, the last VAT ICB, how many sectors were passed over, and what they
-are; of a rewritable disc R, the sequence, and the spares. On a write-once disc 0 passed over says that the last sector of the
-partition that is not blank is a VAT ICB; once an opening has told 0, later ones tell at most the number of sector writes begun since the
-last whole VAT ICB, wherever the power failed.
+are; of a rewritable disc R, the sequence, the spares that are used, defective and free, and by which identifier its sparing tables are
+read: the newer one (UDF 1.50) or the older one (CD UDF 1.82). On a write-once disc 0 passed over says that the last sector of the partition
+that is not blank is a VAT ICB; once an opening has told 0, later ones tell at most the number of sector writes begun since the last whole
+VAT ICB, wherever the power failed.
   --json               a JSON list with an object an image, its numbers without commas
 ",
         run: info::info,
@@ -166,7 +167,7 @@ are blank); a copy of the sparing table is not current. The last line counts the
 
 Lists the blocks. Write-once: a line for each virtual block, with its logical block, its sector and its state: recorded, unreadable, blank
 (its sector was never recorded) or unused. Rewritable: a line for each packet that is spared or has an unreadable or a blank sector, with
-the count of each.
+the count of each, and one for each spare that is defective or free.
   --all                a line for every packet
 ",
         run: commands::list,
@@ -240,8 +241,9 @@ Opens a write-once disc and commits the table that was found: the disc then ends
         line: "a packet moved to a free spare",
         help: "tuormik spare IMAGE NUMBER [FILE] [--zeros]
 
-Spares the packet that begins at logical block NUMBER of a rewritable disc. Its bytes are those of FILE (65,536), or those that are read
-from the disc.
+Spares the packet that begins at logical block NUMBER of a rewritable disc: it goes to the free spare that stands first in the sparing
+table. A packet that is spared already goes to another spare, and its old one turns defective: it is not used again. Its bytes are those of
+FILE (65,536), or those that are read from the disc. Every copy of the sparing table is written with the newer identifier, that of UDF 1.50.
   --zeros              blocks that cannot be read (unreadable) or were never recorded (blank) become zeros
 ",
         run: commands::spare,
@@ -324,19 +326,20 @@ before.
         help: "tuormik map IMAGE PICTURE
 
 Draws the sectors of the disc, row by row: blank (never recorded), recorded, live (a block of the current table), unreadable, VAT ICBs,
-sparing tables, spares, and a line around the partition. Where the disc is turned down it is drawn from its marks alone. PICTURE ends in
-.svg or .ppm.
+sparing tables, spares that are used, defective or free, and a line around the partition. Where the disc is turned down it is drawn from its
+marks alone. PICTURE ends in .svg or .ppm.
 ",
         run: commands::map,
     },
     Entry {
         name: "demo",
-        line: "the power cut at every write of a commit and of a sparing",
+        line: "the power cut at every write of a commit and of two sparings",
         help: "tuormik demo
 
-Makes discs in memory, cuts the power at every sector write of a commit and of a sparing in turn, with each effect, opens the disc again and
-reads every block. Writes that came to the same are told in one line. Of the write-once disc it tells how many sectors opening passed over,
-and how many sector writes were begun since the last whole VAT ICB.
+Makes discs in memory, cuts the power at every sector write of a commit, of a sparing, and of a second sparing of the same packet in turn,
+with each effect, opens the disc again and reads every block. Writes that came to the same are told in one line. Of the write-once disc it
+tells how many sectors opening passed over, and how many sector writes were begun since the last whole VAT ICB; of the rewritable one where
+the packet is. A sparing is done exactly if a new copy of the sparing table is whole.
 ",
         run: demo::demo,
     },

@@ -85,7 +85,9 @@ fn info_of_several_and_as_json() {
     folder.write("noise", &[7; 9 * SECTOR]);
     let (status, out, err) = folder.run(&["info", "d.img", "noise", "r.img"]);
     assert_eq!(status, 2, "{err}");
-    for line in ["d.img", "N 3 (2 used)", "noise", "r.img", "spares 0 used, 2 free", "blocks 64 readable, 0 unreadable, 0 blank"] {
+    for line in
+        ["d.img", "N 3 (2 used)", "noise", "r.img", "spares 0 used, 0 defective, 2 free", "blocks 64 readable, 0 unreadable, 0 blank"]
+    {
         has(&out, line);
     }
     assert!(err.contains("no anchor volume descriptor pointer"), "{err}");
@@ -93,7 +95,7 @@ fn info_of_several_and_as_json() {
     assert_eq!(status, 2);
     let expected = r#"[{"image": "d.img", "opens": true, "kind": "write-once", "partition": 0, "sectors": 400, "file_sectors": 400, "recorded": 299, "unreadable": 0, "blank": 101, "s": 288, "l": 112, "n": 3, "used": 2, "blocks_readable": 2, "blocks_unreadable": 0, "blocks_blank": 0, "new_blocks_that_fit": 100, "fullness_per_mille": 98, "nwa": 11, "last_icb": 10, "passed_over": 0, "possible_newer_vat": null}, {"image": "noise", "opens": false, "words": ""#;
     assert!(out.starts_with(expected), "{out}");
-    let expected = r#"{"image": "r.img", "opens": true, "kind": "rewritable", "partition": 0, "sectors": 640, "file_sectors": 640, "recorded": 71, "unreadable": 0, "blank": 569, "s": 288, "l": 64, "tables": [0, 32, 64], "table_bytes": 2048, "blocks_readable": 64, "blocks_unreadable": 0, "blocks_blank": 0, "r": 2, "spares_used": 0, "spares_free": 2, "sequence": 0, "tables_not_current": [], "passed_over": 0}]
+    let expected = r#"{"image": "r.img", "opens": true, "kind": "rewritable", "partition": 0, "sectors": 640, "file_sectors": 640, "recorded": 71, "unreadable": 0, "blank": 569, "s": 288, "l": 64, "tables": [0, 32, 64], "table_bytes": 2048, "blocks_readable": 64, "blocks_unreadable": 0, "blocks_blank": 0, "r": 2, "spares_used": 0, "spares_defective": 0, "spares_free": 2, "sequence": 0, "table_identifier": "newer", "tables_not_current": [], "passed_over": 0}]
 "#;
     assert!(out.ends_with(expected), "{out}");
     // a disc that is turned down: status 1, with the line
@@ -298,7 +300,7 @@ fn discs_by_their_medium() {
     let info = folder.does(&["info", "w.img"]);
     has(&info, "kind rewritable, partition 0");
     has(&info, "tables in sectors 96, 192, 1,856 and 1,952 (2,048 bytes each)");
-    has(&info, "spares 0 used, 2 free");
+    has(&info, "spares 0 used, 0 defective, 2 free");
     let verified = folder.does(&["verify", "r.img", "w.img"]);
     has(&verified, "2 images: 2 clean");
     // the sparings have the tables and spares that they need
@@ -346,7 +348,7 @@ fn a_version() {
     assert!(folder.does(&["--version"]).starts_with(&format!("tuormik {}", env!("CARGO_PKG_VERSION"))));
 }
 
-/// Every write of the commit and of the sparing, with each effect: 3 and 35 writes.
+/// Every write of the commit and of both sparings, with each effect: 3 and twice 35 writes.
 #[test]
 fn the_demo_cuts_at_every_write() {
     let folder = Folder::new("demo-cuts");
@@ -359,9 +361,28 @@ fn the_demo_cuts_at_every_write() {
             assert!(squeezed.contains(&line), "'{line}' is not in\n{out}");
         }
     }
-    has(&out, "the power fails at each of writes 1 to 32, which becomes whole opened: 64 of 64 blocks, those of the packet in version 1");
-    has(&out, "the power fails at write 33, which becomes unreadable opened: 64 of 64 blocks, those of the packet in version 1");
-    has(&out, "the power fails at write 33, which becomes whole opened: 64 of 64 blocks, those of the packet in version 2");
-    has(&out, "the power fails at each of writes 34 to 35, which becomes old opened: 64 of 64 blocks, those of the packet in version 2");
-    has(&out, "114 cuts. Every block was found again after every cut.");
+    let (first, second) = out.split_once("The same disc, and the packet of block 32 is spared already.").expect("a second sparing");
+    let places = [("their own place", "the first spare"), ("the first spare", "the second spare; the first is defective")];
+    for (part, (before, after)) in [first, second].into_iter().zip(places) {
+        for (writes, effect, version) in [
+            ("each of writes 1 to 32", "old", 1),
+            ("each of writes 1 to 32", "unreadable", 1),
+            ("each of writes 1 to 32", "whole", 1),
+            ("write 33", "old", 1),
+            ("write 33", "unreadable", 1),
+            ("write 33", "whole", 2),
+            ("each of writes 34 to 35", "old", 2),
+            ("each of writes 34 to 35", "unreadable", 2),
+            ("each of writes 34 to 35", "whole", 2),
+        ] {
+            let place = if version == 1 { before } else { after };
+            let opened = format!("opened: 64 of 64 blocks, those of the packet in version {version}, in {place}");
+            has(part, &format!("the power fails at {writes}, which becomes {effect} {opened}"));
+        }
+    }
+    has(first, "no cut: the sparing was done opened: 64 of 64 blocks, those of the packet in version 2, in the first spare");
+    let opened = "opened: 64 of 64 blocks, those of the packet in version 2, in the second spare; the first is defective";
+    has(second, &format!("no cut: the second sparing was done {opened}"));
+    has(&out, "219 cuts. Every block was found again after every cut.");
+    has(&out, "A sparing was done exactly if a new copy of the sparing table was whole.");
 }

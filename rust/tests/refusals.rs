@@ -6,6 +6,8 @@ mod folder;
 use folder::Folder;
 
 const SECTOR: usize = 2048;
+/// The original of a defective spare.
+const DEFECTIVE: [u8; 4] = 0xffff_fff0_u32.to_le_bytes();
 
 /// A folder with a rewritable disc of 640 sectors: partition at 288, 64 sectors, three tables, two spares.
 fn rewritable(name: &str) -> Folder {
@@ -274,21 +276,51 @@ fn sparings() {
     ];
     refuse(&folder, 12, &cases);
     folder.does(&["spare", "d.img", "32"]);
-    refuse(&folder, 18, &[(&["spare", "d.img", "32"], "the packet of block 32 is already spared: it is at sector 96")]);
     for table in [0, 32, 64] {
         patch(&folder, "d.img", table, 52, &[255; 4]);
     }
     std::fs::remove_file(folder.path("d.img.marks")).expect("a marks file");
     let sentence = "the sequence of the sparing table has come to its end, 4,294,967,295";
-    refuse(&folder, 20, &[(&["spare", "d.img", "0", "packet"], sentence)]);
+    // of a packet that is spared already too
+    refuse(&folder, 20, &[(&["spare", "d.img", "0", "packet"], sentence), (&["spare", "d.img", "32"], sentence)]);
     folder.does(&["make", "e.img", "--sectors", "640", "--tables", "0,32", "--length", "64"]);
     refuse(&folder, 19, &[(&["spare", "e.img", "0"], "the disc has no spares")]);
     folder.does(&["make", "f.img", "--sectors", "640", "--tables", "0,32", "--spares", "96", "--length", "64"]);
     folder.does(&["spare", "f.img", "0"]);
-    refuse(&folder, 19, &[(&["spare", "f.img", "32"], "no spare is free: the disc has 1, which is used")]);
+    let sentence = "no spare is free: the disc has 1, which is used";
+    refuse(&folder, 19, &[(&["spare", "f.img", "32"], sentence), (&["spare", "f.img", "0"], sentence)]);
     folder.does(&["make", "g.img", "--sectors", "640", "--tables", "0", "--spares", "96", "--length", "64"]);
     let sentence = "the disc has one sparing table only, and sparing rewrites it: a cut there could lose every sparing";
     refuse(&folder, 17, &[(&["spare", "g.img", "0"], sentence)]);
+}
+
+/// A packet that is spared already is spared again until no spare is free; a defective spare is none (document 02, slip 1).
+#[test]
+fn no_spare_is_left() {
+    let folder = rewritable("refusal-no-spare");
+    for _ in 0..2 {
+        folder.does(&["spare", "d.img", "32"]);
+    }
+    let sentence = "no spare is free: the disc has 2, 1 used and 1 defective";
+    refuse(&folder, 19, &[(&["spare", "d.img", "32"], sentence), (&["spare", "d.img", "0", "packet"], sentence)]);
+    folder.does(&["make", "e.img", "--sectors", "640", "--tables", "0,32", "--spares", "96,128", "--length", "64"]);
+    folder.does(&["spare", "e.img", "0"]);
+    folder.does(&["spare", "e.img", "32"]);
+    refuse(&folder, 19, &[(&["spare", "e.img", "32"], "no spare is free: the disc has 2, all used")]);
+    // spares that another writer found to be defective
+    for (image, spares, sentence) in [
+        ("f.img", "96", "no spare is free: the disc has 1, which is defective"),
+        ("g.img", "96,128", "no spare is free: the disc has 2, all defective"),
+    ] {
+        folder.does(&["make", image, "--sectors", "640", "--tables", "0,32", "--spares", spares, "--length", "64"]);
+        for table in [0, 32] {
+            for entry in 0..spares.split(',').count() {
+                patch(&folder, image, table, 56 + 8 * entry, &DEFECTIVE);
+            }
+        }
+        std::fs::remove_file(folder.path(&format!("{image}.marks"))).expect("a marks file");
+        refuse(&folder, 19, &[(&["spare", image, "0", "packet"], sentence)]);
+    }
 }
 
 #[test]
@@ -327,18 +359,29 @@ fn what_a_rewritable_disc_has_instead_of_a_table() {
     std::fs::remove_file(folder.path("d.img.marks")).expect("a marks file");
     let sentence = "the copies of the sparing table in sectors 0, 32 and 64 have sequence 0 and differ in their entries";
     refuse(&folder, 10, &[(&info, sentence)]);
-    // UDF 1.50's identifier, none, and another
+    // a copy that does not count has no part in it, whatever its sequence
+    patch(&folder, "d.img", 64, 52, &[7]);
+    patch(&folder, "d.img", 64, 56, &[0xf1]);
+    let sentence = "the copies of the sparing table in sectors 0 and 32 have sequence 0 and differ in their entries";
+    refuse(&folder, 10, &[(&info, sentence)]);
+    // the older identifier with a defective spare, and none
     for table in [0, 32] {
-        patch(&folder, "d.img", table, 16, b"\0*UDF Sparing Table\0\0\0\0\0");
+        patch(&folder, "d.img", table, 16, b"\0*OSTA UDF Sparing Table");
+        patch(&folder, "d.img", table, 56, &DEFECTIVE);
     }
     patch(&folder, "d.img", 64, 16, &[0; 24]);
     let sentence =
-        "no copy of the sparing table can be used: each of sectors 0 and 32 has the identifier of UDF 1.50, *UDF Sparing Table, \
-                    where CD UDF has *OSTA UDF Sparing Table; sector 64 has no identifier";
+        "no copy of the sparing table can be used: each of sectors 0 and 32 has a table with a defective spare (0xfffffff0) and the \
+                    older identifier, *OSTA UDF Sparing Table, where only the newer one, *UDF Sparing Table, has that mark; sector 64 has \
+                    no identifier";
     refuse(&folder, 8, &[(&info, sentence)]);
-    patch(&folder, "d.img", 0, 16, b"\0*OSTA UDF Sparing Table");
+    // with the newer one both count, and differ
+    for table in [0, 32] {
+        patch(&folder, "d.img", table, 16, b"\0*UDF Sparing Table\0\0\0\0\0");
+    }
+    refuse(&folder, 10, &[(&info, "the copies of the sparing table in sectors 0 and 32 have sequence 0 and differ in their entries")]);
+    // too long, a mapped start that is no multiple of 32, and another identifier
     patch(&folder, "d.img", 0, 48, &[250, 0]);
-    patch(&folder, "d.img", 32, 16, b"\0*OSTA UDF Sparing Table");
     patch(&folder, "d.img", 32, 60, &[1]);
     patch(&folder, "d.img", 64, 16, b"\0*Another\0\0\0\0\0\0\0\0\0\0\0\0\0\0\0");
     let sentence =

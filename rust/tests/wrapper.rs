@@ -2,7 +2,7 @@
 
 use tuormik::{
     crc, crc_by_bytes, crc_by_words, crc_word, look_up, read_maps, write_maps, Call, Cut, Disc, DiscRef, Effect, Error, Forecast, Held,
-    Maps, Open, Record, Refusal, BLANK, COMMIT, NONE, PACKET_BYTES, SECTOR, UNREADABLE,
+    Maps, Open, Record, Refusal, BLANK, COMMIT, DEFECTIVE, NONE, PACKET_BYTES, SECTOR, UNREADABLE,
 };
 
 struct Memory {
@@ -102,6 +102,129 @@ fn a_rewritable_disc() {
     assert_eq!(open.fullness(), Err(refused(Refusal::OtherKind)));
     for items in [&[][..], &[0], &[COMMIT]] {
         assert_eq!(open.forecast(items), Err(refused(Refusal::OtherKind)));
+    }
+}
+
+/// The identifiers of a sparing table, with the flags before them (document 02, slip 1).
+const NEWER: &[u8; 24] = b"\0*UDF Sparing Table\0\0\0\0\0";
+const OLDER: &[u8; 24] = b"\0*OSTA UDF Sparing Table";
+
+/// A packet that is spared already is spared again: its entry turns defective, the last of them, and the free entry of lowest index is taken.
+#[test]
+fn a_packet_is_spared_again() {
+    let maps = Maps::Rewritable { partition: 1, table_bytes: 2048, tables: vec![0, 32] };
+    let mut memory = Memory::new(320, 224, 64, &maps, &[160, 64, 192, 96]);
+    let mut open = memory.disc().open().expect("it opens");
+    for (b, with, table) in [
+        (32, 1, [32, 160, NONE, 64, NONE, 192, NONE, 96]),
+        (0, 2, [0, 64, 32, 160, NONE, 192, NONE, 96]),
+        (32, 3, [0, 64, 32, 192, DEFECTIVE, 160, NONE, 96]),
+        (0, 4, [0, 96, 32, 192, DEFECTIVE, 160, DEFECTIVE, 64]),
+    ] {
+        assert_eq!(open.spare_packet(b, &[with; PACKET_BYTES]), Ok(()));
+        assert_eq!(open.table(), table);
+        assert_eq!((open.read(b), open.read(b + 31)), (Ok([with; SECTOR]), Ok([with; SECTOR])));
+    }
+    assert_eq!((open.read(0), open.read(32)), (Ok([4; SECTOR]), Ok([3; SECTOR])));
+    let record = Record { held: Held::Rewritable { entries: 4, sequence: 4 }, passed_over: 0 };
+    assert_eq!(open.record(), record);
+    assert_eq!(open.open_again(), Ok(()));
+    assert_eq!((open.record(), open.table()), (record, [0, 96, 32, 192, DEFECTIVE, 160, DEFECTIVE, 64].as_slice()));
+    for b in [0, 32] {
+        assert_eq!(open.spare_packet(b, &[5; PACKET_BYTES]), Err(refused(Refusal::NoSpare)));
+    }
+    // the marks of entries are no numbers of packets
+    for b in [DEFECTIVE, NONE, 64] {
+        assert_eq!(open.spare_packet(b, &[5; PACKET_BYTES]), Err(refused(Refusal::NumberOutside)));
+        assert_eq!(open.read(b), Err(refused(Refusal::NumberOutside)));
+    }
+}
+
+/// A cut second sparing is done exactly if a new copy of the table is whole.
+#[test]
+fn a_cut_in_a_second_sparing() {
+    let mut memory = Memory::rewritable();
+    let mut open = memory.disc().open().expect("it opens");
+    assert_eq!(open.spare_packet(32, &[1; PACKET_BYTES]), Ok(()));
+    for at in [1, 2, 32, 33, 34] {
+        for effect in [Effect::Old, Effect::Unreadable, Effect::Whole] {
+            let (mut bytes, mut marks) = (memory.bytes.clone(), memory.marks.clone());
+            let disc = Disc { bytes: &mut bytes, marks: &mut marks, maps: &memory.maps, start: memory.start, length: memory.length };
+            let mut open = disc.open().expect("it opens");
+            assert_eq!(open.spare_packet_cut(32, &[2; PACKET_BYTES], Cut::at(at, effect)), Err(Error::Cut));
+            // the lent table is left as it came
+            assert_eq!(open.table(), [32, 64, NONE, 192]);
+            assert_eq!(open.open_again(), Ok(()));
+            let is_done = at > 33 || (at, effect) == (33, Effect::Whole);
+            let (table, with) = if is_done { ([32, 192, DEFECTIVE, 64], 2) } else { ([32, 64, NONE, 192], 1) };
+            assert_eq!((open.table(), open.read(32), open.read(63)), (table.as_slice(), Ok([with; SECTOR]), Ok([with; SECTOR])));
+            // a sparing after it: from there to a spare that is free, if there is one
+            let answer = if is_done { Err(refused(Refusal::NoSpare)) } else { Ok(()) };
+            assert_eq!(open.spare_packet(32, &[3; PACKET_BYTES]), answer);
+        }
+    }
+}
+
+/// Both identifiers are read, also side by side; the newer one is written. The older one knows no defective spare.
+#[test]
+fn both_identifiers_of_a_sparing_table() {
+    let at = |table: usize| SECTOR * table + 16;
+    let names = |memory: &Memory| [0, 32].map(|table| memory.bytes[at(table)..at(table) + 24].to_vec());
+    for (one, other) in [(NEWER, NEWER), (NEWER, OLDER), (OLDER, NEWER), (OLDER, OLDER)] {
+        let mut memory = Memory::rewritable();
+        assert_eq!(names(&memory), [NEWER; 2]);
+        for (table, name) in [(0, one), (32, other)] {
+            memory.bytes[at(table)..at(table) + 24].copy_from_slice(name);
+        }
+        let mut open = memory.disc().open().expect("it opens");
+        assert_eq!(open.table(), [NONE, 64, NONE, 192]);
+        // a save leaves the tables alone
+        assert_eq!(open.save_block(33, &[5; SECTOR]), Ok(()));
+        assert_eq!(names(&memory), [one, other]);
+        let mut open = memory.disc().open().expect("it opens");
+        assert_eq!(open.spare_packet(32, &[6; PACKET_BYTES]), Ok(()));
+        assert_eq!(open.read(33), Ok([6; SECTOR]));
+        assert_eq!(names(&memory), [NEWER; 2]);
+        // a cut at the second table leaves it as it was, beside a newer one of a higher sequence
+        memory.bytes[at(32)..at(32) + 24].copy_from_slice(OLDER);
+        let mut open = memory.disc().open().expect("it opens");
+        assert_eq!(open.spare_packet_cut(32, &[7; PACKET_BYTES], Cut::at(34, Effect::Old)), Err(Error::Cut));
+        assert_eq!(open.open_again(), Ok(()));
+        assert_eq!((open.table(), open.read(33)), ([32, 192, DEFECTIVE, 64].as_slice(), Ok([7; SECTOR])));
+        assert_eq!(names(&memory), [NEWER, OLDER]);
+    }
+}
+
+/// A copy with the older identifier and a defective spare does not count, whatever its sequence; nor does one with another mark.
+#[test]
+fn copies_that_do_not_count() {
+    let put = |memory: &mut Memory, table: usize, at: usize, bytes: &[u8]| {
+        memory.bytes[SECTOR * table + at..][..bytes.len()].copy_from_slice(bytes);
+    };
+    let mut memory = Memory::rewritable();
+    put(&mut memory, 32, 16, OLDER);
+    put(&mut memory, 32, 52, &[9]);
+    put(&mut memory, 32, 56, &DEFECTIVE.to_le_bytes());
+    let open = memory.disc().open().expect("it opens");
+    assert_eq!((open.record().numbers(), open.table()), ([1, 2, 0, 0, 0], [NONE, 64, NONE, 192].as_slice()));
+    memory.marks[0] = UNREADABLE;
+    assert_eq!(memory.disc().open().err(), Some(refused(Refusal::NoTable)));
+    // with the newer identifier it counts
+    put(&mut memory, 32, 16, NEWER);
+    let open = memory.disc().open().expect("it opens");
+    assert_eq!((open.record().numbers(), open.table()), ([1, 2, 9, 0, 0], [DEFECTIVE, 64, NONE, 192].as_slice()));
+    // a defective entry stands before the free ones, and no other mark is one
+    for entries in [[NONE, DEFECTIVE], [0xffff_fff1, NONE], [DEFECTIVE, 0xffff_fffe], [DEFECTIVE, 0]] {
+        for (i, original) in entries.into_iter().enumerate() {
+            put(&mut memory, 32, 56 + 8 * i, &original.to_le_bytes());
+        }
+        assert_eq!(memory.disc().open().err(), Some(refused(Refusal::NoTable)), "{entries:x?}");
+    }
+    for entries in [[0, DEFECTIVE], [DEFECTIVE, DEFECTIVE], [32, NONE]] {
+        for (i, original) in entries.into_iter().enumerate() {
+            put(&mut memory, 32, 56 + 8 * i, &original.to_le_bytes());
+        }
+        assert_eq!(memory.disc().open().expect("it opens").table(), [entries[0], 64, entries[1], 192]);
     }
 }
 
@@ -267,7 +390,7 @@ fn words_of_refusals() {
     assert_eq!(Error::check(21), Err(refused(Refusal::NotBlank)));
     assert_eq!(Error::check(25), Err(refused(Refusal::BlankSector)));
     assert_eq!(Error::check(14), Err(refused(Refusal::UnreadableSector)));
-    for unknown in [22, 24, 26] {
+    for unknown in [18, 22, 24, 26] {
         assert_eq!(Error::check(unknown), Err(Error::Unknown(unknown)));
     }
     assert_eq!(Error::check(255), Err(Error::Cut));

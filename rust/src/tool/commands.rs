@@ -8,7 +8,7 @@ use super::passed::{need_force, Passed};
 use super::picture::Picture;
 use super::progress::{Progress, Waiting};
 use super::refused::{self, Asked};
-use super::states::{Counts, View};
+use super::states::{Counts, SpareState, View};
 use super::summary::mark_words;
 use super::words::{counted, grouped, number};
 use super::{Done, Failure};
@@ -17,7 +17,7 @@ use std::path::{Path, PathBuf};
 use tuormik::descriptors::{write_volume, Volume, DESCRIPTORS_END};
 use tuormik::image::Image;
 use tuormik::{
-    read_maps, Cut, Error, Held, Maps, Open, Refusal, BLANK, MOST_ENTRIES, MOST_SECTORS, NONE, PACKET, PACKET_BYTES, RECORDED, SECTOR,
+    read_maps, Cut, Error, Held, Maps, Open, Refusal, BLANK, MOST_ENTRIES, MOST_SECTORS, PACKET, PACKET_BYTES, RECORDED, SECTOR,
 };
 
 const VOLUME_OPTIONS: [&str; 8] = ["--marks", "--start", "--length", "--maps", "--tables", "--table-bytes", "--partition", "--write-once"];
@@ -101,8 +101,14 @@ fn list_packets(open: View, all: bool, out: &mut dyn Write) -> Done {
     if plain > 0 {
         writeln!(out, "{} in place, recorded", counted(plain, "packet"))?;
     }
-    for (_, mapped) in open.spares().filter(|&(original, _)| original == NONE) {
-        writeln!(out, "    free spare         {:>8} to {}", grouped(mapped), grouped(mapped as usize + PACKET - 1))?;
+    for spare in open.spares() {
+        let words = match spare.state {
+            // told with its packet
+            SpareState::Used => continue,
+            SpareState::Defective => "defective spare",
+            SpareState::Free => "free spare",
+        };
+        writeln!(out, "    {words:<19}{:>8} to {}", grouped(spare.sector), grouped(spare.sector + PACKET - 1))?;
     }
     Ok(())
 }
@@ -364,9 +370,12 @@ fn spare_it(mut open: Open, b: u32, given: Option<Vec<u8>>, zeros: bool, cut: Cu
         Some(bytes) => (bytes, Counts::default()),
         None => (read_packet(&open, b, zeros)?, View::from(&open).packet(b).collect()),
     };
+    let old = View::from(&open).spared_to(b);
     let answer = open.spare_packet_cut(b, &packet, cut);
     answer.map_err(|error| refused::by_call(&open, Asked::SparePacket(b, packet.len()), error))?;
-    let spared = format!("spared the packet of block {}: it is now at sector {}", grouped(b), grouped(View::from(&open).packet_place(b)));
+    let place = grouped(View::from(&open).packet_place(b));
+    let left = old.map_or(String::new(), |old| format!(", and its old spare, at sector {}, is defective", grouped(old)));
+    let spared = format!("spared the packet of block {}: it is now at sector {place}{left}", grouped(b));
     Ok(match blocks.not_recorded() {
         words if words.is_empty() => spared,
         words => format!("{spared}; blocks that became zeros: {words}"),
@@ -452,7 +461,7 @@ fn is_spare_there(image: &Image) -> bool {
     match image.to_read().open() {
         Ok(open) => {
             let view = View::from(&open);
-            !view.is_write_once() && view.spares().any(|(_, mapped)| mapped == 256)
+            !view.is_write_once() && view.spares().any(|spare| spare.sector == 256)
         }
         Err(_) => true,
     }

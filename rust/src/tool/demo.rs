@@ -1,4 +1,4 @@
-//! The power cut at every sector write of a commit and of a sparing, on discs in memory.
+//! The power cut at every sector write of a commit, of a sparing, and of a second sparing of the same packet, on discs in memory.
 
 use super::args::{Args, EFFECTS};
 use super::refused::{self, Asked};
@@ -6,7 +6,7 @@ use super::room::commit_sectors;
 use super::words::grouped;
 use super::{Done, Failure};
 use std::io::Write;
-use tuormik::{write_maps, Cut, Disc, Effect, Error, Maps, Open, BLANK, PACKET, SECTOR};
+use tuormik::{write_maps, Cut, Disc, Effect, Error, Maps, Open, BLANK, DEFECTIVE, NONE, PACKET, SECTOR};
 
 /// A disc in memory.
 #[derive(Clone)]
@@ -57,18 +57,22 @@ pub fn demo(args: &mut Args, out: &mut dyn Write) -> Done {
     writeln!(out)?;
     let spared = sparing_demo(out)?;
     writeln!(out)?;
-    let fault = [&committed, &spared].into_iter().find_map(Came::fault);
-    if let Some(words) = fault {
+    let spared_again = second_sparing_demo(out)?;
+    writeln!(out)?;
+    let all = [committed, spared, spared_again];
+    if let Some(words) = all.iter().find_map(Came::fault) {
         return Err(Failure::Usage(words.into()));
     }
-    writeln!(out, "{} cuts. Every block was found again after every cut.", grouped(committed.cuts + spared.cuts))?;
+    let cuts: usize = all.iter().map(|came| came.cuts).sum();
+    writeln!(out, "{} cuts. Every block was found again after every cut.", grouped(cuts))?;
+    writeln!(out, "A sparing was done exactly if a new copy of the sparing table was whole.")?;
     writeln!(out, "No opening passed over more sectors than writes were begun since the last whole VAT ICB.")?;
     Ok(())
 }
 
 /// What a disc has when it is opened again.
 struct Found {
-    /// the version in which all blocks are found that the call was to change
+    /// the version in which all blocks are found that the call was to change, where the table says of them what goes with it
     version: Option<u32>,
     passed_over: u32,
     /// the sector writes begun since the last whole VAT ICB; none where there are no VATs
@@ -85,7 +89,7 @@ struct Tried {
 
 /// How a call came through all its cuts.
 struct Came {
-    /// Whether every block was found again.
+    /// Whether every block was found again, in the version that it has to be in.
     are_found: bool,
     /// Whether no opening passed over more sectors than writes were begun.
     is_bounded: bool,
@@ -96,7 +100,7 @@ impl Came {
     /// What is wrong, if anything is.
     fn fault(&self) -> Option<&'static str> {
         match self {
-            Came { are_found: false, .. } => Some("a block was not found again"),
+            Came { are_found: false, .. } => Some("a block was not found again, or not as it should be"),
             Came { is_bounded: false, .. } => {
                 Some("an opening passed over more sectors than writes were begun since the last whole VAT ICB")
             }
@@ -220,20 +224,64 @@ fn packet(b: u32, version: u32) -> Vec<u8> {
     (b..b + PACKET as u32).flat_map(|i| block(i, version)).collect()
 }
 
-fn sparing_demo(out: &mut dyn Write) -> Result<Came, Failure> {
-    const LENGTH: u32 = 64;
-    const SPARED: u32 = 32;
+/// The rewritable disc of the sparings: its blocks, the packet that is spared, and its two spares.
+const LENGTH: u32 = 64;
+const SPARED: u32 = 32;
+const SPARES: [u32; 2] = [96, 128];
+
+/// That disc with its blocks in version 1.
+fn rewritable() -> Result<Memory, Failure> {
     let maps = Maps::Rewritable { partition: 0, table_bytes: 2048, tables: vec![0, 32, 64] };
     let mut memory = Memory::new(320, 192, LENGTH, &maps)?;
-    memory.make(&[96, 128])?;
+    memory.make(&SPARES)?;
     let mut open = memory.open()?;
     for b in (0..LENGTH).step_by(PACKET) {
         let answer = open.save_packet(b, &packet(b, 1));
         answer.map_err(|error| refused::by_call(&open, Asked::SavePacket(b), error))?;
     }
     let _ = open.close();
+    Ok(memory)
+}
+
+/// Where the packet is, as the whole sparing table says.
+#[derive(Clone, Copy, Debug, PartialEq, Eq)]
+enum Place {
+    Own,
+    FirstSpare,
+    /// and the first spare is defective
+    SecondSpare,
+    Wrong,
+}
+
+impl Place {
+    fn of_table(table: &[u32]) -> Place {
+        let [first, second] = SPARES;
+        if table == [NONE, first, NONE, second] {
+            Place::Own
+        } else if table == [SPARED, first, NONE, second] {
+            Place::FirstSpare
+        } else if table == [SPARED, second, DEFECTIVE, first] {
+            Place::SecondSpare
+        } else {
+            Place::Wrong
+        }
+    }
+
+    fn words(self) -> &'static str {
+        match self {
+            Place::Own => "in their own place",
+            Place::FirstSpare => "in the first spare",
+            Place::SecondSpare => "in the second spare; the first is defective",
+            Place::Wrong => "with a sparing table that is wrong",
+        }
+    }
+}
+
+/// Spares the packet in version 2 with a cut at each write. It has to be at the first of these places in version 1, at the second in
+/// version 2.
+fn spare_with_cuts(memory: &Memory, places: [Place; 2]) -> Result<Vec<Tried>, Failure> {
     let bytes = packet(SPARED, 2);
-    let all = every_cut(|cut| {
+    every_cut(|cut| {
         let mut tried = memory.clone();
         let mut open = tried.open()?;
         let answer = open.spare_packet_cut(SPARED, &bytes, cut);
@@ -241,20 +289,44 @@ fn sparing_demo(out: &mut dyn Write) -> Result<Came, Failure> {
         let _ = open.close();
         let open = tried.open()?;
         let version = version_of(&open, SPARED..LENGTH).filter(|_| version_of(&open, 0..SPARED) == Some(1));
+        let place = Place::of_table(open.table());
         let words = match version {
-            Some(version) => format!("{LENGTH} of {LENGTH} blocks, those of the packet in version {version}"),
+            Some(version) => format!("{LENGTH} of {LENGTH} blocks, those of the packet in version {version}, {}", place.words()),
             None => "blocks are lost".to_string(),
         };
+        let version = version.filter(|&version| places[version as usize - 1] == place);
         Ok((answer, Found { version, passed_over: open.record().passed_over, begun: 0, words }))
-    })?;
+    })
+}
+
+/// A table of the new sequence is whole from the write after the packet's on.
+const TABLE_WRITE: u32 = PACKET as u32 + 1;
+
+fn sparing_demo(out: &mut dyn Write) -> Result<Came, Failure> {
+    let all = spare_with_cuts(&rewritable()?, [Place::Own, Place::FirstSpare])?;
     let writes = all.len() / EFFECTS.len();
     writeln!(
         out,
         "A rewritable disc: {LENGTH} blocks, three sparing tables, two spares. The packet of block {SPARED} is spared, and the sparing, \
          {writes} writes, is cut."
     )?;
-    // a table of the new sequence is whole from the write after the packet's on
-    tell(out, "sparing", &all, PACKET as u32 + 1)
+    tell(out, "sparing", &all, TABLE_WRITE)
+}
+
+fn second_sparing_demo(out: &mut dyn Write) -> Result<Came, Failure> {
+    let mut memory = rewritable()?;
+    let mut open = memory.open()?;
+    let bytes = packet(SPARED, 1);
+    let answer = open.spare_packet(SPARED, &bytes);
+    answer.map_err(|error| refused::by_call(&open, Asked::SparePacket(SPARED, bytes.len()), error))?;
+    let _ = open.close();
+    let all = spare_with_cuts(&memory, [Place::FirstSpare, Place::SecondSpare])?;
+    let writes = all.len() / EFFECTS.len();
+    writeln!(
+        out,
+        "The same disc, and the packet of block {SPARED} is spared already. It is spared again, and this sparing, {writes} writes, is cut."
+    )?;
+    tell(out, "second sparing", &all, TABLE_WRITE)
 }
 
 #[cfg(test)]
@@ -274,10 +346,21 @@ mod tests {
         came.fault()
     }
 
+    /// A table is right as a whole: what stands in another order, or says free for defective, is wrong.
+    #[test]
+    fn places_of_the_packet() {
+        let place = |table: [u32; 4]| Place::of_table(&table);
+        assert_eq!([place([NONE, 96, NONE, 128]), place([32, 96, NONE, 128])], [Place::Own, Place::FirstSpare]);
+        assert_eq!(place([32, 128, DEFECTIVE, 96]), Place::SecondSpare);
+        for table in [[32, 128, NONE, 96], [32, 96, DEFECTIVE, 128], [DEFECTIVE, 96, 32, 128], [32, 128, 32, 96], [0, 128, DEFECTIVE, 96]] {
+            assert_eq!(place(table), Place::Wrong);
+        }
+    }
+
     #[test]
     fn each_fault_has_its_words() {
         assert_eq!(fault([(1, 7, 8), (1, 8, 8), (2, 0, 0), (2, 0, 0)]), None);
-        assert_eq!(fault([(1, 7, 8), (2, 8, 8), (2, 0, 0), (2, 0, 0)]), Some("a block was not found again"));
+        assert_eq!(fault([(1, 7, 8), (2, 8, 8), (2, 0, 0), (2, 0, 0)]), Some("a block was not found again, or not as it should be"));
         for found in [[(1, 9, 8), (1, 8, 8), (2, 0, 0), (2, 0, 0)], [(1, 7, 8), (1, 8, 8), (2, 0, 0), (2, 1, 0)]] {
             assert!(fault(found).is_some_and(|words| words.starts_with("an opening passed over more sectors")), "{found:?}");
         }

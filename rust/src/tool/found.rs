@@ -2,7 +2,7 @@
 
 use super::words::{are, counted, from_to, grouped, joined};
 use tuormik::image::mark_name;
-use tuormik::{DiscRef, Held, Maps, BLANK, MOST_ENTRIES, PACKET, RECORDED, SECTOR, UNREADABLE};
+use tuormik::{DiscRef, Held, Maps, BLANK, DEFECTIVE, MOST_ENTRIES, PACKET, RECORDED, SECTOR, UNREADABLE};
 
 /// A number of so many bytes, the lowest first.
 fn number_at(bytes: &[u8], at: usize, count: usize) -> u64 {
@@ -170,10 +170,33 @@ fn misplaced_spare(disc: DiscRef, tables: &[u32], table_bytes: u32, spares: &[u3
     "the spares break the rule for a copy of the sparing table".to_string()
 }
 
-const TABLE_REGID: &str = "*OSTA UDF Sparing Table";
-const TABLE_REGID_150: &str = "*UDF Sparing Table";
-const ENTRIES_AT: usize = 48;
-const SEQUENCE_AT: usize = 52;
+/// The identifiers of a sparing table: that of UDF 1.50, which is written too, and that of CD UDF 1.82.
+const NEWER_NAME: &str = "*UDF Sparing Table";
+const OLDER_NAME: &str = "*OSTA UDF Sparing Table";
+const REGID_AT: usize = 16;
+const COUNT_AT: usize = 48;
+const ENTRIES_AT: usize = 56;
+const ENTRY: usize = 8;
+
+/// The newer identifier in words.
+pub fn newer_identifier() -> String {
+    format!("newer, {NEWER_NAME} (UDF 1.50)")
+}
+
+/// The older identifier in words.
+pub fn older_identifier() -> String {
+    format!("older, {OLDER_NAME} (CD UDF 1.82)")
+}
+
+/// The identifier of the sparing table in a sector.
+fn table_name(disc: DiscRef, at: u32) -> String {
+    identifier(sector(disc, at as usize).get(REGID_AT..).unwrap_or_default())
+}
+
+/// Whether a copy of the sparing table has the newer identifier.
+pub fn has_newer_identifier(disc: DiscRef, at: u32) -> bool {
+    table_name(disc, at) == NEWER_NAME
+}
 
 /// Line 8 of a rewritable disc: what stands where the tables should be.
 pub fn no_copy(disc: DiscRef, tables: &[u32], table_bytes: u32) -> String {
@@ -195,14 +218,18 @@ fn copy_words(disc: DiscRef, at: u32, table_bytes: u32) -> String {
         return format!("is {}", mark_name(mark));
     }
     let bytes = sector(disc, at as usize);
-    let name = identifier(bytes.get(16..).unwrap_or_default());
-    let needed = 56 + 8 * number_at(bytes, ENTRIES_AT, 2) as usize;
-    match name.as_str() {
-        TABLE_REGID_150 => format!("has the identifier of UDF 1.50, {TABLE_REGID_150}, where CD UDF has {TABLE_REGID}"),
-        TABLE_REGID if needed > table_bytes as usize => {
+    let count = number_at(bytes, COUNT_AT, 2) as usize;
+    let needed = ENTRIES_AT + ENTRY * count;
+    let has_defective = || (0..count).any(|i| number_at(bytes, ENTRIES_AT + ENTRY * i, 4) == u64::from(DEFECTIVE));
+    match table_name(disc, at).as_str() {
+        NEWER_NAME | OLDER_NAME if needed > table_bytes as usize => {
             format!("has a table of {}, and the map list gives it {}", counted(needed, "byte"), grouped(table_bytes))
         }
-        TABLE_REGID => "has a table that breaks the rule for a copy".to_string(),
+        OLDER_NAME if has_defective() => format!(
+            "has a table with a defective spare (0xfffffff0) and the older identifier, {OLDER_NAME}, where only the newer one, \
+             {NEWER_NAME}, has that mark"
+        ),
+        NEWER_NAME | OLDER_NAME => "has a table that breaks the rule for a copy".to_string(),
         "" => "has no identifier".to_string(),
         other => format!("has the identifier {other}"),
     }
@@ -210,10 +237,9 @@ fn copy_words(disc: DiscRef, at: u32, table_bytes: u32) -> String {
 
 /// Line 10: the copies of one sequence, which differ.
 pub fn copies_differ(disc: DiscRef, tables: &[u32]) -> String {
-    let sequence = |t: u32| number_at(sector(disc, t as usize), SEQUENCE_AT, 4);
-    let recorded: Vec<u32> = tables.iter().copied().filter(|&t| disc.marks.get(t as usize) == Some(&RECORDED)).collect();
-    let highest = recorded.iter().map(|&t| sequence(t)).max().unwrap_or_default();
-    let places: Vec<String> = recorded.into_iter().filter(|&t| sequence(t) == highest).map(grouped).collect();
+    let counting: Vec<(u32, u32)> = tables.iter().filter_map(|&t| Some((t, sequence_alone(disc, tables, t)?))).collect();
+    let highest = counting.iter().map(|&(_, sequence)| sequence).max().unwrap_or_default();
+    let places: Vec<String> = counting.iter().filter(|&&(_, sequence)| sequence == highest).map(|&(t, _)| grouped(t)).collect();
     format!("the copies of the sparing table in sectors {} have sequence {} and differ in their entries", joined(&places), grouped(highest))
 }
 
@@ -317,17 +343,19 @@ pub fn passed_over(disc: DiscRef, from: usize, to: usize) -> String {
     joined(&words)
 }
 
-/// The copies of the sparing table that do not count, or are not of the current sequence: each is asked for by an opening to which the
-/// others are unreadable.
+/// The sequence of a copy of the sparing table, if it counts: it is asked for by an opening to which the others are unreadable.
+fn sequence_alone(disc: DiscRef, tables: &[u32], own: u32) -> Option<u32> {
+    let mut marks = disc.marks.to_vec();
+    for &other in tables.iter().filter(|&&other| other != own) {
+        *marks.get_mut(other as usize)? = UNREADABLE;
+    }
+    match (DiscRef { marks: &marks, ..disc }).open().ok()?.record().held {
+        Held::Rewritable { sequence, .. } => Some(sequence),
+        Held::WriteOnce { .. } => None,
+    }
+}
+
+/// The copies of the sparing table that do not count, or are not of the current sequence.
 pub fn stale_copies(disc: DiscRef, tables: &[u32], sequence: u32) -> Vec<u32> {
-    let own = disc.marks.to_vec();
-    let is_current = |&t: &u32| -> bool {
-        let mut marks = own.clone();
-        for other in tables.iter().filter(|&&other| other != t) {
-            marks[*other as usize] = UNREADABLE;
-        }
-        let alone = DiscRef { marks: &marks, ..disc };
-        alone.open().is_ok_and(|open| matches!(open.record().held, Held::Rewritable { sequence: found, .. } if found == sequence))
-    };
-    tables.iter().copied().filter(|t| !is_current(t)).collect()
+    tables.iter().copied().filter(|&t| sequence_alone(disc, tables, t) != Some(sequence)).collect()
 }

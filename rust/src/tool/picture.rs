@@ -1,12 +1,12 @@
 //! A picture of a disc: a small field a sector, row by row.
 
-use super::states::{Block, View};
+use super::states::{Block, SpareState, View};
 use super::words::{counted, from_to, grouped};
 use super::{commits, Failure};
 use std::fmt::Write;
 use tuormik::descriptors::Volume;
 use tuormik::image::Image;
-use tuormik::{read_maps, Held, Maps, NONE, PACKET, RECORDED, UNREADABLE};
+use tuormik::{read_maps, Held, Maps, PACKET, RECORDED, UNREADABLE};
 
 /// What a sector is drawn as.
 #[derive(Clone, Copy, PartialEq, Eq)]
@@ -15,6 +15,7 @@ pub enum Kind {
     Recorded,
     Live,
     FreeSpare,
+    DefectiveSpare,
     UsedSpare,
     Table,
     Icb,
@@ -22,11 +23,12 @@ pub enum Kind {
 }
 
 /// Each kind with its words and its colour; those that come later are drawn over those before.
-const KINDS: [(Kind, &str, [u8; 3]); 8] = [
+const KINDS: [(Kind, &str, [u8; 3]); 9] = [
     (Kind::Blank, "blank", [0xee, 0xee, 0xea]),
     (Kind::Recorded, "recorded", [0xa9, 0xb8, 0xcc]),
     (Kind::Live, "live", [0x3f, 0x8f, 0x5f]),
     (Kind::FreeSpare, "free spare", [0xf3, 0xd9, 0x8b]),
+    (Kind::DefectiveSpare, "defective spare", [0x6b, 0x3f, 0x1d]),
     (Kind::UsedSpare, "used spare", [0xe8, 0x8a, 0x1a]),
     (Kind::Table, "sparing table", [0x1b, 0x1b, 0x6b]),
     (Kind::Icb, "VAT ICB", [0x1b, 0x1b, 0x6b]),
@@ -60,10 +62,12 @@ fn by_marks(marks: &[u8]) -> Vec<Kind> {
     marks.iter().map(kind).collect()
 }
 
-/// Paints sectors, but those that are unreadable, and those that are blank where it is no free spare, which may be blank.
+/// Paints sectors, but those that are unreadable, and those that are blank where it is no spare that may be blank: a free or a defective
+/// one.
 fn paint(kinds: &mut [Kind], from: usize, count: usize, with: Kind) {
+    let may_be_blank = matches!(with, Kind::FreeSpare | Kind::DefectiveSpare);
     for kind in kinds.iter_mut().skip(from).take(count) {
-        let is_kept = *kind == Kind::Unreadable || (*kind == Kind::Blank && with != Kind::FreeSpare);
+        let is_kept = *kind == Kind::Unreadable || (*kind == Kind::Blank && !may_be_blank);
         if !is_kept {
             *kind = with;
         }
@@ -96,9 +100,13 @@ impl Picture {
         let Held::Rewritable { .. } = open.record.held else {
             return;
         };
-        for (original, mapped) in open.spares() {
-            let kind = if original == NONE { Kind::FreeSpare } else { Kind::UsedSpare };
-            paint(&mut self.kinds, mapped as usize, PACKET, kind);
+        for spare in open.spares() {
+            let kind = match spare.state {
+                SpareState::Used => Kind::UsedSpare,
+                SpareState::Defective => Kind::DefectiveSpare,
+                SpareState::Free => Kind::FreeSpare,
+            };
+            paint(&mut self.kinds, spare.sector, PACKET, kind);
         }
         if let Ok(Maps::Rewritable { tables, .. }) = read_maps(open.disc.maps) {
             for table in tables {

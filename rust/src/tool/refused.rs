@@ -1,7 +1,7 @@
 //! Refusals in words: for each line of documents 01 and 02 that a command can meet, a sentence with the case's own numbers.
 
 use super::room::commit_sectors;
-use super::states::{Block, Counts, View};
+use super::states::{Block, Counts, SpareCounts, View};
 use super::words::{are, counted, from_to, grouped};
 use super::{found, Failure};
 use tuormik::{read_maps, DiscRef, Error, Held, Maps, Refusal, BLANK, MOST_ENTRIES, MOST_SECTORS, PACKET, PACKET_BYTES, SECTOR};
@@ -192,10 +192,6 @@ fn of_call(open: View, asked: Asked, why: Refusal) -> String {
         Refusal::OneTable => {
             "the disc has one sparing table only, and sparing rewrites it: a cut there could lose every sparing".to_string()
         }
-        Refusal::AlreadySpared => {
-            let to = open.spared_to(number).map(grouped).unwrap_or_default();
-            format!("the packet of block {} is already spared: it is at sector {to}", grouped(number))
-        }
         Refusal::NoSpare => no_spare_words(open),
         Refusal::LastSequence => format!("the sequence of the sparing table has come to its end, {}", grouped(u32::MAX)),
         Refusal::StaleRecord => format!("the disc is not as it was when it was opened, so {} was not done", asked.words()),
@@ -269,9 +265,14 @@ fn no_room_words(open: View, asked: Asked) -> String {
 }
 
 fn no_spare_words(open: View) -> String {
-    match open.spares().count() {
-        0 => "the disc has no spares".to_string(),
-        1 => "no spare is free: the disc has 1, which is used".to_string(),
-        count => format!("no spare is free: the disc has {}, all used", grouped(count)),
+    let spares: SpareCounts = open.spares().collect();
+    let has = format!("no spare is free: the disc has {}", grouped(spares.all()));
+    match (spares.used, spares.defective) {
+        (0, 0) => "the disc has no spares".to_string(),
+        (1, 0) => format!("{has}, which is used"),
+        (0, 1) => format!("{has}, which is defective"),
+        (_, 0) => format!("{has}, all used"),
+        (0, _) => format!("{has}, all defective"),
+        (used, defective) => format!("{has}, {} used and {} defective", grouped(used), grouped(defective)),
     }
 }

@@ -1,9 +1,9 @@
-//! The blocks of an open disc: where each is, and in which state.
+//! The blocks of an open disc: where each is, and in which state; and its spares.
 
 use super::words::{grouped, parts};
 use std::fmt;
 use tuormik::image::mark_name;
-use tuormik::{DiscRef, Held, Open, OpenRef, Record, BLANK, NONE, PACKET, RECORDED, UNREADABLE};
+use tuormik::{DiscRef, Held, Open, OpenRef, Record, BLANK, DEFECTIVE, NONE, PACKET, RECORDED, UNREADABLE};
 
 /// An open disc, as its table and its record tell it.
 #[derive(Clone, Copy)]
@@ -114,6 +114,70 @@ impl FromIterator<Block> for Counts {
     }
 }
 
+/// What a spare is: a packet's, or defective, and then not used again, or free.
+#[derive(Clone, Copy, Debug, PartialEq, Eq)]
+pub enum SpareState {
+    Used,
+    Defective,
+    Free,
+}
+
+/// A spare, as its entry of the sparing table tells it.
+#[derive(Clone, Copy, Debug, PartialEq, Eq)]
+pub struct Spare {
+    /// The first block of the packet that is spared to it, if it is used.
+    original: u32,
+    /// Its first sector.
+    pub sector: usize,
+    pub state: SpareState,
+}
+
+impl Spare {
+    fn new(original: u32, mapped: u32) -> Spare {
+        let state = match original {
+            NONE => SpareState::Free,
+            DEFECTIVE => SpareState::Defective,
+            _ => SpareState::Used,
+        };
+        Spare { original, sector: mapped as usize, state }
+    }
+}
+
+/// How many spares are in each state.
+#[derive(Clone, Copy, Debug, Default, PartialEq, Eq)]
+pub struct SpareCounts {
+    pub used: usize,
+    pub defective: usize,
+    pub free: usize,
+}
+
+impl SpareCounts {
+    /// R.
+    pub fn all(self) -> usize {
+        self.used + self.defective + self.free
+    }
+}
+
+impl FromIterator<Spare> for SpareCounts {
+    fn from_iter<T: IntoIterator<Item = Spare>>(spares: T) -> SpareCounts {
+        let mut counts = SpareCounts::default();
+        for spare in spares {
+            *match spare.state {
+                SpareState::Used => &mut counts.used,
+                SpareState::Defective => &mut counts.defective,
+                SpareState::Free => &mut counts.free,
+            } += 1;
+        }
+        counts
+    }
+}
+
+impl fmt::Display for SpareCounts {
+    fn fmt(&self, f: &mut fmt::Formatter) -> fmt::Result {
+        write!(f, "{} used, {} defective, {} free", grouped(self.used), grouped(self.defective), grouped(self.free))
+    }
+}
+
 impl<'a> View<'a> {
     pub fn is_write_once(self) -> bool {
         matches!(self.record.held, Held::WriteOnce { .. })
@@ -127,19 +191,14 @@ impl<'a> View<'a> {
         }
     }
 
-    /// Original and mapped of each spare.
-    pub fn spares(self) -> impl Iterator<Item = (u32, u32)> + 'a {
-        self.table.chunks_exact(2).map(|entry| (entry[0], entry[1]))
-    }
-
-    /// How many spares are used.
-    pub fn used_spares(self) -> usize {
-        self.spares().filter(|&(original, _)| original != NONE).count()
+    /// The spares of a rewritable disc, in the order of its table.
+    pub fn spares(self) -> impl Iterator<Item = Spare> + 'a {
+        self.table.chunks_exact(2).map(|entry| Spare::new(entry[0], entry[1]))
     }
 
     /// The sector to which a packet is spared.
     pub fn spared_to(self, original: u32) -> Option<usize> {
-        self.spares().find(|&(from, _)| from == original).map(|(_, mapped)| mapped as usize)
+        self.spares().find(|spare| spare.state == SpareState::Used && spare.original == original).map(|spare| spare.sector)
     }
 
     /// Where a packet of a rewritable disc is.
@@ -204,5 +263,20 @@ impl Run {
     fn goes_on_with(&self, block: &Block) -> bool {
         let step = |place: Option<(u32, usize)>| place.map(|(_, sector)| sector + self.count);
         block.state == self.first.state && block.place.map(|(_, sector)| sector) == step(self.first.place)
+    }
+}
+
+#[cfg(test)]
+mod tests {
+    use super::*;
+
+    #[test]
+    fn entries_are_used_defective_or_free() {
+        let state = |original| Spare::new(original, 96).state;
+        assert_eq!([0, 32, 1_048_544].map(state), [SpareState::Used; 3]);
+        assert_eq!([DEFECTIVE, NONE].map(state), [SpareState::Defective, SpareState::Free]);
+        let counts: SpareCounts = [32, 64, DEFECTIVE, NONE, NONE, NONE].map(|original| Spare::new(original, 96)).into_iter().collect();
+        assert_eq!(counts, SpareCounts { used: 2, defective: 1, free: 3 });
+        assert_eq!((counts.all(), counts.to_string().as_str()), (6, "2 used, 1 defective, 3 free"));
     }
 }

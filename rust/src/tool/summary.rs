@@ -3,7 +3,7 @@
 use super::json::Json;
 use super::passed::Passed;
 use super::room::new_blocks;
-use super::states::{Counts, View};
+use super::states::{Counts, SpareCounts, View};
 use super::words::{counted, grouped, joined, parts};
 use super::{commits, found, refused, Failure};
 use tuormik::image::{mark_name, Image};
@@ -38,7 +38,58 @@ pub struct Summary {
 /// What an opening gave.
 pub enum Opened {
     WriteOnce { blocks: Counts, entries: u32, next: u32, last: u32, fits: usize, per_mille: u32, passed: Passed },
-    Rewritable { blocks: Counts, entries: u32, used: usize, sequence: u32, stale: Vec<u32> },
+    Rewritable { blocks: Counts, spares: SpareCounts, sequence: u32, tables: Tables },
+}
+
+/// The sectors of the sparing tables.
+pub struct Tables {
+    /// Those that are not current.
+    stale: Vec<u32>,
+    /// The current ones, by their identifiers.
+    newer: Vec<u32>,
+    older: Vec<u32>,
+}
+
+impl Tables {
+    fn new(view: View, all: &[u32], sequence: u32) -> Tables {
+        let stale = found::stale_copies(view.disc, all, sequence);
+        let current = all.iter().copied().filter(|t| !stale.contains(t));
+        let (newer, older) = current.partition(|&t| found::has_newer_identifier(view.disc, t));
+        Tables { stale, newer, older }
+    }
+
+    /// By which identifiers the current ones are read.
+    fn identifier_words(&self) -> String {
+        let (newer, older) = (found::newer_identifier(), found::older_identifier());
+        match (&self.newer[..], &self.older[..]) {
+            (_, []) => newer,
+            ([], _) => format!("{older}; a sparing writes the {newer}"),
+            (one, other) => format!("{newer} in {}; {older} in {}", sectors_words(one), sectors_words(other)),
+        }
+    }
+
+    fn identifier_json(&self) -> Json {
+        Json::text(match (&self.newer[..], &self.older[..]) {
+            (_, []) => "newer",
+            ([], _) => "older",
+            _ => "mixed",
+        })
+    }
+
+    /// What is to be said of those that are not current, if there are any.
+    fn stale_words(&self) -> Option<String> {
+        match self.stale.len() {
+            0 => None,
+            1 => Some(format!("the copy of the sparing table in {} is not current", sectors_words(&self.stale))),
+            _ => Some(format!("the copies of the sparing table in {} are not current", sectors_words(&self.stale))),
+        }
+    }
+}
+
+/// Sectors by their numbers: `sector 0`, `sectors 0, 32 and 64`.
+fn sectors_words(sectors: &[u32]) -> String {
+    let places: Vec<String> = sectors.iter().map(|&t| grouped(t)).collect();
+    format!("sector{} {}", if places.len() == 1 { "" } else { "s" }, joined(&places))
 }
 
 /// The tables of a rewritable disc.
@@ -54,11 +105,11 @@ impl Summary {
     pub fn new(image: &Image) -> Result<Summary, Failure> {
         let maps = read_maps(&image.volume.maps).ok();
         let opened = match commits::open(image) {
-            Ok(open) => Ok(Opened::new(&open)?),
+            Ok(open) => Ok(Opened::new(&open, tables(maps.as_ref()))?),
             Err(Failure::Refused(words, why)) => Err((words, why)),
             Err(other) => return Err(other),
         };
-        let mut summary = Summary {
+        Ok(Summary {
             sectors: image.marks.len(),
             file_sectors: image.file_sectors(),
             counts: mark_counts(&image.marks),
@@ -68,11 +119,7 @@ impl Summary {
             length: image.volume.length,
             maps,
             opened,
-        };
-        if let Ok(Opened::Rewritable { sequence, stale, .. }) = &mut summary.opened {
-            *stale = found::stale_copies(image.to_read(), tables(summary.maps.as_ref()), *sequence);
-        }
-        Ok(summary)
+        })
     }
 
     /// Each thing that there is to say, with its name.
@@ -95,6 +142,9 @@ impl Summary {
         if let Some(Maps::Rewritable { table_bytes, tables, .. }) = &self.maps {
             let places: Vec<String> = tables.iter().map(|&t| grouped(t)).collect();
             lines.push(("tables", format!("in sectors {} ({} bytes each)", joined(&places), grouped(*table_bytes))));
+        }
+        if let Ok(Opened::Rewritable { tables, .. }) = &self.opened {
+            lines.push(("identifier", tables.identifier_words()));
         }
         lines.push(("S", grouped(self.start)));
         lines.push(("L", grouped(self.length)));
@@ -136,7 +186,7 @@ impl Summary {
 }
 
 impl Opened {
-    fn new(open: &OpenRef) -> Result<Opened, Failure> {
+    fn new(open: &OpenRef, tables: &[u32]) -> Result<Opened, Failure> {
         let view = View::from(open);
         let blocks = view.blocks().collect();
         Ok(match view.record.held {
@@ -152,8 +202,8 @@ impl Opened {
                     passed: Passed::new(view),
                 }
             }
-            Held::Rewritable { entries, sequence } => {
-                Opened::Rewritable { blocks, entries, used: view.used_spares(), sequence, stale: Vec::new() }
+            Held::Rewritable { sequence, .. } => {
+                Opened::Rewritable { blocks, spares: view.spares().collect(), sequence, tables: Tables::new(view, tables, sequence) }
             }
         })
     }
@@ -166,15 +216,13 @@ impl Opened {
                 ("room", room_words(*entries as usize, *fits)),
                 ("fullness", format!("{}.{} %", per_mille / 10, per_mille % 10)),
             ],
-            Opened::Rewritable { blocks, entries, used, stale, .. } => {
+            Opened::Rewritable { blocks, spares, tables, .. } => {
                 let Counts { recorded, unreadable, blank, .. } = *blocks;
                 let mut lines = vec![
                     ("blocks", format!("{} readable, {} unreadable, {} blank", grouped(recorded), grouped(unreadable), grouped(blank))),
-                    ("spares", format!("{} used, {} free", grouped(*used), grouped(*entries as usize - used))),
+                    ("spares", spares.to_string()),
                 ];
-                if !stale.is_empty() {
-                    lines.push(("warning", stale_words(stale)));
-                }
+                lines.extend(tables.stale_words().map(|words| ("warning", words)));
                 lines
             }
         }
@@ -196,8 +244,8 @@ impl Opened {
                 }
                 lines
             }
-            Opened::Rewritable { entries, used, sequence, .. } => vec![
-                ("R", format!("{} ({} used, {} free)", grouped(*entries), grouped(*used), grouped(*entries as usize - used))),
+            Opened::Rewritable { spares, sequence, .. } => vec![
+                ("R", format!("{} ({spares})", grouped(spares.all()))),
                 ("sequence", grouped(*sequence)),
                 ("passed over", "0".to_string()),
             ],
@@ -219,14 +267,16 @@ impl Opened {
                 ]);
                 parts
             }
-            Opened::Rewritable { blocks, entries, used, sequence, stale } => {
+            Opened::Rewritable { blocks, spares, sequence, tables } => {
                 let mut parts = Vec::from(blocks_json(*blocks));
                 parts.extend([
-                    ("r", Json::number(*entries)),
-                    ("spares_used", Json::number(*used)),
-                    ("spares_free", Json::number(*entries as usize - used)),
+                    ("r", Json::number(spares.all())),
+                    ("spares_used", Json::number(spares.used)),
+                    ("spares_defective", Json::number(spares.defective)),
+                    ("spares_free", Json::number(spares.free)),
                     ("sequence", Json::number(*sequence)),
-                    ("tables_not_current", Json::numbers(stale.iter().copied())),
+                    ("table_identifier", tables.identifier_json()),
+                    ("tables_not_current", Json::numbers(tables.stale.iter().copied())),
                     ("passed_over", Json::number(0u32)),
                 ]);
                 parts
@@ -249,8 +299,7 @@ impl Opened {
             Opened::WriteOnce { passed, .. } => {
                 vec![format!("{} passed over above the last commit: {}", counted(passed.count as usize, "sector"), passed.words)]
             }
-            Opened::Rewritable { stale, .. } if stale.is_empty() => Vec::new(),
-            Opened::Rewritable { stale, .. } => vec![stale_words(stale)],
+            Opened::Rewritable { tables, .. } => tables.stale_words().into_iter().collect(),
         }
     }
 
@@ -261,9 +310,10 @@ impl Opened {
                 let also = if blocks.unused > 0 { format!(" and {} unused", grouped(blocks.unused)) } else { String::new() };
                 format!("write-once, {} used{also}, {}.{} % full", counted(blocks.used(), "block"), per_mille / 10, per_mille % 10)
             }
-            Opened::Rewritable { blocks, entries, used, .. } => {
-                format!("rewritable, {}, {} of {}", counted(blocks.used(), "block"), grouped(*used), counted(*entries as usize, "spare"))
-                    + " used"
+            Opened::Rewritable { blocks, spares, .. } => {
+                let also = if spares.defective > 0 { format!(", {} defective", grouped(spares.defective)) } else { String::new() };
+                let used = format!("{} of {} used{also}", grouped(spares.used), counted(spares.all(), "spare"));
+                format!("rewritable, {}, {used}", counted(blocks.used(), "block"))
             }
         }
     }
@@ -295,13 +345,5 @@ pub fn room_words(entries: usize, fits: usize) -> String {
         0 => "no new block fits".to_string(),
         1 => "1 new block fits".to_string(),
         n => format!("{} new blocks fit, committed together", grouped(n)),
-    }
-}
-
-fn stale_words(stale: &[u32]) -> String {
-    let places: Vec<String> = stale.iter().map(|&t| grouped(t)).collect();
-    match places.len() {
-        1 => format!("the copy of the sparing table in sector {} is not current", places[0]),
-        _ => format!("the copies of the sparing table in sectors {} are not current", joined(&places)),
     }
 }
