@@ -1,5 +1,4 @@
 -- Nobody who calls from C is given 18: no refusal has it. Assumes nothing.
-use Prim.Native.Nat.{ℕ}
 use mathlib.Core.Logic.{_≢_}
 use mathlib.Core.Path.{sym, _∙_}
 use native.Mathlib.Omega.{arith}

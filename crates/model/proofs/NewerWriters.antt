@@ -7,7 +7,8 @@ use mathlib.Core.Logic.{_≢_, inl, inr}
 use mathlib.Core.List.{List, [], _∷_, _++_}
 use native.Mathlib.Omega.{arith}
 use lib.Dec.{eqb}
-use lib.ListN.{length, getD, length-append}
+use lib.ListN.{length, getD, take, length-append}
+use lib.Seq.{take-at}
 use borrow.Author.Tests.{eq-eqb, eqb-true, eqb-false, ltb-true, leb-true, not-true}
 use Rattle.refusal.specs.declared.Refusal.{Refusal}
 use Rattle.refusal.specs.declared.Refusal.the-variants.{DiscShape, SpanOutside, LentLength, MapCut, NeitherKind, Misaligned, OtherKind, NoTable, TooManyEntries, CopiesDiffer, StaleRecord, NumberOutside, UnusedEntry, BlankSector, UnreadableSector, PassesAsIcb, NoRoom, OneTable, NoSpare, LastSequence, NotBlank}
@@ -31,7 +32,7 @@ use Rattle.model.specs.Writes.{Write, writes, upward, struck}
 use Rattle.model.specs.Vat.{none}
 use Rattle.model.specs.VatWritten.{filled}
 use Rattle.model.specs.Told.{replyNumber, openedNumber, givenNumber, forecastNumber}
-use Rattle.model.specs.Sparing.{sparingName, olderName, Geometry, Entry, entries, flat, isFree, defective, isDefective, isUsed, usedOf, defectiveOf, freeOf, originalFits, originalsFit, mayFollow, ascending, apart, apartFrom, outside, mappedOf, mappedFit, entriesFit, countIn, tableIn, noneDefective, named, copyFits, mappedTo, inPlace, spotOf, inserted, firstFree, rest, without, turnedDefective, retired, freeTaken, resorted, writtenTable}
+use Rattle.model.specs.Sparing.{sparingName, olderName, Geometry, Entry, entries, flat, isFree, defective, isDefective, isUsed, usedOf, defectiveOf, freeOf, originalFits, originalsFit, mayFollow, ascending, apart, apartFrom, outside, mappedOf, mappedFit, entriesFit, countIn, tableIn, noneDefective, named, copyFits, spotOf, inserted, firstFree, rest, without, turnedDefective, retired, freeTaken, resorted, writtenTable}
 use Rattle.maps.specs.Kinds.{absent}
 use Rattle.model.specs.Plan.{unless, discAfter}
 use Rattle.model.specs.Examine.{Setting, writeOnce, geometry, examined, lentTable}
@@ -41,14 +42,15 @@ use Rattle.model.specs.Store.{blocksOn}
 use Rattle.model.specs.Demand.{Below}
 use Rattle.model.specs.Examples.{entry}
 use Rattle.model.specs.ReadBack.{Stands, smallGeometry, eachEntry}
-use Rattle.model.specs.NewerWriters.{NoEighteen, Copies, NewerWritten, Respared, tableUnder, plainTable, reservedTable, spentTable, NewerMet}
+use Rattle.model.specs.NewerWriters.{NoEighteen, Copies, NewerWritten, Respared, DefectiveStays, tableUnder, plainTable, reservedTable, spentTable, NewerMet}
 use Rattle.model.proofs.Basics.{by-bool, and-true, and-false, both, or-left, or-right}
-use Rattle.model.proofs.SparingLaws.{In, fits-originals, original-cases, originals-first, multiple-none, multiple-defective, three-parts, resorted-used, resorted-defective, resorted-free, turned-spared, turned-unspared, locate-not-defective, written-name, written-suffix, length-copies, copy-order-length}
+use Rattle.model.proofs.SparingLaws.{In, fits-originals, fits-mapped, free-not-defective, original-cases, originals-first, multiple-none, multiple-defective, three-parts, resorted-used, resorted-defective, resorted-free, turned-spared, turned-unspared, locate-not-defective, written-name, written-suffix, length-copies, copy-order-length}
 use Rattle.model.proofs.Sectors.{writes-append}
 use Rattle.model.proofs.SectorsRuns.{length-upward}
 use Rattle.model.proofs.Verdicts.{then-go, go-then, examined-tells, examined-go}
 use Rattle.model.proofs.ReadyOpen.{first-ground, first-ready}
 use Rattle.model.proofs.ReadyCalls.{again-tells}
+use Rattle.model.proofs.ReadyDemand.{defective-stays}
 use Rattle.model.proofs.ReadySpare.{Has, spare-stands}
 use Rattle.model.proofs.ReadyLivesMade.{made-stands}
 use Rattle.model.proofs.ReadBack.{plan-done}
@@ -263,7 +265,15 @@ respared =
       turned = λ g es p m f s k q. turned-spared g es p m f s k q;
       kept = λ es p m q. turned-unspared es p m q;
       unread = λ g es i v j f s n l h k. locate-not-defective g es f s n v _ j l (in-mapped (defectiveOf es) i (entry 0 0) k) h;
+      untaken = λ g es i f s k. free-not-defective g es _ (fits-mapped g es f) s (in-mapped (defectiveOf es) i (entry 0 0) k);
     }
+
+-- what was defective stays so, over whole lists
+pub stays-defective : DefectiveStays
+unfolding DefectiveStays entriesOn
+stays-defective e d t cs again f =
+    let k = defective-stays e d t (f .low) again (f .opens) cs (f .proper) in
+    ap (take (length (defectiveOf (entriesOn e d)))) (k .1) ∙ take-at (defectiveOf (entriesOn e d)) (k .0) (length (defectiveOf (entriesOn e d))) refl
 
 -- ---- closed tables
 

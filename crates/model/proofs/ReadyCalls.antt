@@ -20,7 +20,7 @@ use Rattle.model.specs.declared.Landing.{Landing}
 use Rattle.model.specs.declared.Record.{Record}
 use Rattle.model.specs.Disc.{Disc, sector, recorded, recordedRun, markTests, joined}
 use Rattle.model.specs.Writes.{landing, writes, upward, struck}
-use Rattle.model.specs.Sparing.{Geometry, entries, packetOf, locate}
+use Rattle.model.specs.Sparing.{Geometry, Entry, entries, packetOf, locate}
 use Rattle.model.specs.Examine.{Setting, writeOnce, examined, lentTable}
 use Rattle.model.specs.Rewrite.{copyTests, heldCurrent, rewritableVerdict, placeOf, blockTest, saveBlockTests, blockLent, packetWrites, replaced, saveBlockPlan, packetTests, packetLent, savePacketPlan}
 use Rattle.model.specs.Calls.{saveBlock, savePacket, State, step}
@@ -33,7 +33,7 @@ use Rattle.model.proofs.SectorsRuns.{length-joined, joined-part, record
 use Rattle.model.proofs.SparingLaws.{packet-multiple, packet-less, packet-rest, packet-inside, packet-start}
 use Rattle.model.proofs.Ground.{Ground}
 use Rattle.model.proofs.Ready.{Ready, LiveAgain, ready-place}
-use Rattle.model.proofs.ReadyOpen.{AgainOk}
+use Rattle.model.proofs.ReadyOpen.{Keeps, AgainOk}
 use Rattle.model.proofs.ReadySave.{run-cases, ready-written, on-disc, at-place}
 use Rattle.model.proofs.Slots.{length-blocks, block-in, length-cut, cut-other, cut-inside, length-puts, puts-other, puts-inside, slot-recorded}
 use Rattle.model.proofs.Steps.{Told, told-plan, Sound, sound-plan, sound-carried}
@@ -96,10 +96,10 @@ module _ (e : Setting) (g : Geometry) (γ : Ground e g) (h : Shape) (st : State)
         ∙ block-in 32 x 0 j u
         ∙ sym (after-done (getD (σ .blocks) (b + j) unused) _ (landing-uncut (1 + j) 32 c uncut (omega arith) (omega arith))))
 
-  pub sound-packet : (b : ℕ) (x : List ℕ) (c : Cut) → Sound (AgainOk e g) h σ (savePacket b x c) (step e st (savePacket b x c))
+  pub sound-packet : (ds : List Entry) → Keeps ds l → (b : ℕ) (x : List ℕ) (c : Cut) → Sound (AgainOk e g ds) h σ (savePacket b x c) (step e st (savePacket b x c))
   unfolding step savePacketPlan packetWrites AgainOk cutIn writesIn taken packetTests packetLent
-  sound-packet b x c =
-      sound-plan (AgainOk e g) h σ (savePacket b x c) c st _ _ _ _ (n, l, i) λ go.
+  sound-packet ds kept b x c =
+      sound-plan (AgainOk e g ds) h σ (savePacket b x c) c st _ _ _ _ (n, l, i, kept) λ go.
       let p = again-tells e d (st .table) _ (st .held) (packetTests e b) go in
       let u = and-true (lentTable (st .table)) _ (p .0 .lengths) in
       let v = and-true (eqb (b % 32) 0) _ (p .1 .0) in
@@ -108,9 +108,9 @@ module _ (e : Setting) (g : Geometry) (γ : Ground e g) (h : Shape) (st : State)
       let long : length x ≡ 65536 = eqb-true _ _ (u .1) in
       let w = length-upward 32 (placeOf e d b) x 0 in
       let place = ready-place γ (i .ready) b in
-      sound-carried (AgainOk e g) h σ (savePacket b x c) c st _ _ _ refl (sym w)
-      (λ k. (n, l, rw place (packet-cut b x c multiple below long), i .lent))
-      (λ k. (n, l, record { ready = rw place (packet-done b x c multiple below long (rw w at k)); held = i .held; front = i .front; lent = i .lent }))
+      sound-carried (AgainOk e g ds) h σ (savePacket b x c) c st _ _ _ refl (sym w)
+      (λ k. (n, l, rw place (packet-cut b x c multiple below long), i .lent, kept))
+      (λ k. (n, l, record { ready = rw place (packet-done b x c multiple below long (rw w at k)); held = i .held; front = i .front; lent = i .lent }, kept))
 
   -- ---- save block
   module _ (b : ℕ) (x : List ℕ) (c : Cut) (below : b < g .span) (long : length x ≡ 2048) where
@@ -221,10 +221,10 @@ module _ (e : Setting) (g : Geometry) (γ : Ground e g) (h : Shape) (st : State)
           getD-set-other (σ .blocks) b (p + j) (holds x) unused z ∙ old-block j u w)
           ∙ sym (after-done (getD (σ .blocks) (p + j) unused) _ (landing-uncut (1 + j) 32 c uncut (omega arith) (omega arith))))
 
-  pub sound-block : (b : ℕ) (x : List ℕ) (c : Cut) → Sound (AgainOk e g) h σ (saveBlock b x c) (step e st (saveBlock b x c))
+  pub sound-block : (ds : List Entry) → Keeps ds l → (b : ℕ) (x : List ℕ) (c : Cut) → Sound (AgainOk e g ds) h σ (saveBlock b x c) (step e st (saveBlock b x c))
   unfolding step saveBlockPlan packetWrites AgainOk cutIn writesIn taken saveBlockTests blockTest blockLent markTests
-  sound-block b x c =
-      sound-plan (AgainOk e g) h σ (saveBlock b x c) c st _ _ _ _ (n, l, i) λ go.
+  sound-block ds kept b x c =
+      sound-plan (AgainOk e g ds) h σ (saveBlock b x c) c st _ _ _ _ (n, l, i, kept) λ go.
       let t = again-tells e d (st .table) _ (st .held) (saveBlockTests e d b) go in
       let u = and-true (lentTable (st .table)) _ (t .0 .lengths) in
       let below : b < g .span = rw (← γ .span-is) (ltb-true _ _ (t .1 .0)) in
@@ -232,6 +232,6 @@ module _ (e : Setting) (g : Geometry) (γ : Ground e g) (h : Shape) (st : State)
       let place = ready-place γ (i .ready) (packetOf b) in
       let others = sym (other-mark d (locate (g .start) (entries l) (packetOf b)) (b % 32)) ∙ rw place at (t .1 .1 .1 .0) in
       let w = length-upward 32 (placeOf e d (packetOf b)) (replaced d (placeOf e d (packetOf b)) (b % 32) x) 0 in
-      sound-carried (AgainOk e g) h σ (saveBlock b x c) c st _ _ _ refl (sym w)
-      (λ z. (n, l, rw place (block-cut b x c below long others), i .lent))
-      (λ z. (n, l, record { ready = rw place (block-done b x c below long others (rw w at z)); held = i .held; front = i .front; lent = i .lent }))
+      sound-carried (AgainOk e g ds) h σ (saveBlock b x c) c st _ _ _ refl (sym w)
+      (λ z. (n, l, rw place (block-cut b x c below long others), i .lent, kept))
+      (λ z. (n, l, record { ready = rw place (block-done b x c below long others (rw w at z)); held = i .held; front = i .front; lent = i .lent }, kept))

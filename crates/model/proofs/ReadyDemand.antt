@@ -12,21 +12,22 @@ use Rattle.maps.specs.Kinds.{readMaps}
 use Rattle.model.specs.declared.Record.{Record}
 use Rattle.model.specs.Disc.{Disc}
 use Rattle.model.specs.Writes.{noCut}
-use Rattle.model.specs.Sparing.{Geometry}
+use Rattle.model.specs.Sparing.{Geometry, Entry, defectiveOf}
 use Rattle.model.specs.Examine.{Setting, writeOnce, examined, geometry}
 use Rattle.model.specs.Once.{heldFits, onceVerdict, savePlan, freePlan, commitPlan}
+use Rattle.model.specs.Rewrite.{tableOn, entriesOn}
 use Rattle.model.specs.Both.{opening, openVerdict}
-use Rattle.model.specs.Calls.{Call, saveVirtual, freeVirtual, commit, saveBlock, savePacket, sparePacket, openDisc, cut, State, step, answers, answerOfOpening, isOpened, Proper, endsCut}
+use Rattle.model.specs.Calls.{Call, saveVirtual, freeVirtual, commit, saveBlock, savePacket, sparePacket, openDisc, cut, State, step, answers, final, answerOfOpening, isOpened, Proper, endsCut}
 use Rattle.model.specs.Store.{Store, Shape, shapeOf, start, cutIn}
 use Rattle.model.specs.Demand.{Below, afterOpening, followed, Kept}
 use Rattle.model.proofs.Verdicts.{open-maps, then-go}
 use Rattle.model.proofs.Ground.{Ground}
-use Rattle.model.proofs.Ready.{LiveAgain, read-again}
-use Rattle.model.proofs.ReadyOpen.{AgainOk, reopened-again, first-ground, first-again}
+use Rattle.model.proofs.Ready.{LiveAgain, ready-table, read-again}
+use Rattle.model.proofs.ReadyOpen.{Keeps, AgainOk, reopened-again, first-ground, first-again}
 use Rattle.model.proofs.ReadyCalls.{sound-packet, sound-block, told-packet, told-block}
 use Rattle.model.proofs.ReadySpare.{sound-spare, told-spare}
 use Rattle.model.proofs.OnceDemand.{accepted-goes}
-use Rattle.model.proofs.Steps.{Told, told-plan, told-opening, list-told, Sound, sound-plan, list-opens, list-ends}
+use Rattle.model.proofs.Steps.{list-after, Told, told-plan, told-opening, list-told, Sound, sound-plan, list-opens, list-ends}
 
 -- a call for write-once discs never goes on
 other-kind : {P : Type 0} (e : Setting) (d : Disc) (t : List ℕ) (lent : Bool) (r : Record) (own : List Test) → writeOnce e ≡ false → onceVerdict e d t lent r own ≡ Go → P
@@ -37,7 +38,7 @@ other-kind e d t lent r own again g =
     absurd (false≢true (sym again ∙ q .0))
 
 module _ (e : Setting) (again : writeOnce e ≡ false) (maps-go : readMaps (e .maps) .verdict ≡ Go) (g : Geometry) (γ : Ground e g)
-    (tables : shapeOf e .tables ≡ length (g .tables)) where
+    (tables : shapeOf e .tables ≡ length (g .tables)) (ds : List Entry) where
   abbrev h : Shape
   h = shapeOf e
 
@@ -45,26 +46,26 @@ module _ (e : Setting) (again : writeOnce e ≡ false) (maps-go : readMaps (e .m
   unfolding shapeOf
   shape-again = again
 
-  sound-live : (st : State) (σ : Store) (c : Call) (n : ℕ) (l : List ℕ) → LiveAgain e g st n l σ → Sound (AgainOk e g) h σ c (step e st c)
+  sound-live : (st : State) (σ : Store) (c : Call) (n : ℕ) (l : List ℕ) → LiveAgain e g st n l σ → Keeps ds l → Sound (AgainOk e g ds) h σ c (step e st c)
   unfolding step savePlan freePlan commitPlan AgainOk
-  sound-live st σ (saveVirtual v b c) n l i = sound-plan (AgainOk e g) h σ (saveVirtual v b c) c st _ _ _ _ (n, l, i) λ go. other-kind e _ _ _ _ _ again go
-  sound-live st σ (freeVirtual v) n l i = sound-plan (AgainOk e g) h σ (freeVirtual v) noCut st _ _ _ _ (n, l, i) λ go. other-kind e _ _ _ _ _ again go
-  sound-live st σ (commit c) n l i = sound-plan (AgainOk e g) h σ (commit c) c st _ _ _ _ (n, l, i) λ go. other-kind e _ _ _ _ _ again go
-  sound-live st σ (saveBlock b x c) n l i = sound-block e g γ h st σ n l i b x c
-  sound-live st σ (savePacket b x c) n l i = sound-packet e g γ h st σ n l i b x c
-  sound-live st σ (sparePacket b x c) n l i = sound-spare e g γ h tables st σ n l i b x c
-  sound-live st σ openDisc n l i = reopened-again e g again γ maps-go h shape-again st σ n l (i .ready) (i .lent) .sound
+  sound-live st σ (saveVirtual v b c) n l i kept = sound-plan (AgainOk e g ds) h σ (saveVirtual v b c) c st _ _ _ _ (n, l, i, kept) λ go. other-kind e _ _ _ _ _ again go
+  sound-live st σ (freeVirtual v) n l i kept = sound-plan (AgainOk e g ds) h σ (freeVirtual v) noCut st _ _ _ _ (n, l, i, kept) λ go. other-kind e _ _ _ _ _ again go
+  sound-live st σ (commit c) n l i kept = sound-plan (AgainOk e g ds) h σ (commit c) c st _ _ _ _ (n, l, i, kept) λ go. other-kind e _ _ _ _ _ again go
+  sound-live st σ (saveBlock b x c) n l i kept = sound-block e g γ h st σ n l i ds kept b x c
+  sound-live st σ (savePacket b x c) n l i kept = sound-packet e g γ h st σ n l i ds kept b x c
+  sound-live st σ (sparePacket b x c) n l i kept = sound-spare e g γ h tables st σ n l i b x c ds kept
+  sound-live st σ openDisc n l i kept = reopened-again e g again γ maps-go h shape-again st σ n l (i .ready) (i .lent) ds kept .sound
 
-  sound-any : (down : Bool) (st : State) (σ : Store) (c : Call) → AgainOk e g down st σ → (down ≡ true → c ≡ openDisc) → Sound (AgainOk e g) h σ c (step e st c)
+  sound-any : (down : Bool) (st : State) (σ : Store) (c : Call) → AgainOk e g ds down st σ → (down ≡ true → c ≡ openDisc) → Sound (AgainOk e g ds) h σ c (step e st c)
   unfolding AgainOk
   sound-any true st σ c o q =
-      subst (λ (x : Call). Sound (AgainOk e g) h σ x (step e st x)) (sym (q refl)) (reopened-again e g again γ maps-go h shape-again st σ (o .0) (o .1) (o .2) (o .3) .sound)
-  sound-any false st σ c o q = sound-live st σ c (o .0) (o .1) (o .2)
+      subst (λ (x : Call). Sound (AgainOk e g ds) h σ x (step e st x)) (sym (q refl)) (reopened-again e g again γ maps-go h shape-again st σ (o .0) (o .1) (o .2) (o .3) ds (o .4) .sound)
+  sound-any false st σ c o q = sound-live st σ c (o .0) (o .1) (o .2) (o .3)
 
-  opens-any : (down : Bool) (st : State) (σ : Store) → AgainOk e g down st σ → isOpened (step e st openDisc .answer) ≡ true
+  opens-any : (down : Bool) (st : State) (σ : Store) → AgainOk e g ds down st σ → isOpened (step e st openDisc .answer) ≡ true
   unfolding AgainOk
-  opens-any true st σ o = reopened-again e g again γ maps-go h shape-again st σ (o .0) (o .1) (o .2) (o .3) .accepts
-  opens-any false st σ o = reopened-again e g again γ maps-go h shape-again st σ (o .0) (o .1) (o .2 .ready) (o .2 .lent) .accepts
+  opens-any true st σ o = reopened-again e g again γ maps-go h shape-again st σ (o .0) (o .1) (o .2) (o .3) ds (o .4) .accepts
+  opens-any false st σ o = reopened-again e g again γ maps-go h shape-again st σ (o .0) (o .1) (o .2 .ready) (o .2 .lent) ds (o .3) .accepts
 
   -- the answer of a call says that it was cut exactly if the plain store knows it
   told-live : (st : State) (σ : Store) (c : Call) (n : ℕ) (l : List ℕ) → LiveAgain e g st n l σ → Told h σ c (step e st c .answer)
@@ -77,33 +78,45 @@ module _ (e : Setting) (again : writeOnce e ≡ false) (maps-go : readMaps (e .m
   told-live st σ (sparePacket b x c) n l i = told-spare e g γ h tables st σ n l i b x c
   told-live st σ openDisc n l i = told-opening e h st σ
 
-  told-any : (down : Bool) (st : State) (σ : Store) (c : Call) → AgainOk e g down st σ → (down ≡ true → c ≡ openDisc) → Told h σ c (step e st c .answer)
+  told-any : (down : Bool) (st : State) (σ : Store) (c : Call) → AgainOk e g ds down st σ → (down ≡ true → c ≡ openDisc) → Told h σ c (step e st c .answer)
   unfolding AgainOk
   told-any true st σ c o q = subst (λ (x : Call). Told h σ x (step e st x .answer)) (sym (q refl)) (told-opening e h st σ)
   told-any false st σ c o q = told-live st σ c (o .0) (o .1) (o .2)
 
   -- every list of calls
-  again-lists : (d : Disc) (t : List ℕ) → AgainOk e g false (afterOpening e d t) (start e d) → (cs : List Call) → Proper false cs (answers e (afterOpening e d t) cs) → Kept e d t cs
+  again-lists : (d : Disc) (t : List ℕ) → AgainOk e g ds false (afterOpening e d t) (start e d) → (cs : List Call) → Proper false cs (answers e (afterOpening e d t) cs) → Kept e d t cs
   unfolding AgainOk
   again-lists d t i cs p =
       record {
-        opens = list-opens (AgainOk e g) h e sound-any cs (afterOpening e d t) (start e d) i p opens-any;
+        opens = list-opens (AgainOk e g ds) h e sound-any cs (afterOpening e d t) (start e d) i p opens-any;
         reads = λ q v out long.
-            let o = list-ends (AgainOk e g) h e sound-any cs (afterOpening e d t) (start e d) i p q in
+            let o = list-ends (AgainOk e g ds) h e sound-any cs (afterOpening e d t) (start e d) i p q in
             read-again e g again γ maps-go _ (o .0) (o .1) _ (o .2) v out long;
       }
 
-  again-answers : (d : Disc) (t : List ℕ) → AgainOk e g false (afterOpening e d t) (start e d) → (cs : List Call) → Proper false cs (answers e (afterOpening e d t) cs)
+  again-answers : (d : Disc) (t : List ℕ) → AgainOk e g ds false (afterOpening e d t) (start e d) → (cs : List Call) → Proper false cs (answers e (afterOpening e d t) cs)
       → (i : ℕ) → i < length cs
       → Told h (followed h (start e d) (take i cs) (answers e (afterOpening e d t) (take i cs))) (getD cs i openDisc) (getD (answers e (afterOpening e d t) cs) i cut)
-  again-answers d t o cs p = list-told (AgainOk e g) h e sound-any cs (afterOpening e d t) (start e d) o p told-any
+  again-answers d t o cs p = list-told (AgainOk e g ds) h e sound-any cs (afterOpening e d t) (start e d) o p told-any
 
-  again-count : (d : Disc) (t : List ℕ) → AgainOk e g false (afterOpening e d t) (start e d) → (cs : List Call) → Proper false cs (answers e (afterOpening e d t) cs)
+  again-count : (d : Disc) (t : List ℕ) → AgainOk e g ds false (afterOpening e d t) (start e d) → (cs : List Call) → Proper false cs (answers e (afterOpening e d t) cs)
       → endsCut false (answers e (afterOpening e d t) cs) ≡ false → length (followed h (start e d) cs (answers e (afterOpening e d t) cs) .blocks) ≡ e .span
   unfolding AgainOk
   again-count d t i cs p q =
-      let o = list-ends (AgainOk e g) h e sound-any cs (afterOpening e d t) (start e d) i p q in
+      let o = list-ends (AgainOk e g ds) h e sound-any cs (afterOpening e d t) (start e d) i p q in
       o .2 .ready .count ∙ sym (γ .span-is)
+
+  -- the table after a list, cut or not, has these defective spares first
+  again-worn : (d : Disc) (t : List ℕ) → AgainOk e g ds false (afterOpening e d t) (start e d) → (cs : List Call) → Proper false cs (answers e (afterOpening e d t) cs)
+      → Keeps ds (tableOn e (final e (afterOpening e d t) cs .disc))
+  unfolding AgainOk
+  again-worn d t i cs p =
+      go (endsCut false (answers e (afterOpening e d t) cs)) (final e (afterOpening e d t) cs) (followed h (start e d) cs (answers e (afterOpening e d t) cs))
+      (list-after (AgainOk e g ds) h e sound-any cs (afterOpening e d t) (start e d) i p)
+    where
+      go : (down : Bool) (st : State) (σ : Store) → AgainOk e g ds down st σ → Keeps ds (tableOn e (st .disc))
+      go true st σ (n, l, r, long, kept) = rw (ready-table r) kept
+      go false st σ (n, l, r, kept) = rw (ready-table (r .ready)) kept
 
 -- on a rewritable disc that opening accepts
 pub again-demand : (e : Setting) (d : Disc) (t : List ℕ) → Below 256 (d .bytes) → writeOnce e ≡ false → isOpened (answerOfOpening (opening e d t)) ≡ true
@@ -112,7 +125,7 @@ unfolding openVerdict AgainOk shapeOf geometry
 again-demand e d t low again a cs p =
     let go = accepted-goes e d t a in
     let m = open-maps e d t go in
-    again-lists e again m (geometry e d) (first-ground e again d t low go) refl d t (first-again e again d t low go) cs p
+    again-lists e again m (geometry e d) (first-ground e again d t low go) refl (defectiveOf (entriesOn e d)) d t (first-again e again d t low go) cs p
 
 -- the answer of each call says that it was cut exactly if the plain store knows it
 pub again-told : (e : Setting) (d : Disc) (t : List ℕ) → Below 256 (d .bytes) → writeOnce e ≡ false → isOpened (answerOfOpening (opening e d t)) ≡ true
@@ -122,7 +135,7 @@ unfolding openVerdict AgainOk shapeOf geometry
 again-told e d t low again a cs p =
     let go = accepted-goes e d t a in
     let m = open-maps e d t go in
-    again-answers e again m (geometry e d) (first-ground e again d t low go) refl d t (first-again e again d t low go) cs p
+    again-answers e again m (geometry e d) (first-ground e again d t low go) refl (defectiveOf (entriesOn e d)) d t (first-again e again d t low go) cs p
 
 -- the plain store has L blocks, in whole packets, after a list that does not end in a cut
 pub again-blocks : (e : Setting) (d : Disc) (t : List ℕ) → Below 256 (d .bytes) → writeOnce e ≡ false → isOpened (answerOfOpening (opening e d t)) ≡ true
@@ -133,4 +146,13 @@ again-blocks e d t low again a cs p q =
     let go = accepted-goes e d t a in
     let m = open-maps e d t go in
     let γ = first-ground e again d t low go in
-    (again-count e again m (geometry e d) γ refl d t (first-again e again d t low go) cs p q, γ .span-32)
+    (again-count e again m (geometry e d) γ refl (defectiveOf (entriesOn e d)) d t (first-again e again d t low go) cs p q, γ .span-32)
+
+-- what was a defective spare stays one, and those that were come first
+pub defective-stays : (e : Setting) (d : Disc) (t : List ℕ) → Below 256 (d .bytes) → writeOnce e ≡ false → isOpened (answerOfOpening (opening e d t)) ≡ true
+    → (cs : List Call) → Proper false cs (answers e (afterOpening e d t) cs) → Keeps (defectiveOf (entriesOn e d)) (tableOn e (final e (afterOpening e d t) cs .disc))
+unfolding openVerdict AgainOk shapeOf geometry
+defective-stays e d t low again a cs p =
+    let go = accepted-goes e d t a in
+    let m = open-maps e d t go in
+    again-worn e again m (geometry e d) (first-ground e again d t low go) refl (defectiveOf (entriesOn e d)) d t (first-again e again d t low go) cs p

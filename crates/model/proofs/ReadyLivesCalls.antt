@@ -1,9 +1,9 @@
 -- When the calls on a rewritable disc are carried out, and what they then answer and leave. Assumes nothing.
 use Prim.Native.Nat.{ℕ, _+_, _-_, _*_, _%_, _≤_, _<_}
-use mathlib.Core.Bool.{Bool, true, false, cond, not}
+use mathlib.Core.Bool.{Bool, true, false, cond}
 use mathlib.Core.Logic.{_≢_}
-use mathlib.Core.Path.{_≡_, sym, ap, ap₂, _∙_}
-use mathlib.Core.List.{List}
+use mathlib.Core.Path.{_≡_, refl, sym, ap, ap₂, _∙_}
+use mathlib.Core.List.{List, []}
 use native.Mathlib.Omega.{arith}
 use lib.Dec.{eqb}
 use lib.ListN.{length, getD, set, take, drop}
@@ -16,7 +16,7 @@ use Rattle.maps.specs.Kinds.{readMaps}
 use Rattle.model.specs.declared.Record.{Record}
 use Rattle.model.specs.Disc.{Disc, mark, recorded}
 use Rattle.model.specs.Writes.{Write, writes, struck, noCut}
-use Rattle.model.specs.Sparing.{Geometry, Entry, entries, flat, freeOf, resorted, packetOf, locate}
+use Rattle.model.specs.Sparing.{Geometry, Entry, entries, flat, defectiveOf, freeOf, resorted, packetOf, locate}
 use Rattle.model.specs.Examine.{Setting, writeOnce, lentTable}
 use Rattle.model.specs.Once.{filledFrom}
 use Rattle.model.specs.Plan.{carry, unless, replyOf, discAfter, tableAfter}
@@ -31,7 +31,7 @@ use Rattle.model.proofs.Ground.{Ground}
 use Rattle.model.proofs.SectorsRuns.{recordedRun-all}
 use Rattle.model.proofs.SparingLaws.{entries-flat, length-flat, resorted-length, packet-multiple, packet-less, packet-inside, settled-some, settled-table, settled-agree}
 use Rattle.model.proofs.Ready.{Ready, Holds, LiveAgain, ready-fits, ready-entries, ready-count, ready-sequence, ready-place, examined-again, copies-go, held-current}
-use Rattle.model.proofs.ReadyOpen.{AgainOk, reopened-again}
+use Rattle.model.proofs.ReadyOpen.{Keeps, AgainOk, reopened-again}
 use Rattle.model.proofs.ReadySave.{at-place}
 use Rattle.model.proofs.ReadyCalls.{sound-block}
 use Rattle.model.proofs.ReadySpare.{sound-spare}
@@ -71,6 +71,10 @@ holds-recorded d p x h =
 pub record Whole (n : ℕ) (bs : List Slot) : Type 0 where
   pub bytes : ℕ → List ℕ
   pub block : (v : ℕ) → v < n → getD bs v unused ≡ holds (bytes v)
+
+-- any table's defective spares begin with none
+any-kept : (l : List ℕ) → Keeps [] l
+any-kept l = (defectiveOf (entries l), refl)
 
 -- a record has one R and one sequence
 held-both : (r : Record) {a n a′ n′ : ℕ} → Holds r a n → Holds r a′ n′ → (a ≡ a′) × (n ≡ n′)
@@ -161,9 +165,9 @@ module _ (e : Setting) (g : Geometry) (again : writeOnce e ≡ false) (γ : Grou
       unfolding step saveBlockPlan
       save-table = ap (λ (r : Result). r .state .table) (carried-out _ _ _ _ st save-goes)
 
-      save-any : (n′ : ℕ) × (l′ : List ℕ) × LiveAgain e g (step e st (saveBlock b x noCut) .state) n′ l′ (store (set (σ .blocks) b (holds x)) (σ .copy))
+      save-any : (n′ : ℕ) × (l′ : List ℕ) × LiveAgain e g (step e st (saveBlock b x noCut) .state) n′ l′ (store (set (σ .blocks) b (holds x)) (σ .copy)) × Keeps [] l′
       unfolding AgainOk taken wasCut cutIn writesIn struck noCut
-      save-any = sound-done (AgainOk e g) h σ (saveBlock b x noCut) (step e st (saveBlock b x noCut)) _ save-answer (sound-block e g γ h st σ n l i b x noCut)
+      save-any = sound-done (AgainOk e g []) h σ (saveBlock b x noCut) (step e st (saveBlock b x noCut)) _ save-answer (sound-block e g γ h st σ n l i [] (any-kept l) b x noCut)
 
       -- the table is as it was, and block b has its bytes
       pub save-live : LiveAgain e g (step e st (saveBlock b x noCut) .state) n l (store (set (σ .blocks) b (holds x)) (σ .copy))
@@ -191,10 +195,10 @@ module _ (e : Setting) (g : Geometry) (again : writeOnce e ≡ false) (γ : Grou
           ap (λ (r : Result). r .state .held) (carried-out _ _ _ _ st spare-goes)
           ∙ ap₂ (λ (a s : ℕ). Record.Rewritable a (s + 1)) (ready-count (i .ready)) (ready-sequence (i .ready))
 
-      spare-any : (n′ : ℕ) × (l′ : List ℕ) × LiveAgain e g (step e st (sparePacket p y noCut) .state) n′ l′ (store (puts (σ .blocks) p (slotsIn 32 y 0)) (σ .copy))
+      spare-any : (n′ : ℕ) × (l′ : List ℕ) × LiveAgain e g (step e st (sparePacket p y noCut) .state) n′ l′ (store (puts (σ .blocks) p (slotsIn 32 y 0)) (σ .copy)) × Keeps [] l′
       unfolding AgainOk taken wasCut cutIn writesIn struck noCut
       spare-any =
-          sound-done (AgainOk e g) h σ (sparePacket p y noCut) (step e st (sparePacket p y noCut)) _ spare-answer (sound-spare e g γ h copies st σ n l i p y noCut)
+          sound-done (AgainOk e g []) h σ (sparePacket p y noCut) (step e st (sparePacket p y noCut)) _ spare-answer (sound-spare e g γ h copies st σ n l i p y noCut [] (any-kept l))
 
       -- the lent table begins with the entries resorted
       spare-table : step e st (sparePacket p y noCut) .state .table ≡ filledFrom (flat (resorted (entries l) p)) (st .table)
@@ -232,6 +236,8 @@ module _ (e : Setting) (g : Geometry) (again : writeOnce e ≡ false) (γ : Grou
     pub reopen-live : h .once ≡ false → (n′ : ℕ) × (l′ : List ℕ) × LiveAgain e g (step e st openDisc .state) n′ l′ σ
     unfolding AgainOk taken wasCut cutIn writesIn struck noCut
     reopen-live one =
+        let r =
         rw one at
-        (sound-opened (AgainOk e g) h σ openDisc (step e st openDisc) _ _ reopen-answer
-        (reopened-again e g again γ maps-go h one st σ n l (i .ready) (i .lent) .sound))
+        (sound-opened (AgainOk e g []) h σ openDisc (step e st openDisc) _ _ reopen-answer
+        (reopened-again e g again γ maps-go h one st σ n l (i .ready) (i .lent) [] (any-kept l) .sound)) in
+        (r .0, r .1, r .2)

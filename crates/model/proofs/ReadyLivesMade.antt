@@ -1,8 +1,8 @@
 -- The disc that making leaves of a rewritable volume: zeros in the partition and the same table of free entries in every copy. Assumes nothing.
 use Prim.Native.Nat.{ℕ, zero, suc, _+_, _-_, _*_, _%_, _≤_, _<_}
 use mathlib.Core.Bool.{true, false, _||_, false≢true}
-use mathlib.Core.Logic.{_≢_, _⊎_, inl, inr, ⊎-elim}
-use mathlib.Core.Path.{_≡_, refl, sym, ap, _∙_, subst}
+use mathlib.Core.Logic.{_≢_, _⊎_, inl, ⊎-elim}
+use mathlib.Core.Path.{_≡_, refl, sym, ap, _∙_}
 use mathlib.Core.List.{List, [], _∷_, _++_}
 use native.Mathlib.Omega.{arith}
 use lib.Dec.{leb, eqb}
@@ -20,7 +20,7 @@ use Rattle.maps.specs.Walk.{Walked, short, maps, walk}
 use Rattle.maps.specs.Kinds.{sparableName, typeTwo, tablesInRange, isWriteOnce, isRewritable, used, volumeOf, volumeIn, noVolume, volumeWith, tablesIn, tablesOf, kindTests, judged, answered, readMaps}
 use Rattle.model.specs.declared.Landing.{Landing}
 use Rattle.model.specs.Disc.{Disc, sector, mark, recorded}
-use Rattle.model.specs.Writes.{Write, landing, landed, write, writes, upward, noCut}
+use Rattle.model.specs.Writes.{Write, landing, landed, writes, upward, noCut}
 use Rattle.model.specs.Vat.{none}
 use Rattle.model.specs.Sparing.{Geometry, Entry, flat, freeOf, isFree, entriesFit, copyFits, counts, sequenceIn, sequenceAt, tableIn, tableAt, spotOf, inPlace, packetOf, startAt, locate, writtenTable}
 use Rattle.model.specs.Examine.{Setting, volume, isOnce, writeOnce, geometry, examined}
@@ -30,10 +30,10 @@ use Rattle.model.specs.Store.{holds, unused, slotAt, blocksOn}
 use Rattle.model.specs.LivesAgain.{zeroBlock}
 use Rattle.model.proofs.ReadyOpen.{length-places, place-slot}
 use Rattle.model.proofs.ReadySpare.{elsewhere-copies, placed-copies, Has, has-copies}
-use Rattle.model.proofs.Basics.{by-eq, and-true}
+use Rattle.model.proofs.Basics.{and-true}
 use Rattle.model.proofs.Verdicts.{Examined, examined-tells, then-go}
 use Rattle.model.proofs.Ground.{Ground, ground, geometry-same}
-use Rattle.model.proofs.Sectors.{Made, Placed, shapely-made, landed-made, landed-marks-length, sector-other, mark-other, sector-done, mark-done, writes-marks-length, writes-shapely, writes-inside, writes-made, writes-other, writes-append, landing-none}
+use Rattle.model.proofs.Sectors.{Made, Placed, shapely-made, sector-done, mark-done, writes-marks-length, writes-shapely, writes-inside, writes-made, writes-other, writes-append, landing-none}
 use Rattle.model.proofs.SectorsRuns.{placed-upward, upward-sector, upward-mark}
 use Rattle.model.proofs.SparingEntries.{spot-next}
 use Rattle.model.proofs.SparingLaws.{In, entries-flat, length-written, written-sequence, written-table, written-fits, packet-multiple, packet-rest, table-outside, fits-counts, Settled, settled-table}
@@ -119,11 +119,7 @@ unfolding locate startAt
 free-place spares s b =
     rw (free-spot spares (packetOf b) (start-some (packetOf b) (packet-multiple b))) (omega (arith, packet-rest b))
 
--- a packet's start has no entry
-pub spot-free : (spares : List ℕ) (p : ℕ) → p % 32 ≡ 0 → spotOf (spareEntries spares) p ≡ inPlace
-spot-free spares p h = free-spot spares p (start-some p h)
-
--- and where there is a spare there is a free entry
+-- where there is a spare there is a free entry
 pub some-free : (spares : List ℕ) → 1 ≤ length spares → noEntry (freeOf (spareEntries spares)) ≡ false
 unfolding spareEntries freeOf isFree none noEntry
 some-free [] h = absurd (omega arith)

@@ -1,8 +1,8 @@
 -- Opening a rewritable disc: it is accepted wherever the newest copies agree, and takes their table. Assumes nothing.
 use Prim.Native.Nat.{ℕ, zero, suc, _+_, _*_, _≤_, _<_}
 use mathlib.Core.Bool.{Bool, true, false}
-use mathlib.Core.Path.{_≡_, refl, ap, _∙_}
-use mathlib.Core.List.{List}
+use mathlib.Core.Path.{_≡_, refl, sym, ap, _∙_}
+use mathlib.Core.List.{List, [], _++_, append-nil}
 use native.Mathlib.Omega.{arith}
 use lib.ListN.{length, getD, drop, List·getD-eq-default}
 use lib.Seq.{take-at}
@@ -14,7 +14,7 @@ use Rattle.fields.proofs.Laws.{AllBytes, bytes-part}
 use Rattle.maps.specs.Kinds.{readMaps}
 use Rattle.model.specs.Disc.{Disc, sector}
 use Rattle.model.specs.Writes.{struck, noCut}
-use Rattle.model.specs.Sparing.{Geometry, entries, counting, current, currentTable, currentSequence, agree, sequenceAt, locate}
+use Rattle.model.specs.Sparing.{Geometry, Entry, entries, defectiveOf, counting, current, currentTable, currentSequence, agree, sequenceAt, locate}
 use Rattle.model.specs.Examine.{Setting, writeOnce, geometry, examined, lentTable}
 use Rattle.model.specs.Once.{filledFrom}
 use Rattle.model.specs.Rewrite.{isNone, tableOn, entriesOn, copyTests, currentRecord, placeOf}
@@ -30,10 +30,15 @@ use Rattle.model.proofs.OnceOpen.{filled-long}
 use Rattle.model.proofs.Ready.{Ready, Holds, LiveAgain, ready-table, ready-count, ready-sequence, table-length, examined-again, copies-go}
 use Rattle.model.proofs.Steps.{Sound}
 
--- after a cut: a table on the disc that leads to the store's blocks, and the lent table long enough; else what holds between calls
-unfoldable pub AgainOk : Setting → Geometry → Bool → State → Store → Type 0
-AgainOk e g true st σ = (n : ℕ) × (l : List ℕ) × Ready e g (st .disc) n l (σ .blocks) × (4096 ≤ length (st .table))
-AgainOk e g false st σ = (n : ℕ) × (l : List ℕ) × LiveAgain e g st n l σ
+-- the defective spares of a table begin with ds
+abbrev pub Keeps : List Entry → List ℕ → Type 0
+Keeps ds l = (k : List Entry) × (defectiveOf (entries l) ≡ ds ++ k)
+
+-- after a cut: a table on the disc that leads to the store's blocks, and the lent table long enough; else what holds between calls. The table's
+-- defective spares begin with ds
+unfoldable pub AgainOk : Setting → Geometry → List Entry → Bool → State → Store → Type 0
+AgainOk e g ds true st σ = (n : ℕ) × (l : List ℕ) × Ready e g (st .disc) n l (σ .blocks) × (4096 ≤ length (st .table)) × Keeps ds l
+AgainOk e g ds false st σ = (n : ℕ) × (l : List ℕ) × LiveAgain e g st n l σ × Keeps ds l
 
 -- the state after an opening that goes on
 live-opened : (e : Setting) (g : Geometry) (d : Disc) (t : List ℕ) (n : ℕ) (l : List ℕ) (σ : Store) → Ready e g d n l (σ .blocks) → 4096 ≤ length t
@@ -49,17 +54,17 @@ live-opened e g d t n l σ r long =
 
 module _ (e : Setting) (g : Geometry) (again : writeOnce e ≡ false) (γ : Ground e g) (maps-go : readMaps (e .maps) .verdict ≡ Go) where
   -- every opening is accepted, and changes no block
-  pub record ReopenedAgain (h : Shape) (σ : Store) (r : Result) : Type 1 where
-    pub sound : Sound (AgainOk e g) h σ openDisc r
+  pub record ReopenedAgain (h : Shape) (ds : List Entry) (σ : Store) (r : Result) : Type 1 where
+    pub sound : Sound (AgainOk e g ds) h σ openDisc r
     pub accepts : isOpened (r .answer) ≡ true
 
   pub reopened-again : (h : Shape) → h .once ≡ false → (st : State) (σ : Store) (n : ℕ) (l : List ℕ) → Ready e g (st .disc) n l (σ .blocks) → 4096 ≤ length (st .table)
-      → ReopenedAgain h σ (step e st openDisc)
+      → (ds : List Entry) → Keeps ds l → ReopenedAgain h ds σ (step e st openDisc)
   unfolding step opening openedTable openVerdict openedBy filledBy answerOfOpening heldAfterOpening accepted isCut isOpened next wasCut cutIn writesIn struck noCut taken AgainOk recordOn numbersOn lentTable
-  reopened-again h one st σ n l r long =
+  reopened-again h one st σ n l r long ds kept =
       rw (examined-again e g again γ maps-go (st .disc) _ r (le-leb _ _ long), again, copies-go e g again γ maps-go (st .disc) r)
       (record {
-        sound = rw one (n, l, live-opened e g (st .disc) (st .table) n l σ r long);
+        sound = rw one (n, l, live-opened e g (st .disc) (st .table) n l σ r long, kept);
         accepts = refl;
       })
 
@@ -122,11 +127,12 @@ module _ (e : Setting) (again : writeOnce e ≡ false) (d : Disc) (t : List ℕ)
             ∙ ap (λ (x : ℕ). slotAt d (locate x (entriesOn e d) b)) (first-ground .start-is));
       }
 
-  pub first-again : (n : ℕ) × (l : List ℕ) × LiveAgain e (geometry e d) (afterOpening e d t) n l (start e d)
-  unfolding afterOpening start openedTable filledBy recordOn numbersOn lentTable
+  pub first-again : (n : ℕ) × (l : List ℕ) × LiveAgain e (geometry e d) (afterOpening e d t) n l (start e d) × Keeps (defectiveOf (entriesOn e d)) l
+  unfolding afterOpening start openedTable filledBy recordOn numbersOn lentTable entriesOn tableOn
   first-again =
       rw (go, again) (
         currentSequence d (geometry e d),
         currentTable d (geometry e d),
         live-opened e (geometry e d) d t _ _ (start e d) first-ready (leb-true _ _ (first-tells .examines .lengths)),
+        ([], sym (append-nil (defectiveOf (entries (currentTable d (geometry e d)))))),
       )

@@ -4,7 +4,7 @@ use Prim.Native.Nat.{ℕ, _+_, _*_, _%_, _≤_, _<_}
 use mathlib.Core.Bool.{true, false, false≢true}
 use mathlib.Core.Logic.{_≢_, _⊎_, inl, inr}
 use mathlib.Core.Path.{_≡_, refl, sym, ap, ap₂, subst, _∙_}
-use mathlib.Core.List.{List, [], _∷_, _++_}
+use mathlib.Core.List.{List, [], _∷_, _++_, append-assoc}
 use native.Mathlib.Omega.{arith}
 use lib.Dec.{leb, eqb}
 use lib.ListN.{length, drop, length-append}
@@ -15,7 +15,7 @@ use Rattle.model.specs.declared.Cut.{Cut}
 use Rattle.model.specs.declared.Landing.{Landing}
 use Rattle.model.specs.Disc.{Disc, sector, mark, recorded, shapely, inside}
 use Rattle.model.specs.Writes.{Write, landing, landed, write, writes, upward, struck}
-use Rattle.model.specs.Sparing.{Geometry, Entry, entries, flat, freeOf, firstFree, resorted, writtenTable, entriesFit, counts, counting, current, sequenceAt, sequenceIn, tableAt, tableIn, copyFits, packetOf, locate}
+use Rattle.model.specs.Sparing.{Geometry, Entry, entries, flat, usedOf, defectiveOf, freeOf, firstFree, turnedDefective, resorted, writtenTable, entriesFit, counts, counting, current, sequenceAt, sequenceIn, tableAt, tableIn, copyFits, packetOf, locate}
 use Rattle.model.specs.Examine.{Setting, geometry, lentTable}
 use Rattle.model.specs.Once.{filledFrom}
 use Rattle.model.specs.Rewrite.{isNone, noEntry, entriesOn, stale, copiesTo, copyOrder, packetWrites, packetTests, packetLent, spareTests, sparedTable, spareWrites, sparePlan}
@@ -24,11 +24,11 @@ use Rattle.model.specs.Store.{Slot, holds, slotAt, slotAfter, puts, slot
 use Rattle.model.proofs.Basics.{by-eq, and-true}
 use Rattle.model.proofs.Sectors.{Made, Placed, Elsewhere, shapely-made, landed-made, landed-marks-length, sector-other, mark-other, sector-done, mark-done, mark-unreadable, sector-unreadable, writes-marks-length, writes-shapely, writes-inside, writes-made, writes-other, writes-append, landing-uncut, landing-done-before, landing-lost}
 use Rattle.model.proofs.SectorsRuns.{length-upward, placed-upward, elsewhere-upward, upward-sector, upward-mark}
-use Rattle.model.proofs.SparingLaws.{In, Distinct, entries-flat, tables-distinct, length-written, written-sequence, written-table, written-fits, resorted-length, resorted-fits, packet-rest, packet-inside, table-outside, locate-not-table, locate-not-free, free-not-table, free-on, locate-spared, locate-unspared, current-some, current-table, current-counting, current-sequence, current-distinct, counting-counts, stale-in, copy-order-length, copy-order-in, copy-order-distinct, length-copies, SameAt, counts-agree, sequence-agree, counts-recorded, fits-counts, Settled, settled-some, settled-sequence}
+use Rattle.model.proofs.SparingLaws.{In, Distinct, multiple-none, multiple-defective, resorted-defective, entries-flat, tables-distinct, length-written, written-sequence, written-table, written-fits, resorted-length, resorted-fits, packet-rest, packet-inside, table-outside, locate-not-table, locate-not-free, free-not-table, free-on, locate-spared, locate-unspared, current-some, current-table, current-counting, current-sequence, current-distinct, counting-counts, stale-in, copy-order-length, copy-order-in, copy-order-distinct, length-copies, SameAt, counts-agree, sequence-agree, counts-recorded, fits-counts, Settled, settled-some, settled-sequence}
 use Rattle.model.proofs.Cuts.{spared-cut}
 use Rattle.model.proofs.Ground.{Ground, geometry-same}
 use Rattle.model.proofs.Ready.{Ready, Holds, LiveAgain, ready-fits, ready-entries, ready-count, ready-sequence, table-length}
-use Rattle.model.proofs.ReadyOpen.{AgainOk}
+use Rattle.model.proofs.ReadyOpen.{Keeps, AgainOk}
 use Rattle.model.proofs.ReadySave.{run-cases, settled-same}
 use Rattle.model.proofs.ReadyCalls.{again-tells, other-packet}
 use Rattle.model.proofs.Slots.{slot-same, slot-landed, length-blocks, block-in, length-puts, puts-other, puts-inside}
@@ -463,6 +463,16 @@ module _ (e : Setting) (g : Geometry) (γ : Ground e g) (d : Disc) (n : ℕ) (l 
 
 -- ---- the call
 
+-- the defective spares stay, and are the first
+keeps-spared : (ds : List Entry) (l : List ℕ) (b : ℕ) → b % 32 ≡ 0 → Keeps ds l → Keeps ds (flat (resorted (entries l) b))
+keeps-spared ds l b m (k, q) = (
+  k ++ turnedDefective b (usedOf (entries l)),
+  ap defectiveOf (entries-flat (resorted (entries l) b))
+      ∙ resorted-defective (entries l) b (multiple-none b m) (multiple-defective b m)
+      ∙ ap (λ (x : List Entry). x ++ turnedDefective b (usedOf (entries l))) q
+      ∙ append-assoc ds k (turnedDefective b (usedOf (entries l))),
+)
+
 -- a packet to the same place and the same copies in the same order
 same-spare : (p q : ℕ) (x : List ℕ) (o o′ : List ℕ) (m n : ℕ) (l l′ : List ℕ) → p ≡ q → o ≡ o′ → m ≡ n → l ≡ l′
     → upward 32 p x 0 ++ copiesTo o (writtenTable m l) ≡ upward 32 q x 0 ++ copiesTo o′ (writtenTable n l′)
@@ -491,10 +501,10 @@ spare-count e g d n l bs b x r =
 
 module _ (e : Setting) (g : Geometry) (γ : Ground e g) (h : Shape) (copies : h .tables ≡ length (g .tables)) (st : State) (σ : Store) (n : ℕ) (l : List ℕ) (i : LiveAgain e g st n l σ) (b : ℕ) (x : List ℕ) (c : Cut) where
   -- a sparing, refused, cut or carried out
-  pub sound-spare : Sound (AgainOk e g) h σ (sparePacket b x c) (step e st (sparePacket b x c))
+  pub sound-spare : (ds : List Entry) → Keeps ds l → Sound (AgainOk e g ds) h σ (sparePacket b x c) (step e st (sparePacket b x c))
   unfolding step sparePlan AgainOk cutIn writesIn taken spareTests packetTests packetLent sparedTable Holds filledFrom struck
-  sound-spare =
-      sound-plan (AgainOk e g) h σ (sparePacket b x c) c st _ _ _ _ (n, l, i) λ go.
+  sound-spare ds kept =
+      sound-plan (AgainOk e g ds) h σ (sparePacket b x c) c st _ _ _ _ (n, l, i, kept) λ go.
       let d : Disc = st .disc in
       let p = again-tells e d (st .table) _ (st .held) (spareTests e d b) go in
       let u = and-true (lentTable (st .table)) _ (p .0 .lengths) in
@@ -518,18 +528,19 @@ module _ (e : Setting) (g : Geometry) (γ : Ground e g) (h : Shape) (copies : h 
       ∙ ap (λ (y : ℕ). writes (1 + y) c (copiesTo o tb) (writes 1 c up d)) (length-upward 32 (firstFree (freeOf (entries l))) x 0) in
       let same-count : length (resorted (entries l) b) ≡ length (entries l) =
       resorted-length g (entries l) b (ready-fits r) multiple below (omega (arith, γ .inside, γ .sectors)) some in
-      sound-carried (AgainOk e g) h σ (sparePacket b x c) c st _ _ _ refl (ap (λ (y : ℕ). 32 + y) copies ∙ sym ln)
+      sound-carried (AgainOk e g ds) h σ (sparePacket b x c) c st _ _ _ refl (ap (λ (y : ℕ). 32 + y) copies ∙ sym ln)
       (λ k.
       let at-least : 1 ≤ c .at = leb-true _ _ (and-true (leb 1 (c .at)) _ k .0) in
-      spared-cut h σ b x c (AgainOk e g true (record { disc = writes 1 c ws d; table = st .table; held = st .held })) at-least
+      spared-cut h σ b x c (AgainOk e g ds true (record { disc = writes 1 c ws d; table = st .table; held = st .held })) at-least
       (λ w.
       rw e₂ (
         n + 1,
         flat (resorted (entries l) b),
         spare-done e g γ d n l (σ .blocks) r b x c multiple below long two some more w,
         i .lent,
+        keeps-spared ds l b multiple kept,
       ))
-      (λ w. rw e₂ (n, l, spare-torn e g γ d n l (σ .blocks) r b x c multiple below long two some more w, i .lent)))
+      (λ w. rw e₂ (n, l, spare-torn e g γ d n l (σ .blocks) r b x c multiple below long two some more w, i .lent, kept)))
       (λ k.
       let w : landing 33 c ≡ Landing.Done = landing-uncut 33 (length ws) c k (omega arith) (omega (arith, ln)) in
       let l′ : List ℕ = flat (resorted (entries l) b) in
@@ -544,6 +555,7 @@ module _ (e : Setting) (g : Geometry) (γ : Ground e g) (h : Shape) (copies : h 
               (take-at l′ (drop (length l′) (st .table)) (2 * length (entries l′)) (table-length l′ (ap flat (entries-flat (resorted (entries l) b)))));
           lent = omega (arith, filled-long (flat (resorted (entriesOn e d) b)) (st .table), i .lent);
         },
+        keeps-spared ds l b multiple kept,
       ))
 
   -- its answer says that it was cut exactly if the plain store knows it

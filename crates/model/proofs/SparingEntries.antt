@@ -392,6 +392,30 @@ spot-not-defective g (e ∷ l) p m k h n a i =
     (λ q. spot-not-defective g l p m k (f .3) n (sym (spot-next e l p q) ∙ a) j))
     i
 
+-- nor is it the free entry of lowest index
+pub free-not-defective : (g : Geometry) (es : List Entry) (k : ℕ) → mappedFit g es ≡ true → noEntry (freeOf es) ≡ false → In k (mappedOf (defectiveOf es)) → firstFree (freeOf es) ≢ k
+unfolding freeOf defectiveOf firstFree noEntry mappedOf
+free-not-defective g [] k h s i = absurd i
+free-not-defective g (e ∷ l) k h s i =
+    let f = mapped-first g e l h in
+    let away = absent-not-in (e .mapped) (mappedOf l) (f .2) in
+    entry-cases e
+    (λ q.
+    let t = free-tests e q in
+    let j : In k (mappedOf (defectiveOf l)) = rw (t .1) at i in
+    rw (t .0) (λ z. away (rw z (defective-in l k j))))
+    (λ q.
+    let t = defective-tests e q in
+    let n : noEntry (freeOf l) ≡ false = rw (t .0) at s in
+    let j : In k (mappedOf (e ∷ defectiveOf l)) = rw (t .1) at i in
+    rw (t .0)
+    (⊎-elim (λ p z. let y : e .mapped ≡ firstFree (freeOf l) = sym (z ∙ p) in away (rw y (free-in l n))) (λ p. free-not-defective g l k (f .3) n p) j))
+    (λ a b.
+    let t = used-tests e a b in
+    let n : noEntry (freeOf l) ≡ false = rw (t .0) at s in
+    let j : In k (mappedOf (defectiveOf l)) = rw (t .1) at i in
+    rw (t .0) (free-not-defective g l k (f .3) n j))
+
 -- ---- a table as it is read
 
 -- two numbers of 4 bytes an entry

@@ -4,7 +4,7 @@
 -- membership of a list, and lists without repetition
 pub use Rattle.model.proofs.SparingLists.{In, in-left, in-right, in-either, absent-not-in, not-in-absent, Distinct, distinct-append, tables-distinct}
 -- flat and back, what the copy rule says, and a table as it is read
-pub use Rattle.model.proofs.SparingEntries.{entries-flat, length-flat, fits-size, fits-originals, fits-ascending, fits-mapped, original-cases, originals-first, multiple-none, multiple-defective, free-means, defective-means, used-means, free-tests, defective-tests, used-tests, three-parts, flat-table, table-count}
+pub use Rattle.model.proofs.SparingEntries.{entries-flat, length-flat, fits-size, fits-originals, fits-ascending, fits-mapped, original-cases, originals-first, multiple-none, multiple-defective, free-means, defective-means, used-means, free-tests, defective-tests, used-tests, three-parts, free-not-defective, flat-table, table-count}
 -- a table that was written reads back
 pub use Rattle.model.proofs.SparingWritten.{written-name, written-suffix, length-written, written-sequence, written-count, written-table, written-fits}
 -- the table once a packet, spared before or not, took the free entry of lowest index

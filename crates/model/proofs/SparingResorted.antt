@@ -3,18 +3,18 @@
 use Prim.Native.Nat.{ℕ, suc, _+_, _*_, _%_, _≤_, _<_}
 use mathlib.Core.Bool.{Bool, true, false, cond, true≢false}
 use mathlib.Core.Logic.{_≢_, inl, inr, ⊎-elim}
-use mathlib.Core.Path.{_≡_, refl, sym, ap, ap₂, _∙_}
+use mathlib.Core.Path.{_≡_, refl, sym, ap, _∙_}
 use mathlib.Core.List.{List, [], _∷_, _++_, append-assoc}
 use native.Mathlib.Omega.{arith}
 use lib.Dec.{ltb, eqb}
 use lib.ListN.{length, length-append}
 use borrow.Author.Tests.{ltb-true, ltb-false, eqb-true, eqb-false, ne-eqb, eq-eqb, le-leb}
 use Rattle.model.specs.Vat.{none}
-use Rattle.model.specs.Sparing.{Geometry, Entry, isFree, defective, isDefective, isUsed, usedOf, defectiveOf, freeOf, originalFits, originalsFit, mayFollow, ascending, apartFrom, outside, mappedOf, mappedFit, entriesFit, Spot, mappedTo, inPlace, spotOf, inserted, firstFree, rest, without, turnedDefective, retired, freeTaken, resorted}
+use Rattle.model.specs.Sparing.{Geometry, Entry, isFree, defective, isDefective, isUsed, usedOf, defectiveOf, freeOf, originalFits, originalsFit, mayFollow, ascending, apartFrom, outside, mappedOf, mappedFit, entriesFit, mappedTo, inPlace, spotOf, inserted, firstFree, rest, without, turnedDefective, retired, freeTaken, resorted}
 use Rattle.model.specs.Rewrite.{noEntry}
 use Rattle.model.proofs.Basics.{both, by-eq, cond-elim}
 use Rattle.model.proofs.SparingLists.{In, absent-not-in}
-use Rattle.model.proofs.SparingEntries.{fits-size, fits-originals, fits-ascending, fits-mapped, three-parts, original-cases, none-original, defective-original, packet-original, multiple-none, multiple-defective, entry-cases, free-means, defective-means, used-means, free-tests, defective-tests, used-tests, used-follows, follows-lower, follows-free, follows-defective, ascending-first, ascending-rest, originals-first, spot-here, spot-next, spot-none, mapped-first, mapped-cons}
+use Rattle.model.proofs.SparingEntries.{fits-size, fits-originals, fits-ascending, fits-mapped, three-parts, none-original, defective-original, packet-original, multiple-none, multiple-defective, entry-cases, free-means, defective-means, used-means, free-tests, defective-tests, used-tests, used-follows, follows-lower, follows-free, follows-defective, ascending-first, ascending-rest, originals-first, spot-here, spot-next, spot-none, mapped-first, mapped-cons}
 
 -- ---- lists of one kind
 
@@ -70,59 +70,58 @@ each-inserted f x (e ∷ u) k h =
 
 -- ---- the parts of a table
 
--- what is put together of used, defective and free entries
-module _ where
-  used-free : (f : List Entry) → Each isFree f → usedOf f ≡ []
-  unfolding usedOf
-  used-free [] h = refl
-  used-free (e ∷ f) h = rw (free-tests e (free-means e (h .0)) .2) (used-free f (h .1))
+-- entries put together, used ones first, then defective and then free ones: none of the free is used
+used-free : (f : List Entry) → Each isFree f → usedOf f ≡ []
+unfolding usedOf
+used-free [] h = refl
+used-free (e ∷ f) h = rw (free-tests e (free-means e (h .0)) .2) (used-free f (h .1))
 
-  used-defective : (d f : List Entry) → Each isDefective d → Each isFree f → usedOf (d ++ f) ≡ []
-  unfolding usedOf
-  used-defective [] f h k = used-free f k
-  used-defective (e ∷ d) f h k = rw (defective-tests e (defective-means e (h .0)) .2) (used-defective d f (h .1) k)
+used-defective : (d f : List Entry) → Each isDefective d → Each isFree f → usedOf (d ++ f) ≡ []
+unfolding usedOf
+used-defective [] f h k = used-free f k
+used-defective (e ∷ d) f h k = rw (defective-tests e (defective-means e (h .0)) .2) (used-defective d f (h .1) k)
 
-  -- has these used ones
-  pub used-parts : (u d f : List Entry) → Each isUsed u → Each isDefective d → Each isFree f → usedOf (u ++ (d ++ f)) ≡ u
-  unfolding usedOf
-  used-parts [] d f hu hd hf = used-defective d f hd hf
-  used-parts (e ∷ u) d f hu hd hf = rw (hu .0) (ap (λ (l : List Entry). e ∷ l) (used-parts u d f (hu .1) hd hf))
+-- has these used ones
+pub used-parts : (u d f : List Entry) → Each isUsed u → Each isDefective d → Each isFree f → usedOf (u ++ (d ++ f)) ≡ u
+unfolding usedOf
+used-parts [] d f hu hd hf = used-defective d f hd hf
+used-parts (e ∷ u) d f hu hd hf = rw (hu .0) (ap (λ (l : List Entry). e ∷ l) (used-parts u d f (hu .1) hd hf))
 
-  defective-free : (f : List Entry) → Each isFree f → defectiveOf f ≡ []
-  unfolding defectiveOf
-  defective-free [] h = refl
-  defective-free (e ∷ f) h = rw (free-tests e (free-means e (h .0)) .1) (defective-free f (h .1))
+defective-free : (f : List Entry) → Each isFree f → defectiveOf f ≡ []
+unfolding defectiveOf
+defective-free [] h = refl
+defective-free (e ∷ f) h = rw (free-tests e (free-means e (h .0)) .1) (defective-free f (h .1))
 
-  defective-defective : (d f : List Entry) → Each isDefective d → Each isFree f → defectiveOf (d ++ f) ≡ d
-  unfolding defectiveOf
-  defective-defective [] f h k = defective-free f k
-  defective-defective (e ∷ d) f h k = rw (h .0) (ap (λ (l : List Entry). e ∷ l) (defective-defective d f (h .1) k))
+defective-defective : (d f : List Entry) → Each isDefective d → Each isFree f → defectiveOf (d ++ f) ≡ d
+unfolding defectiveOf
+defective-defective [] f h k = defective-free f k
+defective-defective (e ∷ d) f h k = rw (h .0) (ap (λ (l : List Entry). e ∷ l) (defective-defective d f (h .1) k))
 
-  -- these defective ones
-  pub defective-parts : (u d f : List Entry) → Each isUsed u → Each isDefective d → Each isFree f → defectiveOf (u ++ (d ++ f)) ≡ d
-  unfolding defectiveOf
-  defective-parts [] d f hu hd hf = defective-defective d f hd hf
-  defective-parts (e ∷ u) d f hu hd hf =
-      let k = used-means e (hu .0) in
-      rw (used-tests e (k .0) (k .1) .1) (defective-parts u d f (hu .1) hd hf)
+-- these defective ones
+pub defective-parts : (u d f : List Entry) → Each isUsed u → Each isDefective d → Each isFree f → defectiveOf (u ++ (d ++ f)) ≡ d
+unfolding defectiveOf
+defective-parts [] d f hu hd hf = defective-defective d f hd hf
+defective-parts (e ∷ u) d f hu hd hf =
+    let k = used-means e (hu .0) in
+    rw (used-tests e (k .0) (k .1) .1) (defective-parts u d f (hu .1) hd hf)
 
-  free-free : (f : List Entry) → Each isFree f → freeOf f ≡ f
-  unfolding freeOf
-  free-free [] h = refl
-  free-free (e ∷ f) h = rw (h .0) (ap (λ (l : List Entry). e ∷ l) (free-free f (h .1)))
+free-free : (f : List Entry) → Each isFree f → freeOf f ≡ f
+unfolding freeOf
+free-free [] h = refl
+free-free (e ∷ f) h = rw (h .0) (ap (λ (l : List Entry). e ∷ l) (free-free f (h .1)))
 
-  free-defective : (d f : List Entry) → Each isDefective d → Each isFree f → freeOf (d ++ f) ≡ f
-  unfolding freeOf
-  free-defective [] f h k = free-free f k
-  free-defective (e ∷ d) f h k = rw (defective-tests e (defective-means e (h .0)) .0) (free-defective d f (h .1) k)
+free-defective : (d f : List Entry) → Each isDefective d → Each isFree f → freeOf (d ++ f) ≡ f
+unfolding freeOf
+free-defective [] f h k = free-free f k
+free-defective (e ∷ d) f h k = rw (defective-tests e (defective-means e (h .0)) .0) (free-defective d f (h .1) k)
 
-  -- and these free ones
-  pub free-parts : (u d f : List Entry) → Each isUsed u → Each isDefective d → Each isFree f → freeOf (u ++ (d ++ f)) ≡ f
-  unfolding freeOf
-  free-parts [] d f hu hd hf = free-defective d f hd hf
-  free-parts (e ∷ u) d f hu hd hf =
-      let k = used-means e (hu .0) in
-      rw (used-tests e (k .0) (k .1) .0) (free-parts u d f (hu .1) hd hf)
+-- and these free ones
+pub free-parts : (u d f : List Entry) → Each isUsed u → Each isDefective d → Each isFree f → freeOf (u ++ (d ++ f)) ≡ f
+unfolding freeOf
+free-parts [] d f hu hd hf = free-defective d f hd hf
+free-parts (e ∷ u) d f hu hd hf =
+    let k = used-means e (hu .0) in
+    rw (used-tests e (k .0) (k .1) .0) (free-parts u d f (hu .1) hd hf)
 
 -- the table once p has no entry, and then once it took the first free one, from the parts of the table before
 module _ (es : List Entry) (p : ℕ) where

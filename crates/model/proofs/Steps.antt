@@ -155,6 +155,10 @@ module _ (Ok : Bool → State → Store → Type 0) (h : Shape) (e : Setting)
   holds : (i : ℕ) → Holds (take i cs)
   holds = list-holds (λ down x τ k. Ok down x τ) h e (λ down x τ k. sound down x τ) cs false st σ (count 0 0) first proper
 
+  -- and after all of them
+  pub list-after : Holds cs
+  list-after = subst Holds (take-length cs) (holds (length cs))
+
   -- every opening in the list is accepted, by its place
   pub list-opens : ((down : Bool) (x : State) (τ : Store) → Ok down x τ → isOpened (step e x openDisc .answer) ≡ true)
       → (i : ℕ) → i < length cs → getD cs i openDisc ≡ openDisc → isOpened (getD (answers e st cs) i cut) ≡ true
@@ -162,7 +166,7 @@ module _ (Ok : Bool → State → Store → Type 0) (h : Shape) (e : Setting)
 
   -- after a list that does not end in a cut the invariant holds
   pub list-ends : endsCut false (answers e st cs) ≡ false → Ok false (final e st cs) (followed h σ cs (answers e st cs))
-  list-ends q = rw q at (subst Holds (take-length cs) (holds (length cs)))
+  list-ends q = rw q at list-after
 
   -- the answer of each call says that it was cut exactly if the plain store knows it
   pub list-told : ((down : Bool) (x : State) (τ : Store) (c : Call) → Ok down x τ → (down ≡ true → c ≡ openDisc) → Told h τ c (step e x c .answer))

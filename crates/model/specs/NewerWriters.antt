@@ -5,7 +5,7 @@ use mathlib.Core.Path.{_≡_}
 use mathlib.Core.Bool.{true, false}
 use mathlib.Core.Logic.{_≢_}
 use mathlib.Core.List.{List, [], _∷_, _++_}
-use lib.ListN.{length, getD, replicate}
+use lib.ListN.{length, getD, take, replicate}
 use Rattle.refusal.specs.declared.Refusal.{Refusal}
 use Rattle.refusal.specs.declared.Verdict.{Verdict}
 use Rattle.refusal.specs.declared.Verdict.the-variants.{Go}
@@ -25,10 +25,11 @@ use Rattle.model.specs.Told.{replyNumber, openedNumber, givenNumber, for
 use Rattle.model.specs.Sparing.{sparingName, olderName, Geometry, Entry, entries, flat, defective, usedOf, defectiveOf, freeOf, entriesFit, tableIn, noneDefective, copyFits, mappedTo, inPlace, spotOf, locate, firstFree, rest, inserted, without, turnedDefective, resorted, writtenTable}
 use Rattle.model.specs.Plan.{replyOf, discAfter}
 use Rattle.model.specs.Examine.{Setting, writeOnce, geometry}
-use Rattle.model.specs.Rewrite.{sequenceOn, sparedTable, sparePlan}
-use Rattle.model.specs.Both.{opening, reading, spareEntries, makeVerdict, made}
-use Rattle.model.specs.Calls.{Call, Answer, refused, State, step}
-use Rattle.model.specs.Demand.{Below}
+use Rattle.model.specs.Rewrite.{noEntry, entriesOn, sequenceOn, sparedTable, sparePlan}
+use Rattle.model.specs.Both.{spareEntries, makeVerdict, made}
+use Rattle.model.specs.Calls.{Call, refused, State, step, final}
+use Rattle.model.specs.Demand.{Below, afterOpening}
+use Rattle.model.specs.Consequences.{Follows}
 use Rattle.model.specs.ReadBack.{Stands, smallGeometry, eachEntry}
 use Rattle.model.specs.Examples.{entry}
 
@@ -119,12 +120,25 @@ pub record Respared : Type 0 where
       → turnedDefective p (usedOf es) ≡ entry defective m ∷ []
   -- and there is none where the packet had none
   pub kept : (es : List Entry) (p : ℕ) → p % 32 ≡ 0 → spotOf es p ≡ inPlace → turnedDefective p (usedOf es) ≡ []
-  -- no block is read from a defective spare, and none is written there: it is not the spare to be taken
+  -- in a table that fits no block is in a defective spare
   pub unread :
       (g : Geometry) (es : List Entry) (i v j : ℕ)
       → entriesFit g es ≡ true → g .start % 32 ≡ 0 → g .span % 32 ≡ 0 → v < g .span → j < 32
       → i < length (defectiveOf es)
       → locate (g .start) es v ≢ getD (defectiveOf es) i (entry 0 0) .mapped + j
+  -- and none is the spare that a sparing takes
+  pub untaken :
+      (g : Geometry) (es : List Entry) (i : ℕ)
+      → entriesFit g es ≡ true → noEntry (freeOf es) ≡ false
+      → i < length (defectiveOf es)
+      → firstFree (freeOf es) ≢ getD (defectiveOf es) i (entry 0 0) .mapped
+
+-- over whole lists of calls, those of which demand 3 is claimed, wherever the power fails and whether the last call was cut or not: what was a
+-- defective spare at first is one after the list, in its place among them. (`RespareLives` has a disc with one.)
+unfoldable pub DefectiveStays : Type 0
+DefectiveStays =
+    (e : Setting) (d : Disc) (t : List ℕ) (cs : List Call) → writeOnce e ≡ false → Follows e d t cs
+    → take (length (defectiveOf (entriesOn e d))) (defectiveOf (entriesOn e (final e (afterOpening e d t) cs .disc))) ≡ defectiveOf (entriesOn e d)
 
 -- ---- there is something of each kind
 

@@ -1,9 +1,8 @@
 -- `sparing_written::put_taken` meets its contract: the parts that are written, of a packet that has an entry and of one that has none, are the
 -- resorted table. Assumes nothing.
-use Prim.Native.Nat.{ℕ, _*_}
+use Prim.Native.Nat.{ℕ}
 use mathlib.Core.Path.{sym, ap, _∙_}
 use mathlib.Core.List.{List}
-use native.Mathlib.Omega.{arith}
 use borrow.Author.Needs.{needs}
 use Rattle.fields.specs.Bytes.{splice}
 use Rattle.fields.specs.Number.{quads}

@@ -4,15 +4,14 @@ use mathlib.Core.Path.{_≡_, ap, _∙_}
 use native.Mathlib.Omega.{arith}
 use borrow.Author.Needs.{needs}
 use mathlib.Core.List.{List}
-use lib.ListN.{length, take}
+use lib.ListN.{take}
 use Rattle.sparing_written.proofs.Resorted.{spared-within, length-resorted}
 use Rattle.sparing_written.proofs.Written.{table-written}
 use Rattle.sparing_table.specs.Table.{has, placeWhere}
-use Rattle.model.specs.Sparing.{Entry, entries, flat, resorted, writtenTable}
+use Rattle.model.specs.Sparing.{entries, flat, resorted}
 use Rattle.model.specs.Vat.{none}
 use Rattle.fields.specs.Number.{quads}
 use Rattle.fields.specs.Bytes.{splice}
-use Rattle.sparing_written.specs.Written.{Ordered}
 use Rattle.sparing_written.proofs.write_spared.Statement.{statement}
 use Rattle.sparing_written.proofs.write_spared.Tie as tie
 
