@@ -69,7 +69,7 @@ extern "C" {
 #define TUORMIK_PASSES_AS_ICB 15u
 #define TUORMIK_NO_ROOM 16u
 #define TUORMIK_ONE_TABLE 17u
-/* 18 is no longer given: a packet that is spared already can be spared again (02, slip 1). */
+/* No refusal is 18: a packet that is spared already can be spared again (02, slip 1). */
 #define TUORMIK_NO_SPARE 19u
 #define TUORMIK_LAST_SEQUENCE 20u
 #define TUORMIK_NOT_BLANK 21u

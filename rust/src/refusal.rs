@@ -1,4 +1,4 @@
-//! Why a call is turned down: the lines of document 01, "Why a call is turned down", but for 18, which no longer occurs (document 02, slip
+//! Why a call is turned down: the lines of document 01, "Why a call is turned down", but for 18, which never occurs (document 02, slip
 //! 1), and the one that slip 5 adds, with their words.
 
 use std::fmt;

@@ -27,11 +27,11 @@ pub record GivesNoEighteen : Type 0 where
   pub making : (e : Setting) (d : Disc) (spares : List ℕ) → verdictNumber (makeVerdict e d spares) ≢ 18
   -- each writing call, sparing among them
   pub writing : (p : Plan) (c : Cut) (d₀ : Disc) (t₀ k₀ : List ℕ) (n : ℕ) (d : Disc) (t k : List ℕ) → SeenWrite p c d₀ t₀ k₀ n d t k → n ≢ 18
-  -- a list of calls, and each call of it in the replies
+  -- a list of calls, and each number in its replies, which is that of a call of the list
   pub run : (o : Outcome) (k₀ : List ℕ) (n : ℕ) (d : Disc) (t told k : List ℕ) → SeenRun o k₀ n d t told k → n ≢ 18
   pub replies : (e : Setting) (st : State) (c : Call) → numberFor (step e st c .answer) ≢ 18
   pub fullness : (e : Setting) (d : Disc) (t k result : List ℕ) → measuredNumber (lentFullness e d t k result) ≢ 18
-  -- a forecast, and the item that it says would be refused
+  -- a forecast, and the number of the item that would be refused, which stands first in the lent result
   pub forecast : (e : Setting) (d : Disc) (t k xs result : List ℕ) → forecastNumber (lentForecast e d t k xs result) ≢ 18
   pub item : (why : Refusal) → numberOf why ≢ 18
   -- map lists and VAT files

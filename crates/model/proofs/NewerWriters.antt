@@ -32,7 +32,7 @@ use Rattle.model.specs.Writes.{Write, writes, upward, struck}
 use Rattle.model.specs.Vat.{none}
 use Rattle.model.specs.VatWritten.{filled}
 use Rattle.model.specs.Told.{replyNumber, openedNumber, givenNumber, forecastNumber}
-use Rattle.model.specs.Sparing.{sparingName, olderName, Geometry, Entry, entries, flat, isFree, defective, isDefective, isUsed, usedOf, defectiveOf, freeOf, originalFits, originalsFit, mayFollow, ascending, apart, apartFrom, outside, mappedOf, mappedFit, entriesFit, countIn, tableIn, noneDefective, named, copyFits, spotOf, inserted, firstFree, rest, without, turnedDefective, retired, freeTaken, resorted, writtenTable}
+use Rattle.model.specs.Sparing.{sparingName, olderName, Geometry, Entry, entries, flat, isFree, defective, isDefective, isUsed, usedOf, defectiveOf, freeOf, originalFits, originalsFit, mayFollow, ascending, apart, apartFrom, outside, mappedOf, mappedFit, entriesFit, countIn, tableIn, noneDefective, named, copyFits, spotOf, inserted, firstFree, rest, without, turnedDefective, retired, freeTaken, resorted, writtenTable, counts, countingOf, counting, sequenceIn, sequenceAt, tableAt, highest, withSequence, currentSequence, current, firstTable, currentTable, agree}
 use Rattle.maps.specs.Kinds.{absent}
 use Rattle.model.specs.Plan.{unless, discAfter}
 use Rattle.model.specs.Examine.{Setting, writeOnce, geometry, examined, lentTable}
@@ -42,9 +42,9 @@ use Rattle.model.specs.Store.{blocksOn}
 use Rattle.model.specs.Demand.{Below}
 use Rattle.model.specs.Examples.{entry}
 use Rattle.model.specs.ReadBack.{Stands, smallGeometry, eachEntry}
-use Rattle.model.specs.NewerWriters.{NoEighteen, Copies, NewerWritten, Respared, DefectiveStays, tableUnder, plainTable, reservedTable, spentTable, NewerMet}
+use Rattle.model.specs.NewerWriters.{NoEighteen, Copies, NamesAside, NewerWritten, Respared, defectiveAfter, DefectiveStays, tableUnder, plainTable, reservedTable, spentTable, spentGeometry, NewerMet}
 use Rattle.model.proofs.Basics.{by-bool, and-true, and-false, both, or-left, or-right}
-use Rattle.model.proofs.SparingLaws.{In, fits-originals, fits-mapped, free-not-defective, original-cases, originals-first, multiple-none, multiple-defective, three-parts, resorted-used, resorted-defective, resorted-free, turned-spared, turned-unspared, locate-not-defective, written-name, written-suffix, length-copies, copy-order-length}
+use Rattle.model.proofs.SparingLaws.{In, fits-originals, fits-mapped, free-not-defective, original-cases, originals-first, multiple-none, multiple-defective, three-parts, resorted-used, resorted-defective, resorted-free, resorted-length, resorted-fits, spot-same, spot-other, turned-spared, turned-unspared, locate-not-defective, written-name, written-suffix, length-copies, copy-order-length}
 use Rattle.model.proofs.Sectors.{writes-append}
 use Rattle.model.proofs.SectorsRuns.{length-upward}
 use Rattle.model.proofs.Verdicts.{then-go, go-then, examined-tells, examined-go}
@@ -148,7 +148,8 @@ copies =
       newer = λ g b z h f. both (eq-eqb (field b 0 2) 0 z) (both (or-left _ h) f);
       older = λ g b z h n f. both (eq-eqb (field b 0 2) 0 z) (both (or-right (hasRegid b 16 sparingName) (both h n)) f);
       olderDefective = λ g b h n. rw (one-name b h, h, n) (and-false (eqb (field b 0 2) 0) refl);
-      reserved = λ g b i s l low high.
+      neither = λ g b h k. rw (h, k) (and-false (eqb (field b 0 2) 0) refl);
+      reserved = λ g b i l low high.
           by-bool (copyFits g b)
           (λ q.
           original-cases (g .span) _ (originals-at (g .span) (entries (tableIn b)) i (entry 0 0) (fits-originals g (entries (tableIn b)) (copy-entries g b q)) l)
@@ -158,6 +159,59 @@ copies =
           (λ q. q);
       order = λ g b s h. three-parts g (entries (tableIn b)) (copy-entries g b h) s;
     }
+
+-- ---- the identifier has no other part
+
+module _ (d d′ : Disc) (g : Geometry) (same : (t : ℕ) → counts d g t ≡ counts d′ g t) (sequence : (t : ℕ) → sequenceAt d t ≡ sequenceAt d′ t)
+    (table : (t : ℕ) → tableAt d t ≡ tableAt d′ t) where
+  counting-same : (ts : List ℕ) → countingOf d g ts ≡ countingOf d′ g ts
+  unfolding countingOf
+  counting-same [] = refl
+  counting-same (t ∷ ts) = rw (same t, counting-same ts)
+
+  highest-same : (ts : List ℕ) → highest d ts ≡ highest d′ ts
+  unfolding highest
+  highest-same [] = refl
+  highest-same (t ∷ ts) = rw (sequence t, highest-same ts)
+
+  with-same : (n : ℕ) (ts : List ℕ) → withSequence d n ts ≡ withSequence d′ n ts
+  unfolding withSequence
+  with-same n [] = refl
+  with-same n (t ∷ ts) = rw (sequence t, with-same n ts)
+
+  first-same : (ts : List ℕ) → firstTable d ts ≡ firstTable d′ ts
+  unfolding firstTable
+  first-same [] = refl
+  first-same (t ∷ ts) = table t
+
+  agree-same : (l ts : List ℕ) → agree d l ts ≡ agree d′ l ts
+  unfolding agree
+  agree-same l [] = refl
+  agree-same l (t ∷ ts) = rw (table t, agree-same l ts)
+
+  current-sequence-same : currentSequence d g ≡ currentSequence d′ g
+  unfolding currentSequence counting
+  current-sequence-same = highest-same (countingOf d g (g .tables)) ∙ ap (highest d′) (counting-same (g .tables))
+
+  current-same : current d g ≡ current d′ g
+  unfolding current counting
+  current-same =
+      with-same (currentSequence d g) (countingOf d g (g .tables))
+      ∙ ap₂ (withSequence d′) current-sequence-same (counting-same (g .tables))
+
+  current-table-same : currentTable d g ≡ currentTable d′ g
+  unfolding currentTable
+  current-table-same = first-same (current d g) ∙ ap (firstTable d′) current-same
+
+-- copies of both identifiers side by side
+pub names-aside : NamesAside
+unfolding NamesAside
+names-aside d d′ g same sequence table = (
+  current-same d d′ g same sequence table,
+  current-sequence-same d d′ g same sequence table,
+  current-table-same d d′ g same sequence table,
+  agree-same d d′ g same sequence table,
+)
 
 -- ---- what is written
 
@@ -260,10 +314,15 @@ pub respared : Respared
 respared =
     record {
       used = λ es p m. resorted-used es p (multiple-none p m) (multiple-defective p m);
-      worn = λ es p m. resorted-defective es p (multiple-none p m) (multiple-defective p m);
+      defectives = λ es p m. resorted-defective es p (multiple-none p m) (multiple-defective p m);
       free = λ es p m. resorted-free es p (multiple-none p m) (multiple-defective p m);
       turned = λ g es p m f s k q. turned-spared g es p m f s k q;
       kept = λ es p m q. turned-unspared es p m q;
+      fits = λ g es p f s m l k.
+          let w = resorted-fits g es p f m l s k in
+          (w, three-parts g (resorted es p) w s, resorted-length g es p f m l s k);
+      own = λ g es p f s m l k. spot-same g es p f m l s k;
+      others = λ g es p q f s m l k h n. spot-other g es p f m l s k q n h;
       unread = λ g es i v j f s n l h k. locate-not-defective g es f s n v _ j l (in-mapped (defectiveOf es) i (entry 0 0) k) h;
       untaken = λ g es i f s k. free-not-defective g es _ (fits-mapped g es f) s (in-mapped (defectiveOf es) i (entry 0 0) k);
     }
@@ -271,21 +330,24 @@ respared =
 -- what was defective stays so, over whole lists
 pub stays-defective : DefectiveStays
 unfolding DefectiveStays entriesOn
-stays-defective e d t cs again f =
-    let k = defective-stays e d t (f .low) again (f .opens) cs (f .proper) in
-    ap (take (length (defectiveOf (entriesOn e d)))) (k .1) ∙ take-at (defectiveOf (entriesOn e d)) (k .0) (length (defectiveOf (entriesOn e d))) refl
+stays-defective e d t cs later again f =
+    let k = defective-stays e d t (f .low) again (f .opens) cs later (f .proper) in
+    let ds : List Entry = defectiveAfter e d t cs in
+    ap (take (length ds)) (k .1) ∙ take-at ds (k .0) (length ds) refl
 
 -- ---- closed tables
 
 -- the copies and tables of the instances
 pub newer-met : NewerMet
-unfolding smallGeometry eachEntry tableUnder plainTable reservedTable spentTable writtenTable filled join regid identifier sparingName olderName digits quads flat splice part same value field words entries countIn tableIn hasRegid noneDefective named copyFits originalFits originalsFit mayFollow ascending apart apartFrom outside absent mappedOf mappedFit entriesFit none defective isFree isDefective isUsed usedOf defectiveOf freeOf spotOf inserted firstFree rest without turnedDefective retired freeTaken resorted
+unfolding smallGeometry eachEntry tableUnder plainTable reservedTable spentTable spentGeometry writtenTable filled join regid identifier sparingName olderName digits quads flat splice part same value field words entries countIn sequenceIn tableIn hasRegid noneDefective named copyFits originalFits originalsFit mayFollow ascending apart apartFrom outside absent mappedOf mappedFit entriesFit none defective isFree isDefective isUsed usedOf defectiveOf freeOf spotOf inserted firstFree rest without turnedDefective retired freeTaken resorted
 newer-met =
     record {
       newer = refl;
       older = (refl, refl, refl);
       olderDefective = (refl, refl, refl);
+      alike = (refl, refl, refl);
       reserved = refl;
+      fits = refl;
       spared = (refl, refl);
       again = refl;
       first = refl;

@@ -15,6 +15,7 @@ use Rattle.refusal.specs.Tests.{test}
 use Rattle.refusal.proofs.Laws.{passed}
 use Rattle.fields.specs.Bytes.{part}
 use Rattle.fields.specs.Number.{field}
+use Rattle.fields.specs.Regid.{hasRegid}
 use Rattle.fields.proofs.Laws.{part-all, length-part}
 use Rattle.fields.proofs.Words.{word-at}
 use Rattle.maps.proofs.Written.{list-reads-back}
@@ -26,7 +27,7 @@ use Rattle.model.specs.Disc.{Disc, sector, mark, recorded, recordedRun, 
 use Rattle.model.specs.Writes.{Write, landing, landed, write, writes, upward, struck}
 use Rattle.model.specs.Vat.{belowOrNone, allBelow, countOf, entriesOf, previousOf, fileOf, passes, vatIcb, vatFile, Found, icbAt}
 use Rattle.model.specs.VatWritten.{fileBytes, dataSectors, writtenFile, writtenData, writtenIcb}
-use Rattle.model.specs.Sparing.{Geometry, Entry, entries, flat, sequenceAt, sequenceIn, tableAt, tableIn, countIn, copyFits, writtenTable}
+use Rattle.model.specs.Sparing.{sparingName, Geometry, Entry, entries, flat, sequenceAt, sequenceIn, tableAt, tableIn, countIn, copyFits, writtenTable}
 use Rattle.model.specs.Plan.{carry, unless, replyOf, discAfter}
 use Rattle.model.specs.Examine.{Setting, writeOnce, examined, lentTable}
 use Rattle.model.specs.Once.{nextOn, entriesHeld, nextHeld, lastHeld, heldFits, onceVerdict, isFound, foundAt, newest, newestFile, roomToCommit, commitTests, icbBlock, commitWrites, commitPlan}
@@ -42,7 +43,7 @@ use Rattle.model.proofs.Sectors.{Made, shapely-made, shapely-most, insi
 use Rattle.model.proofs.SectorsRuns.{joined-parts, recordedRun-all, placed-upward, upward-sector, upward-mark}
 use Rattle.model.proofs.WrittenVatFile.{embedded-none}
 use Rattle.model.proofs.WrittenVat.{length-data, length-icb, file-count, file-entries, file-previous, icb-file, icb-passes, data-never}
-use Rattle.model.proofs.SparingLaws.{entries-flat, length-written, written-sequence, written-count, written-table, written-fits, fits-counts}
+use Rattle.model.proofs.SparingLaws.{entries-flat, written-name, length-written, written-sequence, written-count, written-table, written-fits, fits-counts}
 use Rattle.model.proofs.OnceSave.{once-tells}
 use Rattle.model.proofs.OnceRead.{Live, live-last}
 use Rattle.model.proofs.OnceOpen.{kept-newest}
@@ -346,6 +347,7 @@ table-back d g p es n f w =
     let numbers : tableIn (sector d p) ≡ flat es = ap tableIn (w .holds) ∙ written-table g es n (f .fits) (f .size) (f .sectors) span small in
     record {
       counting = fits-counts d g p (w .marked) (ap (copyFits g) (w .holds) ∙ written-fits g es n (f .fits) (f .size) (f .sectors) span small);
+      name = ap (λ (b : List ℕ). hasRegid b 16 sparingName) (w .holds) ∙ written-name n (flat es);
       count = ap countIn (w .holds) ∙ written-count g es n (f .fits) (f .size) (f .sectors) span small;
       sequence = ap sequenceIn (w .holds) ∙ written-sequence g es n (f .fits) (f .size) (f .sectors) span small;
       table = ap entries numbers ∙ entries-flat es;

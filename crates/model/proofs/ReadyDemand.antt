@@ -2,7 +2,7 @@
 use Prim.Native.Nat.{ℕ, _%_, _<_}
 use mathlib.Core.Bool.{Bool, true, false, false≢true}
 use mathlib.Core.Path.{_≡_, refl, sym, _∙_, subst}
-use mathlib.Core.List.{List, _∷_}
+use mathlib.Core.List.{List, [], _∷_, _++_, append-nil}
 use lib.ListN.{length, getD, take}
 use Rattle.refusal.specs.declared.Refusal.the-variants.{OtherKind, StaleRecord}
 use Rattle.refusal.specs.declared.Verdict.the-variants.{Go}
@@ -12,7 +12,7 @@ use Rattle.maps.specs.Kinds.{readMaps}
 use Rattle.model.specs.declared.Record.{Record}
 use Rattle.model.specs.Disc.{Disc}
 use Rattle.model.specs.Writes.{noCut}
-use Rattle.model.specs.Sparing.{Geometry, Entry, defectiveOf}
+use Rattle.model.specs.Sparing.{Geometry, Entry, entries, defectiveOf}
 use Rattle.model.specs.Examine.{Setting, writeOnce, examined, geometry}
 use Rattle.model.specs.Once.{heldFits, onceVerdict, savePlan, freePlan, commitPlan}
 use Rattle.model.specs.Rewrite.{tableOn, entriesOn}
@@ -27,7 +27,8 @@ use Rattle.model.proofs.ReadyOpen.{Keeps, AgainOk, reopened-again, firs
 use Rattle.model.proofs.ReadyCalls.{sound-packet, sound-block, told-packet, told-block}
 use Rattle.model.proofs.ReadySpare.{sound-spare, told-spare}
 use Rattle.model.proofs.OnceDemand.{accepted-goes}
-use Rattle.model.proofs.Steps.{list-after, Told, told-plan, told-opening, list-told, Sound, sound-plan, list-opens, list-ends}
+use Rattle.model.proofs.ConsequencesLists.{final-append, proper-split}
+use Rattle.model.proofs.Steps.{list-state, Told, told-plan, told-opening, list-told, Sound, sound-plan, list-opens, list-ends}
 
 -- a call for write-once discs never goes on
 other-kind : {P : Type 0} (e : Setting) (d : Disc) (t : List ℕ) (lent : Bool) (r : Record) (own : List Test) → writeOnce e ≡ false → onceVerdict e d t lent r own ≡ Go → P
@@ -106,17 +107,16 @@ module _ (e : Setting) (again : writeOnce e ≡ false) (maps-go : readMaps (e .m
       let o = list-ends (AgainOk e g ds) h e sound-any cs (afterOpening e d t) (start e d) i p q in
       o .2 .ready .count ∙ sym (γ .span-is)
 
-  -- the table after a list, cut or not, has these defective spares first
-  again-worn : (d : Disc) (t : List ℕ) → AgainOk e g ds false (afterOpening e d t) (start e d) → (cs : List Call) → Proper false cs (answers e (afterOpening e d t) cs)
-      → Keeps ds (tableOn e (final e (afterOpening e d t) cs .disc))
+  -- what holds of the table holds of the one on the disc
+  keeps-on : (down : Bool) (st : State) (σ : Store) → AgainOk e g ds down st σ → Keeps ds (tableOn e (st .disc))
   unfolding AgainOk
-  again-worn d t i cs p =
-      go (endsCut false (answers e (afterOpening e d t) cs)) (final e (afterOpening e d t) cs) (followed h (start e d) cs (answers e (afterOpening e d t) cs))
-      (list-after (AgainOk e g ds) h e sound-any cs (afterOpening e d t) (start e d) i p)
-    where
-      go : (down : Bool) (st : State) (σ : Store) → AgainOk e g ds down st σ → Keeps ds (tableOn e (st .disc))
-      go true st σ (n, l, r, long, kept) = rw (ready-table r) kept
-      go false st σ (n, l, r, kept) = rw (ready-table (r .ready)) kept
+  keeps-on true st σ (n, l, r, long, kept) = rw (ready-table r) kept
+  keeps-on false st σ (n, l, r, kept) = rw (ready-table (r .ready)) kept
+
+  -- the invariant after a list, cut or not
+  again-after : (cs : List Call) (down : Bool) (st : State) (σ : Store) → AgainOk e g ds down st σ → Proper down cs (answers e st cs)
+      → AgainOk e g ds (endsCut down (answers e st cs)) (final e st cs) (followed h σ cs (answers e st cs))
+  again-after cs down st σ o p = list-state (AgainOk e g ds) h e sound-any cs down st σ o p
 
 -- on a rewritable disc that opening accepts
 pub again-demand : (e : Setting) (d : Disc) (t : List ℕ) → Below 256 (d .bytes) → writeOnce e ≡ false → isOpened (answerOfOpening (opening e d t)) ≡ true
@@ -148,11 +148,33 @@ again-blocks e d t low again a cs p q =
     let γ = first-ground e again d t low go in
     (again-count e again m (geometry e d) γ refl (defectiveOf (entriesOn e d)) d t (first-again e again d t low go) cs p q, γ .span-32)
 
--- what was a defective spare stays one, and those that were come first
+-- the defective spares that the disc has are those that it keeps
+rebased : (e : Setting) (g : Geometry) (ds : List Entry) (down : Bool) (st : State) (σ : Store) → AgainOk e g ds down st σ → AgainOk e g (defectiveOf (entriesOn e (st .disc))) down st σ
+unfolding AgainOk entriesOn
+rebased e g ds true st σ (n, l, r, long, kept) =
+    (n, l, r, long, ([], rw (ready-table r) (sym (append-nil (defectiveOf (entries l))))))
+rebased e g ds false st σ (n, l, r, kept) =
+    (n, l, r, ([], rw (ready-table (r .ready)) (sym (append-nil (defectiveOf (entries l))))))
+
+-- what is a defective spare stays one, and those that are come first
 pub defective-stays : (e : Setting) (d : Disc) (t : List ℕ) → Below 256 (d .bytes) → writeOnce e ≡ false → isOpened (answerOfOpening (opening e d t)) ≡ true
-    → (cs : List Call) → Proper false cs (answers e (afterOpening e d t) cs) → Keeps (defectiveOf (entriesOn e d)) (tableOn e (final e (afterOpening e d t) cs .disc))
+    → (cs later : List Call) → Proper false (cs ++ later) (answers e (afterOpening e d t) (cs ++ later))
+    → Keeps (defectiveOf (entriesOn e (final e (afterOpening e d t) cs .disc))) (tableOn e (final e (afterOpening e d t) (cs ++ later) .disc))
 unfolding openVerdict AgainOk shapeOf geometry
-defective-stays e d t low again a cs p =
+defective-stays e d t low again a cs later p =
     let go = accepted-goes e d t a in
     let m = open-maps e d t go in
-    again-worn e again m (geometry e d) (first-ground e again d t low go) refl (defectiveOf (entriesOn e d)) d t (first-again e again d t low go) cs p
+    let γ = first-ground e again d t low go in
+    let g : Geometry = geometry e d in
+    let s : State = afterOpening e d t in
+    let q = proper-split e cs later s false p in
+    let ds : List Entry = defectiveOf (entriesOn e (final e s cs .disc)) in
+    let down : Bool = endsCut false (answers e s cs) in
+    let s₁ : State = final e s cs in
+    let σ₁ : Store = followed (shapeOf e) (start e d) cs (answers e s cs) in
+    let o =
+    rebased e g (defectiveOf (entriesOn e d)) down s₁ σ₁
+    (again-after e again m g γ refl (defectiveOf (entriesOn e d)) cs false s (start e d) (first-again e again d t low go) (q .0)) in
+    rw (final-append e cs later s)
+    (keeps-on e again m g γ refl ds (endsCut down (answers e s₁ later)) (final e s₁ later) (followed (shapeOf e) σ₁ later (answers e s₁ later))
+    (again-after e again m g γ refl ds later down s₁ σ₁ o (q .1)))

@@ -329,7 +329,7 @@ first-agree d e [] h = refl
 first-agree d e (t ∷ ts) h = ap tableIn (h t (inl refl))
 
 module _ (d e : Disc) (g : Geometry) (same : SameAt d e (g .tables)) where
-  -- a table counts on and-true or on neither
+  -- a table counts on both or on neither
   pub counts-agree : (t : ℕ) → In t (g .tables) → counts d g t ≡ counts e g t
   unfolding counts recorded
   counts-agree t i = rw (same .sectors t i, same .marks t i)

@@ -129,8 +129,8 @@ module _ (es : List Entry) (p : ℕ) where
   abbrev others : List Entry
   others = without p (usedOf es)
 
-  abbrev worn : List Entry
-  worn = defectiveOf es ++ turnedDefective p (usedOf es)
+  abbrev marked : List Entry
+  marked = defectiveOf es ++ turnedDefective p (usedOf es)
 
   abbrev own : Entry
   own = record { original = p; mapped = firstFree (freeOf es) }
@@ -138,21 +138,21 @@ module _ (es : List Entry) (p : ℕ) where
   others-used : Each isUsed others
   others-used = each-without isUsed p (usedOf es) (each-used es)
 
-  worn-defective : Each isDefective worn
-  worn-defective = each-append isDefective (defectiveOf es) (turnedDefective p (usedOf es)) (each-defective es) (each-turned p (usedOf es))
+  marked-defective : Each isDefective marked
+  marked-defective = each-append isDefective (defectiveOf es) (turnedDefective p (usedOf es)) (each-defective es) (each-turned p (usedOf es))
 
-  retired-parts : retired es p ≡ others ++ (worn ++ freeOf es)
+  retired-parts : retired es p ≡ others ++ (marked ++ freeOf es)
   unfolding retired
   retired-parts = ap (λ (l : List Entry). others ++ l) (sym (append-assoc (defectiveOf es) (turnedDefective p (usedOf es)) (freeOf es)))
 
   -- "its entry turns defective and a free one is taken"
-  pub resorted-parts : resorted es p ≡ inserted own others ++ (worn ++ rest (freeOf es))
+  pub resorted-parts : resorted es p ≡ inserted own others ++ (marked ++ rest (freeOf es))
   unfolding resorted freeTaken
   resorted-parts =
-      let r : List Entry = others ++ (worn ++ freeOf es) in
-      let u : usedOf r ≡ others = used-parts others worn (freeOf es) others-used worn-defective (each-free es) in
-      let d : defectiveOf r ≡ worn = defective-parts others worn (freeOf es) others-used worn-defective (each-free es) in
-      let f : freeOf r ≡ freeOf es = free-parts others worn (freeOf es) others-used worn-defective (each-free es) in
+      let r : List Entry = others ++ (marked ++ freeOf es) in
+      let u : usedOf r ≡ others = used-parts others marked (freeOf es) others-used marked-defective (each-free es) in
+      let d : defectiveOf r ≡ marked = defective-parts others marked (freeOf es) others-used marked-defective (each-free es) in
+      let f : freeOf r ≡ freeOf es = free-parts others marked (freeOf es) others-used marked-defective (each-free es) in
       ap (λ (l : List Entry). freeTaken l p) retired-parts
       ∙ (λ i. inserted (record { original = p; mapped = firstFree (f i) }) (u i) ++ (d i ++ rest (f i)))
 
@@ -165,15 +165,15 @@ module _ (es : List Entry) (p : ℕ) where
 
     -- the used entries after it
     pub resorted-used : usedOf (resorted es p) ≡ inserted own others
-    resorted-used = ap usedOf resorted-parts ∙ used-parts (inserted own others) worn (rest (freeOf es)) own-used worn-defective free-left
+    resorted-used = ap usedOf resorted-parts ∙ used-parts (inserted own others) marked (rest (freeOf es)) own-used marked-defective free-left
 
     -- the defective ones: those before it, and the packet's old spare last
-    pub resorted-defective : defectiveOf (resorted es p) ≡ worn
-    resorted-defective = ap defectiveOf resorted-parts ∙ defective-parts (inserted own others) worn (rest (freeOf es)) own-used worn-defective free-left
+    pub resorted-defective : defectiveOf (resorted es p) ≡ marked
+    resorted-defective = ap defectiveOf resorted-parts ∙ defective-parts (inserted own others) marked (rest (freeOf es)) own-used marked-defective free-left
 
     -- the free ones: all but the first
     pub resorted-free : freeOf (resorted es p) ≡ rest (freeOf es)
-    resorted-free = ap freeOf resorted-parts ∙ free-parts (inserted own others) worn (rest (freeOf es)) own-used worn-defective free-left
+    resorted-free = ap freeOf resorted-parts ∙ free-parts (inserted own others) marked (rest (freeOf es)) own-used marked-defective free-left
 
 -- ---- lengths
 
@@ -367,8 +367,8 @@ spot-before [] b q h = h
 spot-before (e ∷ a) b q h = ap (cond (eqb (e .original) q) (mappedTo (e .mapped))) (spot-before a b q h)
 
 -- defective and free ones are such
-spot-worn : (d f : List Entry) (q : ℕ) → q ≢ none → q ≢ defective → Each isDefective d → Each isFree f → spotOf (d ++ f) q ≡ inPlace
-spot-worn d f q n m hd hf =
+spot-marked : (d f : List Entry) (q : ℕ) → q ≢ none → q ≢ defective → Each isDefective d → Each isFree f → spotOf (d ++ f) q ≡ inPlace
+spot-marked d f q n m hd hf =
     spot-before d f q (spot-past isFree f q hf (λ e h z. n (sym z ∙ free-means e h)))
     ∙ spot-past isDefective d q hd (λ e h z. m (sym z ∙ defective-means e h))
 
@@ -590,20 +590,20 @@ module _ (g : Geometry) (es : List Entry) (p : ℕ) (fits : entriesFit g es ≡ 
   resorted-originals =
       let u : List Entry = usedOf es in
       ap (originalsFit (g .span)) (resorted-parts es p)
-      ∙ originals-append (g .span) (inserted (own es p) (without p u)) (worn es p ++ rest (freeOf es))
+      ∙ originals-append (g .span) (inserted (own es p) (without p u)) (marked es p ++ rest (freeOf es))
       (originals-inserted (g .span) (own es p) (without p u) (packet-original (g .span) p multiple below)
       (originals-without (g .span) p u (originals-used (g .span) es (fits-originals g es fits))))
-      (originals-append (g .span) (worn es p) (rest (freeOf es))
-      (originals-defective (g .span) (worn es p) (worn-defective es p))
+      (originals-append (g .span) (marked es p) (rest (freeOf es))
+      (originals-defective (g .span) (marked es p) (marked-defective es p))
       (originals-free (g .span) (rest (freeOf es)) (each-rest isFree (freeOf es) (each-free es))))
 
   resorted-ascending : ascending (resorted es p) ≡ true
   resorted-ascending =
       ap ascending (resorted-parts es p)
-      ∙ ascending-parts (inserted (own es p) (others es p)) (worn es p) (rest (freeOf es))
+      ∙ ascending-parts (inserted (own es p) (others es p)) (marked es p) (rest (freeOf es))
       (rising-inserted (own es p) (others es p) (lacks-without p (usedOf es)) (rising-without p (usedOf es) (used-rise g es fits small)))
       (own-used es p (multiple-none p multiple) (multiple-defective p multiple))
-      (worn-defective es p)
+      (marked-defective es p)
       (each-rest isFree (freeOf es) (each-free es))
 
   resorted-mapped : mappedFit g (resorted es p) ≡ true
@@ -629,16 +629,16 @@ module _ (g : Geometry) (es : List Entry) (p : ℕ) (fits : entriesFit g es ≡ 
   pub spot-same : spotOf (resorted es p) p ≡ mappedTo (firstFree (freeOf es))
   spot-same =
       ap (λ (l : List Entry). spotOf l p) (resorted-parts es p)
-      ∙ spot-own (own es p) (others es p) (worn es p ++ rest (freeOf es)) (lacks-without p (usedOf es))
+      ∙ spot-own (own es p) (others es p) (marked es p ++ rest (freeOf es)) (lacks-without p (usedOf es))
 
   -- every other one is where it was
   pub spot-other : (q : ℕ) → q ≢ p → q < g .span → spotOf (resorted es p) q ≡ spotOf es q
   spot-other q n l =
       let k = below-none q (g .span) l small in
       ap (λ (x : List Entry). spotOf x q) (resorted-parts es p)
-      ∙ spot-elsewhere (own es p) (others es p) (worn es p ++ rest (freeOf es)) q n
-      ∙ spot-before (others es p) (worn es p ++ rest (freeOf es)) q
-      (spot-worn (worn es p) (rest (freeOf es)) q (k .0) (k .1) (worn-defective es p) (each-rest isFree (freeOf es) (each-free es)))
+      ∙ spot-elsewhere (own es p) (others es p) (marked es p ++ rest (freeOf es)) q n
+      ∙ spot-before (others es p) (marked es p ++ rest (freeOf es)) q
+      (spot-marked (marked es p) (rest (freeOf es)) q (k .0) (k .1) (marked-defective es p) (each-rest isFree (freeOf es) (each-free es)))
       ∙ spot-without (usedOf es) p q n
       ∙ sym (spot-used es q (k .0) (k .1))
 

@@ -146,6 +146,16 @@ module _ (Ok : Bool → State → Store → Count → Type 0) (h : Shape) (e : S
 
 -- one that asks nothing of the count
 module _ (Ok : Bool → State → Store → Type 0) (h : Shape) (e : Setting)
+    (sound : (down : Bool) (st : State) (σ : Store) (c : Call) → Ok down st σ → (down ≡ true → c ≡ openDisc) → Sound Ok h σ c (step e st c)) where
+  -- holds after a list, from whatever state it begins in
+  pub list-state : (cs : List Call) (down : Bool) (st : State) (σ : Store) → Ok down st σ → Proper down cs (answers e st cs)
+      → Ok (endsCut down (answers e st cs)) (final e st cs) (followed h σ cs (answers e st cs))
+  list-state cs down st σ o p =
+      subst (λ (l : List Call). Ok (endsCut down (answers e st l)) (final e st l) (followed h σ l (answers e st l))) (take-length cs)
+      (list-holds (λ down x τ k. Ok down x τ) h e (λ down x τ k. sound down x τ) cs down st σ (count 0 0) o p (length cs))
+
+-- and so in its parts
+module _ (Ok : Bool → State → Store → Type 0) (h : Shape) (e : Setting)
     (sound : (down : Bool) (st : State) (σ : Store) (c : Call) → Ok down st σ → (down ≡ true → c ≡ openDisc) → Sound Ok h σ c (step e st c))
     (cs : List Call) (st : State) (σ : Store) (first : Ok false st σ) (proper : Proper false cs (answers e st cs)) where
   -- holds after the first i calls
@@ -155,10 +165,6 @@ module _ (Ok : Bool → State → Store → Type 0) (h : Shape) (e : Setting)
   holds : (i : ℕ) → Holds (take i cs)
   holds = list-holds (λ down x τ k. Ok down x τ) h e (λ down x τ k. sound down x τ) cs false st σ (count 0 0) first proper
 
-  -- and after all of them
-  pub list-after : Holds cs
-  list-after = subst Holds (take-length cs) (holds (length cs))
-
   -- every opening in the list is accepted, by its place
   pub list-opens : ((down : Bool) (x : State) (τ : Store) → Ok down x τ → isOpened (step e x openDisc .answer) ≡ true)
       → (i : ℕ) → i < length cs → getD cs i openDisc ≡ openDisc → isOpened (getD (answers e st cs) i cut) ≡ true
@@ -166,7 +172,7 @@ module _ (Ok : Bool → State → Store → Type 0) (h : Shape) (e : Setting)
 
   -- after a list that does not end in a cut the invariant holds
   pub list-ends : endsCut false (answers e st cs) ≡ false → Ok false (final e st cs) (followed h σ cs (answers e st cs))
-  list-ends q = rw q at list-after
+  list-ends q = rw q at (list-state Ok h e sound cs false st σ first proper)
 
   -- the answer of each call says that it was cut exactly if the plain store knows it
   pub list-told : ((down : Bool) (x : State) (τ : Store) (c : Call) → Ok down x τ → (down ≡ true → c ≡ openDisc) → Told h τ c (step e x c .answer))

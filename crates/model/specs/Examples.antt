@@ -22,7 +22,7 @@ use Rattle.model.specs.Both.{entrySector}
 unfoldable pub gives : List Test → ℕ
 gives l = verdictNumber (first l)
 
--- a sparing entry (original, mapped); 0xffffffff is a free one
+-- a sparing entry (original, mapped); 0xffffffff is a free one, 0xfffffff0 a defective one
 abbrev pub entry : ℕ → ℕ → Entry
 entry o m = record { original = o; mapped = m }
 

@@ -126,8 +126,8 @@ pub record SparedTwice (e : Setting) (st : State) (first second : ℕ) (more : L
       (v : ℕ) (out : List ℕ) → length out ≡ 2048 → packetOf v ≢ p
       → seen e (final e st (twiceCalls p y z)) v out ≡ seen e st v out
 
--- so it is on every made rewritable disc with two tables or more and two spares or more, for every packet of the partition: that no call answers
--- 18 (NewerWriters.antt) is not by refusing
+-- so it is on every made rewritable disc with two tables or more and two spares or more, for every packet of the partition: so that no call answers
+-- 18 (NewerWriters.antt) is not because sparing refuses
 unfoldable pub RespareLives : Type 0
 RespareLives =
     (e : Setting) (d : Disc) (first second : ℕ) (more t : List ℕ)

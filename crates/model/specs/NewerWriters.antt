@@ -22,7 +22,7 @@ use Rattle.model.specs.declared.Forecast.{Forecast}
 use Rattle.model.specs.Disc.{Disc}
 use Rattle.model.specs.Vat.{none}
 use Rattle.model.specs.Told.{replyNumber, openedNumber, givenNumber, forecastNumber}
-use Rattle.model.specs.Sparing.{sparingName, olderName, Geometry, Entry, entries, flat, defective, usedOf, defectiveOf, freeOf, entriesFit, tableIn, noneDefective, copyFits, mappedTo, inPlace, spotOf, locate, firstFree, rest, inserted, without, turnedDefective, resorted, writtenTable}
+use Rattle.model.specs.Sparing.{sparingName, olderName, Geometry, Entry, entries, flat, defective, usedOf, defectiveOf, freeOf, entriesFit, tableIn, noneDefective, copyFits, counts, sequenceIn, sequenceAt, tableAt, currentSequence, current, currentTable, agree, mappedTo, inPlace, spotOf, locate, firstFree, rest, inserted, without, turnedDefective, resorted, writtenTable}
 use Rattle.model.specs.Plan.{replyOf, discAfter}
 use Rattle.model.specs.Examine.{Setting, writeOnce, geometry}
 use Rattle.model.specs.Rewrite.{noEntry, entriesOn, sequenceOn, sparedTable, sparePlan}
@@ -66,10 +66,12 @@ pub record Copies : Type 0 where
       (g : Geometry) (b : List ℕ)
       → hasRegid b 16 olderName ≡ true → noneDefective (entries (tableIn b)) ≡ false
       → copyFits g b ≡ false
-  -- nor does one with an original from 0xfffffff1 to 0xfffffffe, under either identifier
+  -- with neither identifier it is no copy
+  pub neither : (g : Geometry) (b : List ℕ) → hasRegid b 16 sparingName ≡ false → hasRegid b 16 olderName ≡ false → copyFits g b ≡ false
+  -- nor is one with an original from 0xfffffff1 to 0xfffffffe, under either identifier
   pub reserved :
       (g : Geometry) (b : List ℕ) (i : ℕ)
-      → g .span ≤ 1048576 → i < length (entries (tableIn b))
+      → i < length (entries (tableIn b))
       → 0xfffffff1 ≤ getD (entries (tableIn b)) i (entry 0 0) .original → getD (entries (tableIn b)) i (entry 0 0) .original ≤ 0xfffffffe
       → copyFits g b ≡ false
   -- in one that counts the used entries come first, then the defective ones, then the free ones
@@ -77,6 +79,19 @@ pub record Copies : Type 0 where
       (g : Geometry) (b : List ℕ)
       → g .span ≤ 1048576 → copyFits g b ≡ true
       → entries (tableIn b) ≡ usedOf (entries (tableIn b)) ++ (defectiveOf (entries (tableIn b)) ++ freeOf (entries (tableIn b)))
+
+-- the identifier has no other part, also where copies of both stand side by side: two discs on which the same copies count, with the same sequences
+-- and entries, have the same current copies and the same table, and line 10 says the same of them, whichever identifiers the copies have
+unfoldable pub NamesAside : Type 0
+NamesAside =
+    (d d′ : Disc) (g : Geometry)
+    → ((t : ℕ) → counts d g t ≡ counts d′ g t)
+    → ((t : ℕ) → sequenceAt d t ≡ sequenceAt d′ t)
+    → ((t : ℕ) → tableAt d t ≡ tableAt d′ t)
+    → (current d g ≡ current d′ g)
+    × (currentSequence d g ≡ currentSequence d′ g)
+    × (currentTable d g ≡ currentTable d′ g)
+    × ((l ts : List ℕ) → agree d l ts ≡ agree d′ l ts)
 
 -- ---- "and the newer one written"
 
@@ -108,7 +123,7 @@ pub record Respared : Type 0 where
       (es : List Entry) (p : ℕ) → p % 32 ≡ 0
       → usedOf (resorted es p) ≡ inserted (entry p (firstFree (freeOf es))) (without p (usedOf es))
   -- the defective ones as they were, and "a new one last of them": none becomes free or used again
-  pub worn :
+  pub defectives :
       (es : List Entry) (p : ℕ) → p % 32 ≡ 0
       → defectiveOf (resorted es p) ≡ defectiveOf es ++ turnedDefective p (usedOf es)
   -- the free ones but the first
@@ -120,6 +135,24 @@ pub record Respared : Type 0 where
       → turnedDefective p (usedOf es) ≡ entry defective m ∷ []
   -- and there is none where the packet had none
   pub kept : (es : List Entry) (p : ℕ) → p % 32 ≡ 0 → spotOf es p ≡ inPlace → turnedDefective p (usedOf es) ≡ []
+  -- the table fits again: used, then defective, then free, as the copy rule has it; and R stays
+  pub fits :
+      (g : Geometry) (es : List Entry) (p : ℕ)
+      → entriesFit g es ≡ true → g .span ≤ 1048576 → p % 32 ≡ 0 → p < g .span → noEntry (freeOf es) ≡ false
+      → (entriesFit g (resorted es p) ≡ true)
+      × (resorted es p ≡ usedOf (resorted es p) ++ (defectiveOf (resorted es p) ++ freeOf (resorted es p)))
+      × (length (resorted es p) ≡ length es)
+  -- the packet is where the free spare was
+  pub own :
+      (g : Geometry) (es : List Entry) (p : ℕ)
+      → entriesFit g es ≡ true → g .span ≤ 1048576 → p % 32 ≡ 0 → p < g .span → noEntry (freeOf es) ≡ false
+      → spotOf (resorted es p) p ≡ mappedTo (firstFree (freeOf es))
+  -- and every other one where it was
+  pub others :
+      (g : Geometry) (es : List Entry) (p q : ℕ)
+      → entriesFit g es ≡ true → g .span ≤ 1048576 → p % 32 ≡ 0 → p < g .span → noEntry (freeOf es) ≡ false
+      → q < g .span → q ≢ p
+      → spotOf (resorted es p) q ≡ spotOf es q
   -- in a table that fits no block is in a defective spare
   pub unread :
       (g : Geometry) (es : List Entry) (i v j : ℕ)
@@ -133,20 +166,24 @@ pub record Respared : Type 0 where
       → i < length (defectiveOf es)
       → firstFree (freeOf es) ≢ getD (defectiveOf es) i (entry 0 0) .mapped
 
--- over whole lists of calls, those of which demand 3 is claimed, wherever the power fails and whether the last call was cut or not: what was a
--- defective spare at first is one after the list, in its place among them. (`RespareLives` has a disc with one.)
+-- the defective spares of the disc that a list of calls leaves
+abbrev pub defectiveAfter : Setting → Disc → List ℕ → List Call → List Entry
+defectiveAfter e d t cs = defectiveOf (entriesOn e (final e (afterOpening e d t) cs .disc))
+
+-- over whole lists of calls, those of which demand 3 is claimed, wherever the power fails and whether the last call was cut or not: what is a
+-- defective spare after the calls cs is one after all later calls, in its place among them. (Two sparings of a packet give one: `RespareLives`.)
 unfoldable pub DefectiveStays : Type 0
 DefectiveStays =
-    (e : Setting) (d : Disc) (t : List ℕ) (cs : List Call) → writeOnce e ≡ false → Follows e d t cs
-    → take (length (defectiveOf (entriesOn e d))) (defectiveOf (entriesOn e (final e (afterOpening e d t) cs .disc))) ≡ defectiveOf (entriesOn e d)
+    (e : Setting) (d : Disc) (t : List ℕ) (cs later : List Call) → writeOnce e ≡ false → Follows e d t (cs ++ later)
+    → take (length (defectiveAfter e d t cs)) (defectiveAfter e d t (cs ++ later)) ≡ defectiveAfter e d t cs
 
 -- ---- there is something of each kind
 
--- a table under an identifier, else as it is written
+-- a table under some identifier, and else as it is written
 unfoldable pub tableUnder : List ℕ → ℕ → List ℕ → List ℕ
 tableUnder name n l = splice (writtenTable n l) 16 (regid name)
 
--- the volume of ReadBack.antt: packet 0 is spared at 160, and the spare at 128 is free
+-- on the volume of ReadBack.antt: packet 0 is spared at 160, and the spare at 128 is free
 unfoldable pub plainTable : List ℕ
 plainTable = 0 ∷ 160 ∷ none ∷ 128 ∷ []
 
@@ -154,9 +191,13 @@ plainTable = 0 ∷ 160 ∷ none ∷ 128 ∷ []
 unfoldable pub reservedTable : List ℕ
 reservedTable = 0 ∷ 160 ∷ 0xfffffff1 ∷ 128 ∷ []
 
--- a packet that is spared again, beside another one and a spare that was defective before
+-- packets 32 and 64 are spared, one spare is defective, and one is free
 unfoldable pub spentTable : List Entry
 spentTable = entry 32 2080 ∷ entry 64 2048 ∷ entry defective 2144 ∷ entry none 2112 ∷ []
+
+-- a volume in which that table fits: S 512, L 128, tables at 0 and 32
+unfoldable pub spentGeometry : Geometry
+spentGeometry = record { start = 512; span = 128; sectors = 2176; tables = 0 ∷ 32 ∷ []; size = 88 }
 
 -- each claim speaks of something
 pub record NewerMet : Type 0 where
@@ -171,9 +212,15 @@ pub record NewerMet : Type 0 where
       (hasRegid (tableUnder olderName 1 (flat eachEntry)) 16 olderName ≡ true)
       × (noneDefective (entries (tableIn (tableUnder olderName 1 (flat eachEntry)))) ≡ false)
       × (tableUnder sparingName 1 (flat eachEntry) ≡ writtenTable 1 (flat eachEntry))
-  -- a reserved original
+  -- one table of one sequence under both identifiers, each of them a copy
+  pub alike :
+      (tableIn (tableUnder olderName 1 plainTable) ≡ tableIn (writtenTable 1 plainTable))
+      × (sequenceIn (tableUnder olderName 1 plainTable) ≡ sequenceIn (writtenTable 1 plainTable))
+      × (copyFits smallGeometry (writtenTable 1 plainTable) ≡ true)
+  -- a reserved original, in the place of the free one of that copy
   pub reserved : getD (entries (tableIn (writtenTable 1 reservedTable))) 1 (entry 0 0) .original ≡ 0xfffffff1
-  -- a packet that is spared and one that is not
+  -- a packet that is spared and one that is not, in a table that fits
+  pub fits : entriesFit spentGeometry spentTable ≡ true
   pub spared : (spotOf spentTable 32 ≡ mappedTo 2080) × (spotOf spentTable 96 ≡ inPlace)
   pub again : resorted spentTable 32 ≡ entry 32 2112 ∷ entry 64 2048 ∷ entry defective 2144 ∷ entry defective 2080 ∷ []
   pub first : resorted spentTable 96 ≡ entry 32 2080 ∷ entry 64 2048 ∷ entry 96 2112 ∷ entry defective 2144 ∷ []

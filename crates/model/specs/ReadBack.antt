@@ -1,8 +1,8 @@
 -- What is written reads back: demand 2 of the buyer, in one statement (document 01, "The disc and its addresses", "The VAT and its ICB", "The
 -- sparing table"). A VAT, a sparing table and a map list as they are written are what reading asks for, and give back what they were written
 -- from. A sparing table follows UDF 1.50, as 02, slip 1, quotes it, in its identifier and in the mark of a defective spare; all else follows CD
--- UDF 1.82 in 01's form, and the suffix of the identifier is zeros. A reader who has read 01 needs besides this file: Vat.antt and Sparing.antt (as they are read), VatWritten.antt (a VAT as it is written)
--- and Written.antt of maps (a map list as it is written).
+-- UDF 1.82 in 01's form, and the suffix of the identifier is zeros. A reader who has read 01 needs besides this file: Vat.antt and Sparing.antt (as
+-- they are read), VatWritten.antt (a VAT as it is written) and Written.antt of maps (a map list as it is written).
 use Prim.Native.Nat.{ℕ, _+_, _-_, _*_, _^_, _≤_, _<_}
 use mathlib.Core.Path.{_≡_}
 use mathlib.Core.Bool.{true, false}
@@ -11,6 +11,7 @@ use lib.ListN.{length, getD, take, replicate}
 use Rattle.refusal.specs.declared.Verdict.the-variants.{Go}
 use Rattle.fields.specs.Bytes.{part}
 use Rattle.fields.specs.Number.{field}
+use Rattle.fields.specs.Regid.{hasRegid}
 use Rattle.address.specs.Translation.{sectorAt}
 use Rattle.maps.specs.declared.Kind.the-variants.{WriteOnce, Rewritable}
 use Rattle.maps.specs.declared.Volume.{Volume}
@@ -24,7 +25,7 @@ use Rattle.model.specs.Disc.{Disc, disc, sector, recorded, shapely}
 use Rattle.model.specs.Writes.{landing, write, writes, noCut}
 use Rattle.model.specs.Vat.{none, belowOrNone, allBelow, countOf, entriesOf, previousOf, passes, vatIcb, vatFile}
 use Rattle.model.specs.VatWritten.{dataSectors, writtenData, writtenIcb}
-use Rattle.model.specs.Sparing.{Geometry, Entry, entries, flat, defective, entriesFit, countIn, counts, sequenceAt, tableAt, writtenTable}
+use Rattle.model.specs.Sparing.{sparingName, Geometry, Entry, entries, flat, defective, entriesFit, countIn, counts, sequenceAt, tableAt, writtenTable}
 use Rattle.model.specs.Plan.{replyOf, discAfter}
 use Rattle.model.specs.Examine.{Setting, setting}
 use Rattle.model.specs.Once.{entriesHeld, lastHeld, isFound, foundAt, newest, newestFile, icbBlock, commitWrites, commitPlan}
@@ -84,6 +85,8 @@ pub record TableFrom (g : Geometry) (es : List Entry) (n : ℕ) : Type 0 where
 pub record TableBack (d : Disc) (g : Geometry) (p : ℕ) (es : List Entry) (n : ℕ) : Type 0 where
   -- "A copy counts if its sector is recorded and .."
   pub counting : counts d g p ≡ true
+  -- the newer identifier (02, slip 1: "in this, new tables and demand 2 follow UDF 1.50")
+  pub name : hasRegid (sector d p) 16 sparingName ≡ true
   -- "number R of entries at 48", "sequence at 52", "from 56 entries of original and mapped"
   pub count : countIn (sector d p) ≡ length es
   pub sequence : sequenceAt d p ≡ n

@@ -37,7 +37,7 @@ groundOf s l n tables size = record { start = s; span = l; sectors = n; tables =
 
 -- ---- entries
 
--- original is the logical address of a packet's first block, or defective or none for a spare that is so or free; mapped is physical
+-- original is the logical address of a packet's first block, `defective` for a defective spare or `none` for a free one; mapped is physical
 pub record Entry : Type 0 where
   pub original : ℕ
   pub mapped : ℕ
@@ -65,7 +65,7 @@ defective = 0xfffffff0
 unfoldable pub isDefective : Entry → Bool
 isDefective e = eqb (e .original) defective
 
--- an entry that is neither is a packet's
+-- a used entry is neither; where the table fits it is a packet's
 unfoldable pub isUsed : Entry → Bool
 isUsed e = not (isFree e || isDefective e)
 
@@ -160,7 +160,7 @@ noneDefective (e ∷ l) = not (isDefective e) && noneDefective l
 unfoldable pub named : List ℕ → Bool
 named b = hasRegid b 16 sparingName || (hasRegid b 16 olderName && noneDefective (entries (tableIn b)))
 
--- bytes 0 and 1 are 0, a regid at 16, and the entries fit
+-- bytes 0 and 1 are 0, one of the two regids at 16 as above, and the entries fit
 unfoldable pub copyFits : Geometry → List ℕ → Bool
 copyFits g b =
     eqb (field b 0 2) 0

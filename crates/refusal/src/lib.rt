@@ -4,7 +4,7 @@ ghost use mathlib.Core.Path.{_≡_};
 ghost use Rattle.refusal.specs.Number.{numberOf};
 
 // A variant for each line, in checking order. That is not the order of the numbers: those of document 02 stand where it
-// places them, 25 directly before 14. Line 18 no longer occurs (02, slip 1), and no variant has its number.
+// places them, 25 directly before 14. Line 18 never occurs (02, slip 1), and no variant has its number.
 pub enum Refusal {
     // Disc bytes are not 2,048 times the marks, sectors exceed the limit or are none, or a mark exceeds 2.
     DiscShape,

@@ -1,4 +1,4 @@
-// Sparing a packet of a rewritable disc (document 01, "Calls and their sector writes"). The call examines what
+// Sparing a packet of a rewritable disc (document 01, "Calls and their sector writes"; 02, slip 1). The call examines what
 // it gets and refuses with the first line of document 01 that applies; a refusal leaves every lent byte as it
 // came. It has no requires.
 use address::LogicalAddress;

@@ -106,7 +106,7 @@ pub fn find_packet(table: &[u32], r: u32, s: u32, p: LogicalAddress) -> Physical
     address::sector_of(s, p)
 }
 
-// The free entry of lowest index: an entry of the original that no packet has.
+// The free entry of lowest index: the first with the original of a free spare.
 pub fn first_free(table: &[u32], r: u32) -> FirstFree
     requires { ⌜ 2 * r ≤ length (now table) ⌝ }
     ensures { λ f. ⌜ f ≡ freeIn (freeOf (entries (take (2 * r) (now (table .entry))))) ⌝ }

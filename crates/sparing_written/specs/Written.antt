@@ -1,4 +1,4 @@
--- A table as it is written, in the steps in which it is (document 01, "The sparing table" and "Calls and their sector writes").
+-- A table as it is written, in the steps in which it is (document 01, "The sparing table" and "Calls and their sector writes"; 02, slip 1).
 use Prim.Native.Nat.{ℕ, _+_, _-_, _*_}
 use mathlib.Core.Path.{_≡_}
 use mathlib.Core.Bool.{true, false}
@@ -33,7 +33,8 @@ resparedNumbers t n p k u =
     ∷ (part t (2 * k + 2) (2 * (u - k - 1))
     ++ (defective ∷ getD t (2 * k + 1) 0 ∷ part t (2 * u + 2) (2 * (n - u - 1)))))
 
--- what a table that fits is: its used entries ascend, then come the defective and then the free ones, of which there is one
+-- a table before a sparing: it fits, so that its used entries ascend and then come the defective and the free ones; and line 19 has passed, so
+-- that one is free
 pub record Ordered (es : List Entry) : Type 0 where
   pub whole : es ≡ usedOf es ++ (defectiveOf es ++ freeOf es)
   pub rises : ascending es ≡ true

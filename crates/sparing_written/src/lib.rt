@@ -1,5 +1,5 @@
-// The sector of a sparing table (document 01, "The sparing table" and "Calls and their sector writes"): written
-// once a packet is spared, and when a volume is made.
+// The sector of a sparing table (document 01, "The sparing table" and "Calls and their sector writes"; 02, slip 1):
+// written once a packet is spared, and when a volume is made.
 // The layers above count on the equations: each function gives what the definition of its name gives.
 // All functions here are inside the layers: where one has a `requires`, the callers have tested it.
 use address::LogicalAddress;
@@ -118,8 +118,8 @@ fn put_taken(sector: &mut [u8], table: &[u32], n: usize, p: LogicalAddress, free
     put_spared(sector, table, n, p, place, free);
 }
 
-// Writes the sector of the table once packet `p` took the free entry of lowest index, resorted. The lent
-// table is not changed.
+// Writes the sector of the table once packet `p`, spared before or not, took the free entry of lowest index,
+// resorted. The lent table is not changed.
 pub fn write_spared(sector: &mut [u8], table: &[u32], r: u32, p: LogicalAddress, sequence: u32)
     requires { ⌜ length (now sector) ≡ 2048 ⌝ }
     requires { ⌜ (56 + 8 * r ≤ 2048) × (2 * r ≤ length (now table)) × (p .0 < 0xfffffff0) ⌝ }

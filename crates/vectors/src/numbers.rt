@@ -1,10 +1,12 @@
 // Numbers of 2, 4 and 8 bytes, lowest byte first, and regids: written between two bytes, then read.
 ghost use Prim.Native.Nat.{_<_};
 
-// The regids of a VAT and of a sparing table.
+// The regids of a VAT and of a sparing table: the newer one, which is written, and the older one.
 const VAT: [u8; 32] = *b"\0*UDF Virtual Alloc Tbl\0\0\0\0\0\0\0\0\0";
 
-const SPARING: [u8; 32] = *b"\0*OSTA UDF Sparing Table\0\0\0\0\0\0\0\0";
+const SPARING: [u8; 32] = *b"\0*UDF Sparing Table\0\0\0\0\0\0\0\0\0\0\0\0\0";
+
+const OLDER_SPARING: [u8; 32] = *b"\0*OSTA UDF Sparing Table\0\0\0\0\0\0\0\0";
 
 fn two_bytes(name: &[u8], n: u16) {
     let mut room = [0xa5u8; 4];
@@ -63,7 +65,8 @@ pub fn run() {
     four_bytes(b"0x12345678", 0x12345678);
     eight_bytes(b"0x123456789abcdef0", 0x123456789abcdef0);
     regid(b"*UDF Virtual Alloc Tbl", &VAT);
-    regid(b"*OSTA UDF Sparing Table", &SPARING);
+    regid(b"*UDF Sparing Table", &SPARING);
+    regid(b"*OSTA UDF Sparing Table", &OLDER_SPARING);
     changed_regid(b"with flags 1", 0);
     changed_regid(b"with another byte 0 of its identifier", 1);
     changed_regid(b"with another byte 22 of its identifier", 23);

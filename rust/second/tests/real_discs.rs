@@ -229,8 +229,8 @@ fn free_spares(mapped: impl Iterator<Item = u32>) -> Vec<u32> {
     mapped.flat_map(|m| [NONE, m]).collect()
 }
 
-/// A reader of sparable partitions that goes by UDF 1.50 alone and shares nothing with either implementation. It takes one table as it
-/// stands, with no look at the other copies, the sequence or the tag before the table, and asks for its identifier.
+/// A reader of sparable partitions that goes by the identifier and the layout which mkudffs writes, and shares nothing with either
+/// implementation. It takes one table as it stands, with no look at the other copies, the sequence or the tag before the table, and asks for its identifier.
 struct Foreign<'a> {
     loaded: &'a Loaded,
     packet: u32,
@@ -303,7 +303,7 @@ fn cdrw_2048_opens() {
     reads_as_foreign(&mut loaded);
 }
 
-/// Block 32's packet is spared twice: the first spare turns defective. A reader that goes by UDF 1.50 finds every block after either.
+/// Block 32's packet is spared twice: the first spare turns defective. That reader finds every block after either.
 #[test]
 fn cdrw_2048_is_spared_twice() {
     let mut loaded = Loaded::new(TAB2);
