@@ -4,7 +4,7 @@ use mathlib.Core.Path.{_≡_, refl, sym, ap, ap₂, _∙_}
 use mathlib.Core.List.{List, [], _∷_}
 use mathlib.Core.Bool.{Bool, true, false, not, _&&_}
 use native.Mathlib.Omega.{arith}
-use borrow.Author.Tests.{eq-eqb, ne-eqb, le-leb, lt-leb}
+use borrow.Author.Tests.{eq-eqb, ne-eqb, le-leb, lt-leb, le-ltb}
 use lib.Dec.{leb, ltb, eqb}
 use lib.ListN.{length, getD, set, drop, length-set}
 use lib.Seq.{drop-drop, getD-set-same, getD-set-other}
@@ -15,7 +15,8 @@ use Rattle.maps.proofs.Tests.{fails, holds}
 use Rattle.model.specs.Vat.{none}
 use Rattle.model.specs.Sparing.{Geometry, Entry, defective, isDefective, originalFits, originalsFit, mayFollow, ascending, apartFrom, outside, mappedOf, mappedFit, sparingName, olderName, entries, entriesFit, countIn, tableIn, noneDefective, named, copyFits}
 use Rattle.model.specs.Both.{spareEntries}
-use Rattle.model.proofs.Basics.{both, and-false, and-false-left, by-eq, or-left}
+use Rattle.model.proofs.Basics.{both, and-false, and-false-left, by-bool, by-eq, or-left}
+use Rattle.model.proofs.SparingEntries.{multiple-none, multiple-defective}
 use Rattle.model.proofs.SparingLaws.{table-count}
 use Rattle.sparing_copy.specs.Entries.{entriesIn, placed}
 use Rattle.sparing_copy.proofs.Entries.{sector-table, length-spares}
@@ -32,15 +33,15 @@ and-end false = refl
 
 -- ---- an original
 
--- one of neither mark that is no multiple of 32
-pub originals-odd : (l o : ℕ) → (o ≡ 0xffffffff → ⊥) → (o ≡ 0xfffffff0 → ⊥) → (o % 32 ≡ 0 → ⊥) → false ≡ originalFits l o
-unfolding originalFits none defective
-originals-odd l o e d q = rw (ne-eqb o 0xffffffff e, ne-eqb o 0xfffffff0 d, ne-eqb (o % 32) 0 q)
+-- one that is a multiple of 32, and so of neither mark
+pub originals-below : (l o : ℕ) → o % 32 ≡ 0 → ltb o l ≡ originalFits l o
+unfolding originalFits
+originals-below l o q = rw (ne-eqb o none (multiple-none o q), ne-eqb o defective (multiple-defective o q), eq-eqb (o % 32) 0 q)
 
--- one that is
-pub originals-below : (l o : ℕ) → (o ≡ 0xffffffff → ⊥) → (o ≡ 0xfffffff0 → ⊥) → o % 32 ≡ 0 → ltb o l ≡ originalFits l o
+-- one that is not, nor that of a free spare
+pub originals-odd : (l o : ℕ) → (o % 32 ≡ 0 → ⊥) → (o ≡ 0xffffffff → ⊥) → eqb o 0xfffffff0 ≡ originalFits l o
 unfolding originalFits none defective
-originals-below l o e d q = rw (ne-eqb o 0xffffffff e, ne-eqb o 0xfffffff0 d, eq-eqb (o % 32) 0 q)
+originals-odd l o q e = by-bool (eqb o 0xfffffff0) (λ d. rw (ne-eqb o 0xffffffff e, d)) (λ d. rw (ne-eqb o 0xffffffff e, d, ne-eqb (o % 32) 0 q))
 
 -- a defective spare may follow any entry that is not free
 pub after-defective : (o next : ℕ) → next ≡ 0xfffffff0 → not (eqb o 0xffffffff) ≡ mayFollow o next
@@ -50,10 +51,10 @@ after-defective o next e =
     (λ q. rw (e, q))
     (λ n. rw (e, ne-eqb o 0xffffffff n))
 
--- a used entry may follow one of a lower original
-pub after-used : (o next : ℕ) → (next ≡ 0xffffffff → ⊥) → (next ≡ 0xfffffff0 → ⊥) → ltb o next ≡ mayFollow o next
+-- a used entry may follow none of its original or a higher one
+pub after-used : (o next : ℕ) → next ≤ o → (next ≡ 0xffffffff → ⊥) → (next ≡ 0xfffffff0 → ⊥) → false ≡ mayFollow o next
 unfolding mayFollow none defective
-after-used o next e d = rw (ne-eqb next 0xffffffff e, ne-eqb next 0xfffffff0 d)
+after-used o next l e d = rw (ne-eqb next 0xffffffff e, ne-eqb next 0xfffffff0 d, le-ltb o next l)
 
 -- ---- nothing is left
 

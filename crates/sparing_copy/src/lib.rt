@@ -116,20 +116,18 @@ fn mapped_at(b: &[u8], i: usize) -> PhysicalAddress
     address::mapped_to_physical(fields::read32(b, ENTRIES_AT + ENTRY * i + MAPPED_IN))
 }
 
-// Whether an original is that of a free or a defective spare, or a multiple of 32 below L.
+// Whether an original is that of a free or a defective spare, or a multiple of 32 below L. Neither of those two is a
+// multiple of 32.
 fn original_fits(original: u32, span: u32) -> bool
     ensures { λ r. ⌜ r ≡ originalFits span original ⌝ }
 {
+    if original % PACKET == 0 {
+        return original < span;
+    }
     if original == FREE {
         return true;
     }
-    if original == DEFECTIVE {
-        return true;
-    }
-    if original % PACKET != 0 {
-        return false;
-    }
-    original < span
+    original == DEFECTIVE
 }
 
 // Whether each of `n` entries has an original that fits.
@@ -148,17 +146,20 @@ fn originals_fit(b: &[u8], n: usize, span: u32) -> bool
     true
 }
 
-// Whether an entry of original `next` may stand after one of this original.
+// Whether an entry of original `next` may stand after one of this original. One that is higher may, of whatever kind.
 fn is_after(original: u32, next: u32) -> bool
     ensures { λ r. ⌜ r ≡ mayFollow original next ⌝ }
 {
+    if original < next {
+        return true;
+    }
     if next == FREE {
         return true;
     }
     if next == DEFECTIVE {
         return original != FREE;
     }
-    original < next
+    false
 }
 
 // Whether the originals of `n` entries ascend, with the defective ones after the used ones and the free ones last.
