@@ -4,9 +4,12 @@
 //! The discs have two packets, two to four tables and up to four spares. Every mix of identifiers and sequences in the copies is a start;
 //! from each, lists of sparings with cuts. What the disc has to hold is worked out here from the words of 01 and 02.
 
+#[path = "lists/landing.rs"]
+mod landing;
 #[path = "lists/met.rs"]
 mod met;
 
+use landing::Landing;
 use met::Met;
 use std::collections::HashSet;
 use tuormik::{BLANK, DEFECTIVE, MOST_ENTRIES, NONE, PACKET, PACKET_BYTES, RECORDED, SECTOR, UNREADABLE};
@@ -224,23 +227,10 @@ struct Cut {
 
 const NO_CUT: Cut = Cut { at: 0, effect: 0 };
 
-#[derive(Clone, Copy, PartialEq)]
-enum Landing {
-    Done,
-    Kept,
-    Unreadable,
-}
-
 impl Cut {
+    /// What becomes of write n.
     fn landing(self, n: u32) -> Landing {
-        match (self.at, self.effect) {
-            (0, _) => Landing::Done,
-            (at, _) if n < at => Landing::Done,
-            (at, _) if n > at => Landing::Kept,
-            (_, 0) => Landing::Kept,
-            (_, 1) => Landing::Unreadable,
-            _ => Landing::Done,
-        }
+        landing::landing(n, self.at, self.effect)
     }
 }
 
@@ -850,6 +840,11 @@ fn open_with<const READING: usize>(disc: &[u8], marks: &[u8], maps: &[u8], s: u3
     (PLAIN.open)(&d, &m, maps, s, l, table, record)
 }
 
+/// Whether the lent table has an entry of the packet that begins at block b.
+fn is_spared(table: &[u32], record: &[u32], b: u32) -> bool {
+    table.chunks_exact(2).take(record[1] as usize).any(|entry| entry[0] == b)
+}
+
 /// Layers that are wrong in one place, and the words by which they are found.
 fn wrong_layers() -> Vec<(&'static str, Layer)> {
     let spare = |name, spare_packet| Layer { name, spare_packet, ..PLAIN };
@@ -864,18 +859,18 @@ fn wrong_layers() -> Vec<(&'static str, Layer)> {
         (TABLE, spare("the suffix kept", spare_with::<6>)),
         (TABLE, spare("current copies first", spare_with::<7>)),
         refuses("18 of a packet that is spared", |d, m, maps, s, l, t, r, b, packet, at, effect| {
-            let is_spared = t.chunks_exact(2).take(r[1] as usize).any(|entry| entry[0] == b);
-            if is_spared {
-                return 18;
+            if is_spared(t, r, b) {
+                18
+            } else {
+                (PLAIN.spare_packet)(d, m, maps, s, l, t, r, b, packet, at, effect)
             }
-            (PLAIN.spare_packet)(d, m, maps, s, l, t, r, b, packet, at, effect)
         }),
         refuses("19 of a packet that is spared", |d, m, maps, s, l, t, r, b, packet, at, effect| {
-            let is_spared = t.chunks_exact(2).take(r[1] as usize).any(|entry| entry[0] == b);
-            if is_spared {
-                return NO_SPARE;
+            if is_spared(t, r, b) {
+                NO_SPARE
+            } else {
+                (PLAIN.spare_packet)(d, m, maps, s, l, t, r, b, packet, at, effect)
             }
-            (PLAIN.spare_packet)(d, m, maps, s, l, t, r, b, packet, at, effect)
         }),
         (OPENING, open("0xfffffff1 taken as defective", open_with::<0>)),
         (OPENING, open("0xfffffff1 taken as free", open_with::<1>)),

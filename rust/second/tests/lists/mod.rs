@@ -2,9 +2,11 @@
 //! slip 5, gives blank as a fourth reading. It is fed each call's arguments and cut and whether the call was accepted. A sparing is done or
 //! not by the same rule where its packet is spared already (document 02, slip 1).
 
+mod landing;
 mod random;
 mod sizes;
 
+pub use landing::Landing;
 pub use random::Random;
 pub use sizes::data_sectors;
 use tuormik::{BLANK, MOST_ENTRIES, NONE, PACKET, PACKET_BYTES, RECORDED, SECTOR};
@@ -57,29 +59,15 @@ pub struct Call {
 /// An opening, as a list follows one, and as a cut is followed by one.
 pub static OPEN: Call = Call { kind: Kind::Open, number: 0, cut_at: 0, cut_effect: 0, bytes: Vec::new() };
 
-/// What becomes of write n.
-#[derive(Clone, Copy, PartialEq, Debug)]
-pub enum Landing {
-    Done,
-    Kept,
-    Unreadable,
-}
-
 impl Call {
     /// One that is not cut.
     pub fn new(kind: Kind, number: u32, bytes: Vec<u8>) -> Call {
         Call { kind, number, bytes, ..OPEN.clone() }
     }
 
+    /// What becomes of its write n.
     pub fn landing(&self, n: u32) -> Landing {
-        match (self.cut_at, self.cut_effect) {
-            (0, _) => Landing::Done,
-            (at, _) if n < at => Landing::Done,
-            (at, _) if n > at => Landing::Kept,
-            (_, 0) => Landing::Kept,
-            (_, 1) => Landing::Unreadable,
-            _ => Landing::Done,
-        }
+        landing::landing(n, self.cut_at, self.cut_effect)
     }
 }
 
