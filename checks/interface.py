@@ -211,7 +211,7 @@ def in_header(refusals):
 
 
 def order_in_words(refusals):
-    """The numbers in their order, those that follow on each other as one run: 1 to 13, 25, 14 to 17, 19 to 21."""
+    """The numbers in their order, those that follow on each other as one run: 1 to 12, 30, 13, 25, 14 to 17, 19 to 21."""
     runs = []
     for number in refusals.values():
         if runs and number == runs[-1][1] + 1:
@@ -358,9 +358,15 @@ SLIPS = [
     (HEADER, "#define TUORMIK_BLANK_SECTOR 25u\n#define TUORMIK_NOT_RECORDED 14u\n",
      "#define TUORMIK_NOT_RECORDED 14u\n#define TUORMIK_BLANK_SECTOR 25u\n"),
     (HEADER, "#define TUORMIK_NOT_RECORDED 14u\n", "#define TUORMIK_UNREADABLE_SECTOR 14u\n"),
-    (HEADER, "in this order: 1 to 13, 25, 14 to 17, 19 to 21.", "in this order: 1 to 14, 25, 15 to 17, 19 to 21."),
-    (HEADER, "in this order: 1 to 13, 25, 14 to 17, 19 to 21.", "in this order: 1 to 13, 25, 14 to 21."),
-    (HEADER, "in this order: 1 to 13, 25, 14 to 17, 19 to 21.", "in the order of their numbers."),
+    (HEADER, "in this order: 1 to 12, 30, 13, 25, 14 to 17, 19 to 21.", "in this order: 1 to 12, 30, 13, 14, 25, 15 to 17, 19 to 21."),
+    (HEADER, "in this order: 1 to 12, 30, 13, 25, 14 to 17, 19 to 21.", "in this order: 1 to 13, 30, 25, 14 to 17, 19 to 21."),
+    (HEADER, "in this order: 1 to 12, 30, 13, 25, 14 to 17, 19 to 21.", "in this order: 1 to 13, 25, 14 to 17, 19 to 21."),
+    (HEADER, "in this order: 1 to 12, 30, 13, 25, 14 to 17, 19 to 21.", "in this order: 1 to 12, 30, 13, 25, 14 to 21."),
+    (HEADER, "in this order: 1 to 12, 30, 13, 25, 14 to 17, 19 to 21.", "in the order of their numbers."),
+    (HEADER, "#define TUORMIK_BELONGS_TO_SPARE 30u\n#define TUORMIK_UNUSED_ENTRY 13u\n",
+     "#define TUORMIK_UNUSED_ENTRY 13u\n#define TUORMIK_BELONGS_TO_SPARE 30u\n"),
+    (HEADER, "#define TUORMIK_BELONGS_TO_SPARE 30u", "#define TUORMIK_BELONGS_TO_SPARE 29u"),
+    (HEADER, "    case TUORMIK_BELONGS_TO_SPARE:\n", ""),
     (HEADER, "#define TUORMIK_NO_SPARE 19u\n", "#define TUORMIK_ALREADY_SPARED 18u\n#define TUORMIK_NO_SPARE 19u\n"),
     (HEADER, "#define TUORMIK_DEFECTIVE 0xfffffff0u", "#define TUORMIK_DEFECTIVE 0xfffffff1u"),
     (HEADER, "#define TUORMIK_DEFECTIVE 0xfffffff0u", "#define TUORMIK_BROKEN 0xfffffff0u"),
@@ -403,6 +409,7 @@ SLIPS = [
     (RUST_REFUSALS, "    OneTable,\n", ""),
     (RUST_REFUSALS, "(OneTable, 17,", "(OneSparingTable, 17,"),
     (RUST_REFUSALS, "(OneTable, 17,", "(OneTable, 18,"),
+    (RUST_REFUSALS, "(BelongsToSpare, 30,", "(BelongsToSpare, 29,"),
     (RUST_NUMBERS, "pub const DEFECTIVE: u32 = 0xffff_fff0;", "pub const DEFECTIVE: u32 = 0xffff_ff0f;"),
     (RUST_NUMBERS, "pub const DEFECTIVE: u32", "pub const BROKEN: u32"),
 ]

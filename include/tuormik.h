@@ -19,9 +19,9 @@
  * type and has as many elements behind it as the length says; and no two lent slices of one call overlap where one of them may be
  * written.
  *
- * Every call returns a number: 0 (TUORMIK_DONE), a refusal (its line: 1 to 17, 19 to 21, or 25), or 255 (TUORMIK_CUT) where the power
- * failed in it. Refusals are tested in this order: 1 to 13, 25, 14 to 17, 19 to 21. The first that applies is returned, and nothing lent
- * has changed. The functions of the CRC return its value and refuse nothing. Every call returns, whatever it is lent.
+ * Every call returns a number: 0 (TUORMIK_DONE), a refusal (its line: 1 to 17, 19 to 21, 25 or 30), or 255 (TUORMIK_CUT) where the power
+ * failed in it. Refusals are tested in this order: 1 to 12, 30, 13, 25, 14 to 17, 19 to 21. The first that applies is returned, and nothing
+ * lent has changed. The functions of the CRC return its value and refuse nothing. Every call returns, whatever it is lent.
  *
  * The layer has no variables of its own and allocates nothing: all that a call reads or writes is lent to it, but for at most
  * TUORMIK_STACK bytes of stack. It calls nothing but the C library's functions on memory (memcpy and its like). Nothing has to be begun
@@ -61,6 +61,8 @@ extern "C" {
 #define TUORMIK_COPIES_DIFFER 10u
 #define TUORMIK_STALE_RECORD 11u
 #define TUORMIK_NUMBER_OUTSIDE 12u
+/* Rewritable: the block is inside the partition, in a packet that is a spare, whether used, defective or free: see tuormik_open. */
+#define TUORMIK_BELONGS_TO_SPARE 30u
 #define TUORMIK_UNUSED_ENTRY 13u
 /* The first sector to be read that is not recorded, the lowest first: 25 where it is blank (its mark is 0), 14 where it is unreadable
    (its mark is 2). */
@@ -107,6 +109,8 @@ static inline const char *tuormik_refusal_text(uint32_t number) {
         return "The record does not go with the disc and the lent table.";
     case TUORMIK_NUMBER_OUTSIDE:
         return "The block number is outside, or a packet start is not a multiple of 32 below L.";
+    case TUORMIK_BELONGS_TO_SPARE:
+        return "The block or packet belongs to a spare.";
     case TUORMIK_UNUSED_ENTRY:
         return "The entry to be read or freed is unused.";
     case TUORMIK_BLANK_SECTOR:
@@ -191,6 +195,10 @@ static inline const char *tuormik_refusal_text(uint32_t number) {
  * Leaves: the table filled from its start, places beyond kept; the record. An original of the sparing table is the first logical block of a
  * packet, TUORMIK_DEFECTIVE or TUORMIK_NONE. The disc is only read.
  * Refuses: 1 to 6, 8, 9 (write-once), 10 (rewritable).
+ * Spares inside the partition: a mapped packet may stand there. Its blocks, each b for which S + (b - b modulo 32) is a mapped start of
+ * the table, are not the caller's: reading, saving and sparing them is refused with 30, so that no two blocks share a sector. It is refused
+ * always: whether the spare is used, defective or free, and after every call but making, cut or not, since a sparing keeps the mapped
+ * packets. The number of blocks stays L: a block from L upward is refused with 12. It may be that every block belongs to a spare.
  * Passed over (TUORMIK_RECORD_PASSED): rewritable: 0. Write-once: how many sectors lie between that VAT ICB and NWA, which is 0 exactly if
  * the partition's last sector that is not blank is a VAT ICB. Wherever the power failed in the calls before, it is at most the number of
  * sector writes begun since the last whole VAT ICB: all of a call that was carried out, and those of a cut one up to the write at which the
@@ -207,7 +215,8 @@ uint32_t tuormik_open(const uint8_t *disc, size_t disc_length,
 /*
  * Reads a block: virtual block `number` of a write-once disc, logical block `number` of a rewritable one.
  * Leaves: its 2,048 bytes in out, whose length is 2,048.
- * Refuses: 1 to 6, 8 and 10 (rewritable), 11, 12, 13 (write-once), 25 where its sector is blank, 14 where it is unreadable.
+ * Refuses: 1 to 6, 8 and 10 (rewritable), 11, 12, then 30 (rewritable), 13 (write-once), 25 where its sector is blank, 14 where it is
+ * unreadable.
  */
 uint32_t tuormik_read(const uint8_t *disc, size_t disc_length,
                       const uint8_t *marks, size_t marks_length,
@@ -220,10 +229,11 @@ uint32_t tuormik_read(const uint8_t *disc, size_t disc_length,
 
 /*
  * Makes a disc: a blank write-once partition gets an empty VAT (1 sector); a rewritable one gets packets of zeros, the free spares whose
- * packets begin at the sectors `spares`, and tables of sequence 0 with the newer identifier, *UDF Sparing Table. On a write-once disc the
- * spares are not looked at. It hands back no record: open the disc after it.
+ * packets begin at the sectors `spares`, and tables of sequence 0 with the newer identifier, *UDF Sparing Table. A spare may be inside the
+ * partition: it is written with zeros as all of the partition is, and its blocks are refused with 30 from then on. One outside is not
+ * written. On a write-once disc the spares are not looked at. It hands back no record: open the disc after it.
  * Leaves: disc and marks written.
- * Refuses: 1, 2, 4, 5, 6 (rewritable), 21 (write-once).
+ * Refuses: 1, 2, 4, 5, 6 (rewritable; not because a spare is inside the partition), 21 (write-once).
  */
 uint32_t tuormik_make(uint8_t *disc, size_t disc_length,
                       uint8_t *marks, size_t marks_length,
@@ -320,7 +330,7 @@ uint32_t tuormik_forecast(const uint8_t *disc, size_t disc_length,
  * Saves 2,048 bytes as logical block b: its packet is read, the block replaced, and 32 sectors are written upward. The block's own sector
  * need not be recorded: it is not read.
  * Leaves: disc and marks written; the record. The table is only read.
- * Refuses: 1 to 8, 10 to 12; and, by the first of the other 31 sectors that is not recorded, 25 where it is blank, 14 where it is
+ * Refuses: 1 to 8, 10 to 12, then 30; and, by the first of the other 31 sectors that is not recorded, 25 where it is blank, 14 where it is
  * unreadable.
  */
 uint32_t tuormik_save_block(uint8_t *disc, size_t disc_length,
@@ -337,7 +347,7 @@ uint32_t tuormik_save_block(uint8_t *disc, size_t disc_length,
  * Saves 65,536 bytes as the packet that begins at logical block b: 32 sectors are written upward. Nothing is read, so that a packet with
  * blank or unreadable sectors is whole after it.
  * Leaves: disc and marks written; the record. The table is only read.
- * Refuses: 1 to 8, 10 to 12.
+ * Refuses: 1 to 8, 10 to 12, then 30.
  */
 uint32_t tuormik_save_packet(uint8_t *disc, size_t disc_length,
                              uint8_t *marks, size_t marks_length,
@@ -357,7 +367,7 @@ uint32_t tuormik_save_packet(uint8_t *disc, size_t disc_length,
  * TUORMIK_DEFECTIVE), the last of those that are, and the packet takes the free spare. A defective spare is never free again.
  * Cut, the sparing is done exactly if a new copy of the table is whole, which is so where write 33 is.
  * Leaves: disc and marks written; the new table in the lent one, places beyond kept; the record.
- * Refuses: 1 to 8, 10 to 12, 17, 19 (also where the packet has a spare of its own), 20.
+ * Refuses: 1 to 8, 10 to 12, then 30, 17, 19 (also where the packet has a spare of its own), 20.
  */
 uint32_t tuormik_spare_packet(uint8_t *disc, size_t disc_length,
                               uint8_t *marks, size_t marks_length,

@@ -545,12 +545,16 @@ def refused():
         p("make")
 
 
-def volume(T, spares="192 224 256", size=2048):
+def formatted(s, l, maps, spares):
     p("clear")
-    p("span 64 64")
-    p("rewritable %d %d 0 32 128 160" % (T, size))
+    p("span %d %d" % (s, l))
+    p("rewritable " + maps)
     p(("make " + spares).strip())
     p("open")
+
+
+def volume(T, spares="192 224 256", size=2048, l=64):
+    formatted(64, l, "%d %d 0 32 128 160" % (T, size), spares)
 
 
 def packet(b, byte):
@@ -573,9 +577,24 @@ def reads(*bs):
         p("read %s" % b)
 
 
-def copies():
-    for q in (0, 32, 128, 160):
+def shows(*qs):
+    for q in qs:
         p("show %d" % q)
+
+
+def copies():
+    shows(0, 32, 128, 160)
+
+
+def put(*qs):
+    for q in qs:
+        p("put %d 1" % q)
+
+
+def cut(c, e, b, byte):
+    p("cut %d %s" % (c, e))
+    spare(b, byte)
+    p("cut 0 old")
 
 
 def spared():
@@ -905,17 +924,14 @@ OLDER = b"*OSTA UDF Sparing Table"
 DEFECTIVE = 0xfffffff0
 
 
+def identify(name):
+    """The identifier of a table, in the lent block."""
+    b = bytes(1) + name + bytes(23 - len(name))
+    for i in range(0, 24, 4):
+        p("set32 %d %d" % (16 + i, int.from_bytes(b[i:i + 4], "little")))
+
+
 def again():
-    def name(identifier):
-        """The identifier of a table, in the lent block."""
-        b = bytes(1) + identifier + bytes(23 - len(identifier))
-        for i in range(0, 24, 4):
-            p("set32 %d %d" % (16 + i, int.from_bytes(b[i:i + 4], "little")))
-
-    def put(*qs):
-        for q in qs:
-            p("put %d 1" % q)
-
     def originals(q, *os, sequence=None):
         for i, x in enumerate(os):
             p("poke %d %d %s" % (q, 56 + 8 * i, x))
@@ -925,21 +941,17 @@ def again():
     def remade():
         p("make 192 224 256")
 
-    def shows(*qs):
-        for q in qs:
-            p("show %d" % q)
-
     p("# 02, slip 1: the table that making writes, and the same one spelt out in sector 300; then that one under the older identifier")
     volume(2)
     p("bytes 0")
-    name(NEWER)
+    identify(NEWER)
     p("set32 48 3")
     for i, m in enumerate((192, 224, 256)):
         p("set32 %d none" % (56 + 8 * i))
         p("set32 %d %d" % (60 + 8 * i, m))
     put(300)
     shows(300, 0, 32)
-    name(OLDER)
+    identify(OLDER)
     put(300)
     shows(300)
     p("# that one at sector 0, equal to the newer one, at one sequence; then both are older ones")
@@ -1014,11 +1026,6 @@ def again():
     p("open")
     p("poke 0 16 %d" % int.from_bytes(b"\x01*OS", "little"))
     p("open")
-
-    def cut(c, e, b, byte):
-        p("cut %d %s" % (c, e))
-        spare(b, byte)
-        p("cut 0 old")
 
     p("# an older copy beside a newer one, packet 32 spared in both and now again: each is written as a newer one; power failures in it")
     for c, e in ((33, "unreadable"), (33, "whole"), (34, "unreadable"), (35, "old")):
@@ -1162,8 +1169,319 @@ def again():
     shows(0, 32)
 
 
+def sparings(*bs):
+    for b in bs:
+        p("spare %d" % b)
+
+
+def calls(*bs):
+    for b in bs:
+        for c in ("read", "change", "packet", "spare"):
+            p("%s %s" % (c, b))
+
+
+def listed(q, sequence, *es):
+    """The entries of the table at sector q, and its sequence."""
+    p("poke %d 48 %d" % (q, len(es)))
+    p("poke %d 52 %s" % (q, sequence))
+    for i, (x, m) in enumerate(es):
+        p("poke %d %d %s" % (q, 56 + 8 * i, x))
+        p("poke %d %d %d" % (q, 60 + 8 * i, m))
+
+
+def free_at(*ms):
+    return [("none", m) for m in ms]
+
+
+def inside():
+    p("# 02, slip 8: S 64, L 160; packets 96 and 32 are spares, as is one behind the partition, which alone making leaves as it is")
+    p("clear")
+    p("span 64 160")
+    p("rewritable 2 2048 0 32")
+    p("bytes 85")
+    put(64, 96, 160, 191, 224)
+    p("mark 127 2")
+    p("make 160 96 224")
+    shows(64, 96, 127, 160, 191, 223, 224, 0, 32)
+    p("fill 7 7 7 7")
+    p("open")
+    p("numbers 7")
+    p("# blocks and packets at their ends: those of spares, those from L on, packets that begin elsewhere, and the others")
+    ENDS = (0, 31, 32, 63, 64, 95, 96, 127, 128, 159, 160)
+    for b in ENDS:
+        change(b, 16 + b)
+    reads(*ENDS, "none")
+    for b in (0, 32, 33, 63, 64, 96, 97, 128, 160):
+        packet(b, b)
+    reads(*ENDS)
+    sparings(32, 33, 63, 96, 97, 160, 4294967264)
+    shows(96, 127, 160, 191)
+    p("open")
+    p("numbers 7")
+    p("# line 30 before lines 25 and 14: sectors 101 and 102, in a spare, are blank and unreadable")
+    p("mark 101 0")
+    p("mark 102 2")
+    reads(36, 37, 38)
+    for b in (36, 37, 38):
+        p("change %d" % b)
+    p("packet 32")
+    sparings(32)
+    shows(101, 102)
+    p("# lines 3, 8, 10, 11 and 12 before line 30")
+    for lines, back in ((["lend 4390912 2144 4096 64 2047 65535"], ["lend 4390912 2144 4096 64 2048 65536"]),
+                        (["mark 0 2", "mark 32 0"], ["mark 0 1", "mark 32 1"]),
+                        (["poke 32 60 192"], ["poke 32 60 160"]),
+                        (["kept 3 1"], ["kept 3 0"]),
+                        (["entry 1 192"], ["entry 1 160"])):
+        for c in lines:
+            p(c)
+        calls(32)
+        for c in back:
+            p(c)
+    p("packet 48")
+    sparings(48)
+    p("# line 30 before lines 17, 19 and 20: one table; no spare is free, and the sequence is the last one; then one is free")
+    p("rewritable 1 2048 0")
+    p("open")
+    sparings(0, 32, 96)
+    p("rewritable 2 2048 0 32")
+    for first, last in (((DEFECTIVE, 160), (DEFECTIVE, 224)), ((0, 160), (DEFECTIVE, 224)), ((0, 160), ("none", 224))):
+        listed(0, "none", first, (DEFECTIVE, 96), last)
+        p("open")
+        sparings(0, 32, 33, 64, 96)
+    p("rewritable 1 2048 0")
+    p("open")
+    sparings(0, 32)
+    p("# a packet goes to a spare inside, to one outside and to one inside, then none is left; blocks of spares give 30 throughout")
+    volume(2, "96 224 160", l=160)
+    packet(0, 128)
+    for byte in (16, 48, 80, 112):
+        spare(0, byte)
+        p("numbers 6")
+        reads(0, 31, 32, 63, 64, 96, 127)
+        shows(64, 96, 160, 224, 0, 32)
+        for c in ("change 33", "packet 96", "spare 32", "change 127"):
+            p(c)
+    p("fill 7 7 7 7")
+    p("open")
+    p("numbers 7")
+    p("# saves go to its last spare; sectors of its other places are not asked")
+    for q, m in ((69, 2), (101, 0), (229, 2)):
+        p("mark %d %d" % (q, m))
+    change(5, 85)
+    change(6, 102)
+    reads(5, 6, 37, 101)
+    shows(69, 70, 101, 102, 165, 166)
+    packet(0, 144)
+    reads(0, 31)
+    shows(64, 96, 160)
+    p("open")
+    reads(0, 5, 32, 37, 63, 96, 101, 127, 160)
+    p("# four spares inside, the partition's first and last packet among them; packets 64 and 32 are spared by turns")
+    volume(2, "224 64 160 192", l=192)
+    for b, byte in ((64, 16), (32, 48), (64, 80), (32, 112)):
+        spare(b, byte)
+        p("numbers 8")
+        reads(0, 32, 63, 64, 95, 96, 128, 160, 191, 192)
+    sparings(32, 64, 0)
+    p("open")
+    reads(0, 31, 32, 63, 64, 95, 96, 127, 128, 159, 160, 191)
+    shows(64, 96, 128, 160, 192, 224)
+    p("# all of the partition is spares")
+    volume(2, "96 64")
+    p("numbers 4")
+    calls(0, 32, 64)
+    reads(31, 63)
+    p("open")
+    volume(2, "64 96 128 160", l=128)
+    reads(0, 31, 32, 64, 96, 127, 128)
+    p("# S 0, its first and last packet")
+    formatted(0, 96, "2 2048 96 128", "0 64")
+    reads(0, 31, 32, 63, 64, 95, 96)
+    for byte in (16, 48):
+        spare(32, byte)
+        p("numbers 4")
+        reads(0, 32, 63, 64, 95)
+    p("# the disc's last packet, which is the partition's")
+    formatted(2080, 64, "2 2048 0 32", "2112")
+    spare(0, 16)
+    reads(0, 31, 32, 63, 64)
+    p("# packets beside the partition, on both sides, and one inside")
+    formatted(96, 64, "2 2048 0 32", "64 160 128")
+    reads(0, 31, 32, 63, 64)
+    for byte in (16, 48, 80):
+        spare(0, byte)
+        reads(0, 31, 32, 63)
+    p("# a disc whose spares are below S, given S 64 and L 128: they are inside then, and original 0, once used, is its own spare's packet")
+    formatted(128, 64, "2 2048 0 32", "64 96")
+    packet(0, 16)
+    p("span 64 128")
+    p("open")
+    reads(0, 32, 63, 64, 95, 96, 127, 128)
+    p("span 128 64")
+    spare(0, 48)
+    reads(0)
+    p("span 64 128")
+    p("open")
+    calls(64)
+    p("# spares that break the copy rule (line 6), and others that don't")
+    volume(2, "96", l=160)
+    packet(0, 16)
+    for ms in ("96 96", "96 256 96", "104", "96 112", "96 0", "32 96", "96 2144", "96 2128", "4294967264 96", "96 224 192 2112",
+               "64 96 128 160"):
+        p("make " + ms)
+        p("open")
+        reads(0, 32)
+    p("# room for no spare, and for one")
+    for size in (63, 64):
+        volume(2, "96", size)
+        reads(0, 32)
+
+
+def inside_cut():
+    def anew(spares):
+        p("make " + spares)
+        p("open")
+
+    p("# power failures in a sparing to a spare inside; then opened, and the packet spared again")
+    volume(2, "96 192")
+    for c, e in [(c, e) for c in (1, 32, 33, 34) for e in EFFECTS] + [(35, "unreadable")]:
+        anew("96 192")
+        packet(0, 128)
+        cut(c, e, 0, 64)
+        p("open")
+        p("numbers 4")
+        reads(0, 31, 32, 63)
+        sparings(32)
+        spare(0, 16)
+        p("numbers 4")
+        reads(0, 32)
+    for name, ms in (("inside to one outside", "96 192"), ("outside to one inside", "192 96")):
+        p("# power failures in a sparing from a spare " + name)
+        for c, e in [(c, e) for c in (1, 33, 34) for e in EFFECTS]:
+            anew(ms)
+            spare(0, 64)
+            cut(c, e, 0, 96)
+            p("open")
+            p("numbers 4")
+            reads(0, 31, 32, 63)
+    p("# four copies: power failures in the second sparing of a list that was cut in the first")
+    volume(4, "192 96")
+    for c in (33, 34, 35, 36):
+        anew("192 96")
+        cut(34, "unreadable", 0, 64)
+        p("open")
+        reads(0, 32)
+        cut(c, "unreadable", 0, 96)
+        copies()
+        p("open")
+        p("numbers 4")
+        reads(0, 32)
+    p("# power failures in the saves of a packet that is in a spare inside")
+    for c in ("change 5", "packet 0"):
+        for e in EFFECTS:
+            anew("96 192")
+            spare(0, 128)
+            p("bytes 85")
+            p("blocks 64")
+            p("cut 6 " + e)
+            p(c)
+            p("cut 0 old")
+            p("open")
+            reads(4, 5, 6, 37)
+            shows(69, 101)
+    p("# a call that gives 30 is not cut, and nothing is written")
+    p("cut 1 unreadable")
+    for c in ("change 32", "packet 32", "spare 32"):
+        p(c)
+    p("cut 0 old")
+    shows(96, 192, 0)
+    p("open")
+
+
+def inside_copies():
+    p("# what makes a copy count: the one at sector 0 has sequence 5; the other one has sequence 0 and one spare, and then is unreadable")
+    volume(2, "256", l=160)
+    for name, es in (
+            ("spares inside of each kind", [(0, 96), (64, 256), (DEFECTIVE, 160)] + free_at(192)),
+            ("every other packet a used one's", [(0, 96), (64, 160)]),
+            ("every packet a defective or a free one's", [(DEFECTIVE, 192), (DEFECTIVE, 64)] + free_at(96, 128, 160)),
+            ("original 32 is its own spare's packet", [(32, 96)]),
+            ("original 0 is its own spare's packet", [(0, 64)]),
+            ("original 128 is its own spare's packet", [(128, 192)]),
+            ("original 32 is that of a used one before it", [(0, 96), (32, 256)]),
+            ("original 0 is that of a used one behind it", [(0, 256), (64, 64)]),
+            ("originals 0 and 32 are each other's", [(0, 96), (32, 64)]),
+            ("original 32 is that of a defective one", [(32, 256), (DEFECTIVE, 96)]),
+            ("original 32 is that of a free one", [(32, 256)] + free_at(96)),
+            ("original 0 is that of the last one", [(0, 256), (64, 288), (DEFECTIVE, 320)] + free_at(352, 64)),
+            ("original 64 is that of the last one", [(0, 256), (64, 288), (DEFECTIVE, 320)] + free_at(352, 128)),
+            ("original 64 is that of the first one", [(0, 128), (32, 288), (64, 256)]),
+            ("original 64, mapped to sector 64", [(64, 64)]),
+            ("original 96, beside a spare at sector 96", [(96, 256)] + free_at(96)),
+            ("mapped 104, used", [(0, 104)]),
+            ("mapped 104, free", free_at(104)),
+            ("mapped 96 twice, used and free", [(0, 96)] + free_at(96)),
+            ("mapped 96 twice, defective and free", [(DEFECTIVE, 96)] + free_at(160, 96)),
+            ("mapped 96, and 32, a table's packet", [(0, 96)] + free_at(32)),
+            ("mapped 96, and 2,144, off the disc", free_at(96, 2144)),
+            ("original 160, behind the partition", [(160, 96)])):
+        p("# " + name)
+        p("make 256")
+        listed(0, 5, *es)
+        p("open")
+        p("numbers 4")
+        reads(0, 32, 96)
+        p("mark 32 2")
+        p("open")
+    p("# the entry that maps an original's packet is within R, then behind it")
+    p("make 256")
+    listed(0, 5, (32, 256), *free_at(96))
+    p("open")
+    p("poke 0 48 1")
+    p("open")
+    reads(32)
+    for name, es in (
+            ("spares inside", [(0, 96)] + free_at(160)),
+            ("an original that is its own spare's packet", [(32, 96)]),
+            ("an original that is a free one's", [(32, 256)] + free_at(96)),
+            ("a defective spare inside", [(0, 256), (DEFECTIVE, 96)])):
+        p("# the older identifier: " + name)
+        p("make 256")
+        p("bytes 0")
+        identify(OLDER)
+        put(0)
+        listed(0, 5, *es)
+        p("open")
+        p("numbers 4")
+        reads(0, 32)
+    p("# the copy at sector 32 maps other packets of the partition: it is not current, then written first, in a sparing that is cut")
+    for c, e in ((33, "old"), (33, "unreadable"), (33, "whole"), (34, "unreadable")):
+        p("make 256")
+        listed(0, 5, *free_at(96, 256))
+        listed(32, 4, *free_at(160, 288))
+        p("open")
+        reads(32, 96)
+        cut(c, e, 96, 16)
+        shows(0, 32)
+        p("open")
+        p("numbers 4")
+        reads(32, 96, 127)
+    p("# it is current once the other one is unreadable; at one sequence they differ")
+    p("make 256")
+    listed(0, 5, *free_at(96, 256))
+    listed(32, 4, *free_at(160, 288))
+    p("mark 0 2")
+    p("open")
+    reads(32, 96)
+    p("mark 0 1")
+    p("poke 32 52 5")
+    p("open")
+    reads(32, 96)
+
+
 GROUPS = ["tables", "sizes", "cuts", "forged", "rooms", "forecasts", "either", "refused", "spared", "turned", "unrecorded", "counting", "sized",
-          "again"]
+          "again", "inside", "inside_cut", "inside_copies"]
 
 if __name__ == "__main__":
     for name in sys.argv[1:] or GROUPS:

@@ -1,4 +1,4 @@
-"""Document 01 in Python, with slips 1, 4, 5 and 9 of document 02, written from their text alone: what each call answers and leaves."""
+"""Document 01 in Python, with slips 1, 4, 5, 8 and 9 of document 02, written from their text alone: what each call answers and leaves."""
 from fractions import Fraction
 
 NONE = 0xffffffff
@@ -353,21 +353,24 @@ def copy_entries(sec):
     return [(le(sec, 56 + 8 * i, 4), le(sec, 60 + 8 * i, 4)) for i in range(le(sec, 48, 2))]
 
 
+def mapped_of(es):
+    return [m for _, m in es]
+
+
 def entries_fit(es, s, l, sectors, tables):
     # used ones, each lower than the next, then defective ones, then free ones; no other original is allowed
     os = [o for o, _ in es]
     used = sorted({o for o in os if o % 32 == 0 and o < l})
     if os != used + [DEFECTIVE] * os.count(DEFECTIVE) + [NONE] * os.count(NONE):
         return False
-    ms = [m for _, m in es]
+    ms = mapped_of(es)
     if len(set(ms)) != len(ms):
         return False
     for m in ms:
-        if m % 32 or m + 32 > sectors or not (m + 32 <= s or s + l <= m):
+        if m % 32 or m + 32 > sectors or any(m <= t < m + 32 for t in tables):
             return False
-        if any(m <= t < m + 32 for t in tables):
-            return False
-    return True
+    # a mapped packet may lie in the partition, but none is an original (02, slip 8)
+    return not any(s + o in ms for o in used)
 
 
 def counts(d, t, s, l, tables, size):
@@ -436,10 +439,17 @@ class Rw:
         return s + b
 
     @staticmethod
+    def number(es, s, l, b, step=1):
+        """raises 12 of a block, or of a packet's start if step is 32, and then 30 where it belongs to a spare (02, slip 8)"""
+        if b % step or b >= l:
+            raise Refuse(12)
+        if s + b - b % 32 in mapped_of(es):
+            raise Refuse(30)
+
+    @staticmethod
     def read(d, maps, s, l, table, rec, b, out=2048):
         es, _, _, _ = Rw.judge(d, maps, s, l, table, rec, out == 2048)
-        if b >= l:
-            raise Refuse(12)
+        Rw.number(es, s, l, b)
         p = Rw.place(es, s, b)
         to_read(d, [p])
         return d.sector(p)
@@ -447,8 +457,7 @@ class Rw:
     @staticmethod
     def save(d, maps, s, l, table, rec, b, block, cut=UNCUT):
         es, _, _, _ = Rw.judge(d, maps, s, l, table, rec, len(block) == 2048)
-        if b >= l:
-            raise Refuse(12)
+        Rw.number(es, s, l, b)
         p = Rw.place(es, s, b - b % 32)
         to_read(d, [p + i for i in range(32) if i != b % 32])
         write(d, [(p + i, block if i == b % 32 else d.sector(p + i)) for i in range(32)], cut)
@@ -457,8 +466,7 @@ class Rw:
     @staticmethod
     def save_packet(d, maps, s, l, table, rec, b, packet, cut=UNCUT):
         es, _, _, _ = Rw.judge(d, maps, s, l, table, rec, len(packet) == 65536)
-        if b % 32 or b >= l:
-            raise Refuse(12)
+        Rw.number(es, s, l, b, 32)
         p = Rw.place(es, s, b)
         write(d, [(p + i, packet[2048 * i:2048 * i + 2048]) for i in range(32)], cut)
         return rec
@@ -466,8 +474,7 @@ class Rw:
     @staticmethod
     def spare(d, maps, s, l, table, rec, b, packet, cut=UNCUT):
         es, top, tables, cur = Rw.judge(d, maps, s, l, table, rec, len(packet) == 65536)
-        if b % 32 or b >= l:
-            raise Refuse(12)
+        Rw.number(es, s, l, b, 32)
         if len(tables) == 1:
             raise Refuse(17)
         free = [m for o, m in es if o == NONE]

@@ -28,7 +28,7 @@ use Rattle.maps.proofs.Laws.{read-fine}
 use Rattle.model.specs.declared.Record.{Record}
 use Rattle.model.specs.Disc.{Disc, nwa, shapely, inside}
 use Rattle.model.specs.Vat.{none, belowOrNone, allBelow}
-use Rattle.model.specs.Sparing.{Geometry, groundOf, outside}
+use Rattle.model.specs.Sparing.{Geometry, groundOf, wholePacket, outside}
 use Rattle.model.specs.Examine.{Setting, volume, isOnce, sizeIn, writeOnce, geometry, allOutside, aligned, shapeTests, placeTests, examined}
 use Rattle.model.specs.Once.{nextOn, heldFits, onceVerdict}
 use Rattle.model.proofs.Basics.{by-eq, and-false, and-false-left, or-left}
@@ -140,7 +140,7 @@ module _ (g : Geometry) where
 
 -- what is outside does not turn on the tables and the bytes of each
 pub outside-alike : (s l n : ℕ) (ts : List ℕ) (size : ℕ) (us : List ℕ) → allOutside (groundOf s l n [] 0) us ≡ allOutside (groundOf s l n ts size) us
-unfolding allOutside outside
+unfolding allOutside outside wholePacket
 outside-alike s l n ts size [] = refl
 outside-alike s l n ts size (u ∷ us) = ap (λ (b : Bool). outside (groundOf s l n [] 0) u && b) (outside-alike s l n ts size us)
 

@@ -45,6 +45,12 @@ and-second a b e = and-true a b e .1
 pub both : {a b : Bool} → a ≡ true → b ≡ true → a && b ≡ true
 both e f = rw (e, f)
 
+-- the first two of three parts exchanged
+pub and-swap : (a b c : Bool) → a && (b && c) ≡ b && (a && c)
+and-swap true b c = refl
+and-swap false true c = refl
+and-swap false false c = refl
+
 -- a conjunction with a part that does not hold
 pub and-false : (a : Bool) {b : Bool} → b ≡ false → a && b ≡ false
 and-false true e = e

@@ -15,7 +15,7 @@ use Rattle.model.specs.Disc.{Disc, mark, recorded, recordedRun, firstMar
 use Rattle.model.specs.Examine.{Setting, writeOnce}
 use Rattle.model.specs.Rewrite.{otherMark}
 use Rattle.model.specs.Calls.{Call, saveVirtual, freeVirtual, commit, saveBlock, savePacket, sparePacket, openDisc, State, step, answers, final, accepted, isCut}
-use Rattle.model.specs.Store.{Slot, holds, unused, unreadable, blank, Store, Shape, store, start, shapeOf, writesIn, wasCut, wholeAt, put, taken, next, turned, seenAs, look}
+use Rattle.model.specs.Store.{Slot, holds, unused, unreadable, blank, reserved, Store, Shape, store, start, shapeOf, writesIn, wasCut, wholeAt, put, taken, next, turned, seenAs, look}
 use Rattle.model.specs.Demand.{afterOpening, followed}
 use Rattle.model.specs.Consequences.{Follows, storeAfter, saves, leaves, BlankStays}
 use Rattle.model.specs.Blank.{FirstOfRun, FirstOfOthers}
@@ -115,6 +115,7 @@ seen-blank (holds b) q = let z : _≡_ {A = ℕ} 0 1 = cc in absurd (omega arith
 seen-blank unused q = let z : _≡_ {A = ℕ} 0 1 = cc in absurd (omega arith)
 seen-blank unreadable q = let z : _≡_ {A = ℕ} 0 1 = cc in absurd (omega arith)
 seen-blank blank q = refl
+seen-blank reserved q = let z : _≡_ {A = ℕ} 0 1 = cc in absurd (omega arith)
 
 look-blank : (σ : Store) (v : ℕ) → look σ v ≡ turned BlankSector → getD (σ .blocks) v unused ≡ blank
 unfolding look

@@ -213,7 +213,7 @@ module _ (e : Setting) (st : State) where
   unfolding step savePacketPlan packetTests
   packet-told b x c a =
       let g = plan-goes _ _ _ c st a in
-      let p = again-tells e (st .disc) (st .table) _ (st .held) (packetTests e b) g in
+      let p = again-tells e (st .disc) (st .table) _ (st .held) (packetTests e (st .disc) b) g in
       let q = and-true (eqb (b % 32) 0) _ (p .1 .0) in
       (kind-again e _ _ _ _ _ g, eqb-true _ _ (q .0), ltb-true _ _ (q .1))
 

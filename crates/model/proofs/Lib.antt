@@ -59,3 +59,5 @@ pub mod EitherPlots
 pub mod ReadBack
 pub mod ReadBackMet
 pub mod NewerWriters
+pub mod SparesInside
+pub mod SparesInsideMet

@@ -3,7 +3,7 @@
 use Prim.Native.Nat.{ℕ, zero, suc, _+_, _%_, _≤_, _<_}
 use mathlib.Core.Path.{_≡_, refl, sym, ap, ap₂, _∙_}
 use mathlib.Core.Bool.{true, false, not}
-use mathlib.Core.Logic.{_≢_, inl, inr}
+use mathlib.Core.Logic.{_≢_}
 use mathlib.Core.List.{List, [], _∷_, _++_}
 use native.Mathlib.Omega.{arith}
 use lib.Dec.{eqb}
@@ -11,7 +11,7 @@ use lib.ListN.{length, getD, take, length-append}
 use lib.Seq.{take-at}
 use borrow.Author.Tests.{eq-eqb, eqb-true, eqb-false, ltb-true, leb-true, not-true}
 use Rattle.refusal.specs.declared.Refusal.{Refusal}
-use Rattle.refusal.specs.declared.Refusal.the-variants.{DiscShape, SpanOutside, LentLength, MapCut, NeitherKind, Misaligned, OtherKind, NoTable, TooManyEntries, CopiesDiffer, StaleRecord, NumberOutside, UnusedEntry, BlankSector, UnreadableSector, PassesAsIcb, NoRoom, OneTable, NoSpare, LastSequence, NotBlank}
+use Rattle.refusal.specs.declared.Refusal.the-variants.{DiscShape, SpanOutside, LentLength, MapCut, NeitherKind, Misaligned, OtherKind, NoTable, TooManyEntries, CopiesDiffer, StaleRecord, NumberOutside, BelongsToSpare, UnusedEntry, BlankSector, UnreadableSector, PassesAsIcb, NoRoom, OneTable, NoSpare, LastSequence, NotBlank}
 use Rattle.refusal.specs.declared.Verdict.{Verdict}
 use Rattle.refusal.specs.declared.Verdict.the-variants.{Go, Stop}
 use Rattle.refusal.specs.Number.{numberOf, verdictNumber}
@@ -32,11 +32,11 @@ use Rattle.model.specs.Writes.{Write, writes, upward, struck}
 use Rattle.model.specs.Vat.{none}
 use Rattle.model.specs.VatWritten.{filled}
 use Rattle.model.specs.Told.{replyNumber, openedNumber, givenNumber, forecastNumber}
-use Rattle.model.specs.Sparing.{sparingName, olderName, Geometry, Entry, entries, flat, isFree, defective, isDefective, isUsed, usedOf, defectiveOf, freeOf, originalFits, originalsFit, mayFollow, ascending, apart, apartFrom, outside, mappedOf, mappedFit, entriesFit, countIn, tableIn, noneDefective, named, copyFits, spotOf, inserted, firstFree, rest, without, turnedDefective, retired, freeTaken, resorted, writtenTable, counts, countingOf, counting, sequenceIn, sequenceAt, tableAt, highest, withSequence, currentSequence, current, firstTable, currentTable, agree}
+use Rattle.model.specs.Sparing.{sparingName, olderName, Geometry, Entry, entries, flat, isFree, defective, isDefective, isUsed, usedOf, defectiveOf, freeOf, originalFits, originalsFit, mayFollow, ascending, apart, apartFrom, wholePacket, originalClear, originalsClear, mappedOf, mappedFit, entriesFit, countIn, tableIn, noneDefective, named, copyFits, spotOf, inserted, firstFree, rest, without, turnedDefective, retired, freeTaken, resorted, writtenTable, counts, countingOf, counting, sequenceIn, sequenceAt, tableAt, highest, withSequence, currentSequence, current, firstTable, currentTable, agree}
 use Rattle.maps.specs.Kinds.{absent}
 use Rattle.model.specs.Plan.{unless, discAfter}
 use Rattle.model.specs.Examine.{Setting, writeOnce, geometry, examined, lentTable}
-use Rattle.model.specs.Rewrite.{tableOn, entriesOn, sequenceOn, copyTests, heldCurrent, rewritableVerdict, packetTests, packetLent, packetWrites, noEntry, spareTests, copiesTo, sparedTable, copyOrder, spareWrites, sparePlan}
+use Rattle.model.specs.Rewrite.{tableOn, entriesOn, sequenceOn, copyTests, heldCurrent, rewritableVerdict, packetTests, packetLent, packetWrites, noEntry, spareTests, copiesTo, sparedTable, copyOrder, spareWrites, sparePlan, ofSpareOn, spareTest}
 use Rattle.model.specs.Both.{openVerdict}
 use Rattle.model.specs.Store.{blocksOn}
 use Rattle.model.specs.Demand.{Below}
@@ -44,13 +44,14 @@ use Rattle.model.specs.Examples.{entry}
 use Rattle.model.specs.ReadBack.{Stands, smallGeometry, eachEntry}
 use Rattle.model.specs.NewerWriters.{NoEighteen, Copies, NamesAside, NewerWritten, Respared, defectiveAfter, DefectiveStays, tableUnder, plainTable, reservedTable, spentTable, spentGeometry, NewerMet}
 use Rattle.model.proofs.Basics.{by-bool, and-true, and-false, both, or-left, or-right}
-use Rattle.model.proofs.SparingLaws.{In, fits-originals, fits-mapped, free-not-defective, original-cases, originals-first, multiple-none, multiple-defective, three-parts, resorted-used, resorted-defective, resorted-free, resorted-length, resorted-fits, spot-same, spot-other, turned-spared, turned-unspared, locate-not-defective, written-name, written-suffix, length-copies, copy-order-length}
+use Rattle.model.proofs.SparingLaws.{In, fits-originals, fits-mapped, free-not-defective, original-cases, originals-first, multiple-none, multiple-defective, three-parts, resorted-used, resorted-defective, resorted-free, resorted-length, resorted-fits, spot-same, spot-other, turned-spared, turned-unspared, locate-not-defective, written-name, written-suffix, length-copies, copy-order-length, packet-unmapped, in-place, in-mapped}
 use Rattle.model.proofs.Sectors.{writes-append}
 use Rattle.model.proofs.SectorsRuns.{length-upward}
 use Rattle.model.proofs.Verdicts.{then-go, go-then, examined-tells, examined-go}
+use Rattle.model.proofs.Ready.{ready-spare}
 use Rattle.model.proofs.ReadyOpen.{first-ground, first-ready}
 use Rattle.model.proofs.ReadyCalls.{again-tells}
-use Rattle.model.proofs.ReadyDemand.{defective-stays}
+use Rattle.model.proofs.ReadyDemand.{entries-stay}
 use Rattle.model.proofs.ReadySpare.{Has, spare-stands}
 use Rattle.model.proofs.ReadyLivesMade.{made-stands}
 use Rattle.model.proofs.ReadBack.{plan-done}
@@ -71,6 +72,7 @@ line TooManyEntries = omega arith
 line CopiesDiffer = omega arith
 line StaleRecord = omega arith
 line NumberOutside = omega arith
+line BelongsToSpare = omega arith
 line UnusedEntry = omega arith
 line BlankSector = omega arith
 line UnreadableSector = omega arith
@@ -215,11 +217,6 @@ names-aside d d′ g same sequence table = (
 
 -- ---- what is written
 
-in-tables : (ts : List ℕ) (i : ℕ) → i < length ts → In (getD ts i 0) ts
-in-tables [] i l = absurd (omega arith)
-in-tables (t ∷ ts) zero l = inl refl
-in-tables (t ∷ ts) (suc i) l = inr (in-tables ts i (omega arith))
-
 stands : (d : Disc) (t : ℕ) (x : List ℕ) → Has d t x → Stands d t x
 unfolding recorded
 stands d t x h = record { marked = ap (λ (m : ℕ). eqb m 1) (h .one); holds = h .own }
@@ -235,13 +232,14 @@ module _ (e : Setting) (d : Disc) (t : List ℕ) (held : Record) (b : ℕ) (pack
     opens : openVerdict e d t ≡ Go
     start : b % 32 ≡ 0
     below : b < e .span
+    place : ofSpareOn e d b ≡ false
     bytes : length packet ≡ 65536
     two : 2 ≤ length (g .tables)
     some : noEntry (freeOf (entriesOn e d)) ≡ false
     more : sequenceOn e d ≢ 0xffffffff
 
   lines : Lines
-  unfolding rewritableVerdict spareTests packetTests packetLent openVerdict
+  unfolding rewritableVerdict spareTests packetTests spareTest packetLent openVerdict
   lines =
       let p = then-go (examined e d (packetLent t packet)) _ go in
       let x = examined-tells e d (packetLent t packet) (p .0) in
@@ -260,10 +258,11 @@ module _ (e : Setting) (d : Disc) (t : List ℕ) (held : Record) (b : ℕ) (pack
             ∙ rw kind (copies-pass .1);
         start = eqb-true _ _ (v .0);
         below = ltb-true _ _ (v .1);
+        place = not-true _ (k .1 .1 .0);
         bytes = eqb-true _ _ (l .1);
-        two = leb-true _ _ (k .1 .1 .0);
-        some = not-true _ (k .1 .1 .1 .0);
-        more = eqb-false _ _ (not-true _ (k .1 .1 .1 .1 .0));
+        two = leb-true _ _ (k .1 .1 .1 .0);
+        some = not-true _ (k .1 .1 .1 .1 .0);
+        more = eqb-false _ _ (not-true _ (k .1 .1 .1 .1 .1 .0));
       }
 
   -- every copy is the new table
@@ -284,7 +283,7 @@ module _ (e : Setting) (d : Disc) (t : List ℕ) (held : Record) (b : ℕ) (pack
       writes-append 1 c up cs d
       ∙ ap (λ (y : ℕ). writes (1 + y) c cs (writes 1 c up d)) (length-upward 32 (firstFree (freeOf (entriesOn e d))) packet 0) in
       rw run
-      (spare-stands e g γ d (sequenceOn e d) l (blocksOn e d) r b packet c (h .start) (rw (← γ .span-is) (h .below)) (h .bytes) (h .two) (h .some) (h .more)
+      (spare-stands e g γ d (sequenceOn e d) l (blocksOn e d) r b packet c (h .start) (rw (← γ .span-is) (h .below)) (sym (ready-spare γ r b) ∙ h .place) (h .bytes) (h .two) (h .some) (h .more)
       (rw many at uncut) k i)
 
 -- the newer identifier, in every copy that a sparing or making writes
@@ -297,17 +296,11 @@ newer-written =
       spared = λ e d t held b packet c r low q i h.
           let p = plan-done (rewritableVerdict e d t (packetLent t packet) held (spareTests e d b)) (spareWrites e d b packet) _ _ c r q in
           rw (p .0)
-          (stands _ _ _ (spared-stands e d t held b packet c low (p .0) (p .1) _ (in-tables (geometry e d .tables) i h)));
-      made = λ e d spares again go i h. stands _ _ _ (made-stands e d spares again go _ (in-tables (geometry e d .tables) i h));
+          (stands _ _ _ (spared-stands e d t held b packet c low (p .0) (p .1) _ (in-place (geometry e d .tables) i h)));
+      made = λ e d spares again go i h. stands _ _ _ (made-stands e d spares again go _ (in-place (geometry e d .tables) i h));
     }
 
 -- ---- a packet spared, once or again
-
-in-mapped : (es : List Entry) (i : ℕ) (x : Entry) → i < length es → In (getD es i x .mapped) (mappedOf es)
-unfolding mappedOf
-in-mapped [] i x l = absurd (omega arith)
-in-mapped (e ∷ es) zero x l = inl refl
-in-mapped (e ∷ es) (suc i) x l = inr (in-mapped es i x (omega arith))
 
 -- the parts of the table after it
 pub respared : Respared
@@ -318,12 +311,12 @@ respared =
       free = λ es p m. resorted-free es p (multiple-none p m) (multiple-defective p m);
       turned = λ g es p m f s k q. turned-spared g es p m f s k q;
       kept = λ es p m q. turned-unspared es p m q;
-      fits = λ g es p f s m l k.
-          let w = resorted-fits g es p f m l s k in
+      fits = λ g es p f s m l u k.
+          let w = resorted-fits g es p f m l s k (packet-unmapped (g .start) es p m u) in
           (w, three-parts g (resorted es p) w s, resorted-length g es p f m l s k);
       own = λ g es p f s m l k. spot-same g es p f m l s k;
       others = λ g es p q f s m l k h n. spot-other g es p f m l s k q n h;
-      unread = λ g es i v j f s n l h k. locate-not-defective g es f s n v _ j l (in-mapped (defectiveOf es) i (entry 0 0) k) h;
+      unread = λ g es i v j f s n u h k. locate-not-defective g es f s n v _ j u (in-mapped (defectiveOf es) i (entry 0 0) k) h;
       untaken = λ g es i f s k. free-not-defective g es _ (fits-mapped g es f) s (in-mapped (defectiveOf es) i (entry 0 0) k);
     }
 
@@ -331,15 +324,15 @@ respared =
 pub stays-defective : DefectiveStays
 unfolding DefectiveStays entriesOn
 stays-defective e d t cs later again f =
-    let k = defective-stays e d t (f .low) again (f .opens) cs later (f .proper) in
+    let k = entries-stay e d t (f .low) again (f .opens) cs later (f .proper) in
     let ds : List Entry = defectiveAfter e d t cs in
-    ap (take (length ds)) (k .1) ∙ take-at ds (k .0) (length ds) refl
+    ap (take (length ds)) (k .defectives) ∙ take-at ds (k .later) (length ds) refl
 
 -- ---- closed tables
 
 -- the copies and tables of the instances
 pub newer-met : NewerMet
-unfolding smallGeometry eachEntry tableUnder plainTable reservedTable spentTable spentGeometry writtenTable filled join regid identifier sparingName olderName digits quads flat splice part same value field words entries countIn sequenceIn tableIn hasRegid noneDefective named copyFits originalFits originalsFit mayFollow ascending apart apartFrom outside absent mappedOf mappedFit entriesFit none defective isFree isDefective isUsed usedOf defectiveOf freeOf spotOf inserted firstFree rest without turnedDefective retired freeTaken resorted
+unfolding smallGeometry eachEntry tableUnder plainTable reservedTable spentTable spentGeometry writtenTable filled join regid identifier sparingName olderName digits quads flat splice part same value field words entries countIn sequenceIn tableIn hasRegid noneDefective named copyFits originalFits originalsFit mayFollow ascending apart apartFrom wholePacket absent mappedOf mappedFit originalClear originalsClear entriesFit none defective isFree isDefective isUsed usedOf defectiveOf freeOf spotOf inserted firstFree rest without turnedDefective retired freeTaken resorted
 newer-met =
     record {
       newer = refl;

@@ -15,7 +15,7 @@ use Rattle.model.specs.Disc.{known, shapely}
 use Rattle.model.specs.Writes.{landing, write, struck, noCut}
 use Rattle.model.specs.Vat.{none, blocksIn, belowOrNone, allBelow}
 use Rattle.model.specs.VatWritten.{fileBytes, dataSectors, writtenIcb}
-use Rattle.model.specs.Sparing.{defective, originalFits, mayFollow, flat, originalsFit, ascending, apart, apartFrom, outside, mappedOf, mappedFit, entriesFit, writtenTable}
+use Rattle.model.specs.Sparing.{defective, originalFits, mayFollow, flat, originalsFit, ascending, apart, apartFrom, wholePacket, originalClear, originalsClear, isUsed, isFree, isDefective, mappedOf, mappedFit, entriesFit, writtenTable}
 use Rattle.model.specs.Plan.{replyOf}
 use Rattle.model.specs.Examine.{setting}
 use Rattle.model.specs.Once.{entriesHeld, nextHeld, lastHeld, commitPlan}
@@ -94,7 +94,7 @@ many-stands =
 -- ---- a sparing table
 
 each-fit : entriesFit smallGeometry eachEntry ≡ true
-unfolding smallGeometry eachEntry entriesFit originalsFit ascending mappedFit mappedOf originalFits mayFollow defective none outside apart apartFrom absent
+unfolding smallGeometry eachEntry entriesFit originalsFit ascending mappedFit mappedOf originalFits mayFollow defective none wholePacket originalClear originalsClear isUsed isFree isDefective apart apartFrom absent
 each-fit = refl
 
 each-from : TableFrom smallGeometry eachEntry 1

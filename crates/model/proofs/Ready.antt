@@ -1,14 +1,14 @@
 -- The invariant of a rewritable disc: what a cut leaves, and what holds between calls; and that reading then shows what the plain store does.
 -- Assumes nothing.
 use Prim.Native.Nat.{ℕ, _*_, _≤_, _<_}
-use mathlib.Core.Bool.{Bool, true, false}
+use mathlib.Core.Bool.{Bool, true, false, cond, not}
 use mathlib.Core.Path.{_≡_, sym, ap, ap₂, _∙_}
 use mathlib.Core.List.{List, _∷_}
 use native.Mathlib.Omega.{arith}
 use lib.Dec.{ltb}
 use lib.ListN.{length, getD, take}
 use borrow.Author.Tests.{lt-ltb, le-ltb, le-leb, eq-eqb}
-use Rattle.refusal.specs.declared.Refusal.the-variants.{NumberOutside}
+use Rattle.refusal.specs.declared.Refusal.the-variants.{NumberOutside, BelongsToSpare}
 use Rattle.refusal.specs.declared.Verdict.{Verdict}
 use Rattle.refusal.specs.declared.Verdict.the-variants.{Go, Stop}
 use Rattle.refusal.specs.Tests.{test, first, need}
@@ -17,21 +17,21 @@ use Rattle.fields.proofs.Laws.{same-equal}
 use Rattle.maps.specs.Kinds.{readMaps}
 use Rattle.model.specs.declared.Record.{Record}
 use Rattle.model.specs.Disc.{Disc, sector, mark, markTests, shapely, inside}
-use Rattle.model.specs.Sparing.{Geometry, Entry, entries, flat, entriesFit, locate}
+use Rattle.model.specs.Sparing.{Geometry, Entry, entries, flat, entriesFit, ofSpare, locate}
 use Rattle.model.specs.Examine.{Setting, writeOnce, geometry, examined, lentTable}
-use Rattle.model.specs.Rewrite.{tableOn, entriesOn, sequenceOn, countOn, copyTests, heldCurrent, placeOf, blockTest}
+use Rattle.model.specs.Rewrite.{tableOn, entriesOn, sequenceOn, countOn, copyTests, heldCurrent, placeOf, blockTest, ofSpareOn, spareTest}
 use Rattle.model.specs.Both.{readVerdict, readBytes, readLent, readRewritableTests, blockSector, blockBy}
 use Rattle.model.specs.Calls.{State}
-use Rattle.model.specs.Store.{Slot, unused, slotAt, start, Store, look, next}
+use Rattle.model.specs.Store.{Slot, unused, reserved, slotAt, Store, seenAs, look}
 use Rattle.model.specs.Demand.{seen, seenBy}
-use Rattle.model.proofs.Basics.{by-lt, both}
+use Rattle.model.proofs.Basics.{by-bool, by-lt, both}
 use Rattle.model.proofs.Verdicts.{examined-go, go-then}
 use Rattle.model.proofs.Marks.{sector-shown}
 use Rattle.model.proofs.Ground.{Ground}
 use Rattle.model.proofs.SparingLaws.{length-flat, counts-fits, Settled, settled-some, settled-sequence, settled-table, settled-agree}
 
--- what a disc needs to be read again, whatever the power did: its newest copies, of sequence n, hold the table l, and the blocks that the table
--- leads to are bs
+-- what a disc needs to be read again, whatever the power did: its newest copies, of sequence n, hold the table l, and bs are the blocks that the
+-- table leads to, or that belong to its spares
 pub record Ready (e : Setting) (g : Geometry) (d : Disc) (n : ℕ) (l : List ℕ) (bs : List Slot) : Type 0 where
   pub shape : shapely d ≡ true
   pub within : inside d (e .start) (e .span) ≡ true
@@ -40,7 +40,7 @@ pub record Ready (e : Setting) (g : Geometry) (d : Disc) (n : ℕ) (l : List ℕ
   pub small : n < 4294967296
   pub even : flat (entries l) ≡ l
   pub count : length bs ≡ g .span
-  pub same : (b : ℕ) → b < g .span → getD bs b unused ≡ slotAt d (locate (g .start) (entries l) b)
+  pub same : (b : ℕ) → b < g .span → getD bs b unused ≡ cond (ofSpare (g .start) (entries l) b) reserved (slotAt d (locate (g .start) (entries l) b))
 
 -- a record of a rewritable disc, with its R and sequence
 unfoldable pub Holds : Record → ℕ → ℕ → Type 0
@@ -80,6 +80,19 @@ ready-count r = ap length (ready-entries r)
 pub ready-place : {e : Setting} {g : Geometry} {d : Disc} {n : ℕ} {l : List ℕ} {bs : List Slot} → Ground e g → Ready e g d n l bs → (b : ℕ) → placeOf e d b ≡ locate (g .start) (entries l) b
 unfolding placeOf
 ready-place γ r b = ap₂ (λ (s : ℕ) (es : List Entry). locate s es b) (γ .start-is) (ready-entries r)
+
+pub ready-spare : {e : Setting} {g : Geometry} {d : Disc} {n : ℕ} {l : List ℕ} {bs : List Slot} → Ground e g → Ready e g d n l bs → (b : ℕ) → ofSpareOn e d b ≡ ofSpare (g .start) (entries l) b
+unfolding ofSpareOn
+ready-spare γ r b = ap₂ (λ (s : ℕ) (es : List Entry). ofSpare s es b) (γ .start-is) (ready-entries r)
+
+-- a block of the plain store that belongs to no spare, and one that does
+pub same-place : {e : Setting} {g : Geometry} {d : Disc} {n : ℕ} {l : List ℕ} {bs : List Slot} → Ready e g d n l bs → (b : ℕ) → b < g .span → ofSpare (g .start) (entries l) b ≡ false
+    → getD bs b unused ≡ slotAt d (locate (g .start) (entries l) b)
+same-place {d = d} r b h u = r .same b h ∙ rw u
+
+pub same-spare : {e : Setting} {g : Geometry} {d : Disc} {n : ℕ} {l : List ℕ} {bs : List Slot} → Ready e g d n l bs → (b : ℕ) → b < g .span → ofSpare (g .start) (entries l) b ≡ true
+    → getD bs b unused ≡ reserved
+same-spare r b h u = r .same b h ∙ rw u
 
 -- the numbers of a table are twice its entries
 pub table-length : (l : List ℕ) → flat (entries l) ≡ l → length l ≡ 2 * length (entries l)
@@ -123,11 +136,11 @@ module _ (e : Setting) (g : Geometry) (again : writeOnce e ≡ false) (γ : Grou
     there = rw again (omega (arith, ready-place γ (i .ready) b))
 
     read-tests : readVerdict e (st .disc) (st .table) (st .held) b out
-        ≡ first (test (ltb b (g .span)) NumberOutside ∷ markTests (mark (st .disc) at-block))
-    unfolding readVerdict readRewritableTests blockTest readLent lentTable need copyTests tableOn
+        ≡ first (test (ltb b (g .span)) NumberOutside ∷ test (not (ofSpare (g .start) (entries l) b)) BelongsToSpare ∷ markTests (mark (st .disc) at-block))
+    unfolding readVerdict readRewritableTests blockTest spareTest readLent lentTable need copyTests tableOn
     read-tests =
         go-then _ (examined-again (st .disc) _ (i .ready) (both (le-leb _ _ (i .lent)) (eq-eqb _ _ long)))
-        ∙ rw (again, i .ready .geo, settled-some (st .disc) g n l (i .ready .settled), settled-table (st .disc) g n l (i .ready .settled), settled-agree (st .disc) g n l (i .ready .settled), held-current st i, there, γ .span-is)
+        ∙ rw (again, i .ready .geo, settled-some (st .disc) g n l (i .ready .settled), settled-table (st .disc) g n l (i .ready .settled), settled-agree (st .disc) g n l (i .ready .settled), held-current st i, there, ready-spare γ (i .ready) b, γ .span-is)
 
     shown : (w : Verdict) → readVerdict e (st .disc) (st .table) (st .held) b out ≡ w
         → seen e st b out ≡ seenBy w (blockBy w (sector (st .disc) at-block) out)
@@ -136,16 +149,18 @@ module _ (e : Setting) (g : Geometry) (again : writeOnce e ≡ false) (γ : Grou
 
     -- reading shows what the plain store does
     pub read-again : seen e st b out ≡ look σ b
-    unfolding look seenBy blockBy need
+    unfolding look seenAs seenBy blockBy need
     read-again =
         let ln = i .ready .count in
         by-lt b (g .span)
         (λ a.
         let la : ltb b (g .span) ≡ true = lt-ltb b (g .span) a in
-        let bl = i .ready .same b a in
-        shown (first (markTests (mark (st .disc) at-block))) (read-tests ∙ rw la)
+        by-bool (ofSpare (g .start) (entries l) b)
+        (λ u. shown (Stop BelongsToSpare) (read-tests ∙ rw (la, u)) ∙ sym (rw (ln, la, same-spare (i .ready) b a u)))
+        (λ u.
+        shown (first (markTests (mark (st .disc) at-block))) (read-tests ∙ rw (la, u))
         ∙ sector-shown (st .disc) at-block out
-        ∙ sym (rw (ln, la, bl)))
+        ∙ sym (rw (ln, la, same-place (i .ready) b a u))))
         (λ a.
         let la : ltb b (g .span) ≡ false = le-ltb b (g .span) a in
         shown (Stop NumberOutside) (read-tests ∙ rw la) ∙ sym (rw (ln, la)))

@@ -8,7 +8,7 @@ use native.Mathlib.Omega.{arith}
 use lib.Dec.{eqb}
 use lib.ListN.{length, getD, set, take, drop, length-set, length-take, length-drop}
 use lib.Seq.{getD-set-same, getD-set-other, getD-take, getD-drop}
-use borrow.Author.Tests.{ltb-true, eqb-true}
+use borrow.Author.Tests.{ltb-true, eqb-true, not-true}
 use Rattle.refusal.specs.declared.Refusal.the-variants.{OtherKind, StaleRecord}
 use Rattle.refusal.specs.declared.Verdict.the-variants.{Go}
 use Rattle.refusal.specs.Tests.{Test, test}
@@ -20,9 +20,9 @@ use Rattle.model.specs.declared.Landing.{Landing}
 use Rattle.model.specs.declared.Record.{Record}
 use Rattle.model.specs.Disc.{Disc, sector, recorded, recordedRun, markTests, joined}
 use Rattle.model.specs.Writes.{landing, writes, upward, struck}
-use Rattle.model.specs.Sparing.{Geometry, Entry, entries, packetOf, locate}
+use Rattle.model.specs.Sparing.{Geometry, Entry, entries, packetOf, ofSpare, locate}
 use Rattle.model.specs.Examine.{Setting, writeOnce, examined, lentTable}
-use Rattle.model.specs.Rewrite.{copyTests, heldCurrent, rewritableVerdict, placeOf, blockTest, saveBlockTests, blockLent, packetWrites, replaced, saveBlockPlan, packetTests, packetLent, savePacketPlan}
+use Rattle.model.specs.Rewrite.{copyTests, heldCurrent, rewritableVerdict, placeOf, blockTest, spareTest, saveBlockTests, blockLent, packetWrites, replaced, saveBlockPlan, packetTests, packetLent, savePacketPlan}
 use Rattle.model.specs.Calls.{saveBlock, savePacket, State, step}
 use Rattle.model.specs.Store.{Slot, holds, unused, slotAt, slotAfter, puts, putsCut, slotsIn, packetWith, Store, Shape, cutIn, writesIn, taken}
 use Rattle.model.proofs.Basics.{by-lt, by-eq, and-true}
@@ -30,11 +30,11 @@ use Rattle.model.proofs.Marks.{other-mark}
 use Rattle.model.proofs.Verdicts.{Examined, examined-tells, then-go}
 use Rattle.model.proofs.Sectors.{shapely-made, landing-uncut}
 use Rattle.model.proofs.SectorsRuns.{length-joined, joined-part, recordedRun-each, length-upward}
-use Rattle.model.proofs.SparingLaws.{packet-multiple, packet-less, packet-rest, packet-inside, packet-start}
+use Rattle.model.proofs.SparingLaws.{packet-multiple, packet-less, packet-rest, packet-inside, packet-start, packet-own, spare-packet}
 use Rattle.model.proofs.Ground.{Ground}
-use Rattle.model.proofs.Ready.{Ready, LiveAgain, ready-place}
+use Rattle.model.proofs.Ready.{Ready, LiveAgain, ready-place, ready-spare, same-place}
 use Rattle.model.proofs.ReadyOpen.{Keeps, AgainOk}
-use Rattle.model.proofs.ReadySave.{run-cases, ready-written, on-disc, at-place}
+use Rattle.model.proofs.ReadySave.{run-cases, ready-written, on-disc, at-place, in-place}
 use Rattle.model.proofs.Slots.{length-blocks, block-in, length-cut, cut-other, cut-inside, length-puts, puts-other, puts-inside, slot-recorded}
 use Rattle.model.proofs.Steps.{Told, told-plan, Sound, sound-plan, sound-carried}
 
@@ -70,7 +70,7 @@ module _ (e : Setting) (g : Geometry) (γ : Ground e g) (h : Shape) (st : State)
   d = st .disc
 
   -- ---- save packet
-  module _ (b : ℕ) (x : List ℕ) (c : Cut) (multiple : b % 32 ≡ 0) (below : b < g .span) (long : length x ≡ 65536) where
+  module _ (b : ℕ) (x : List ℕ) (c : Cut) (multiple : b % 32 ≡ 0) (below : b < g .span) (own-place : ofSpare (g .start) (entries l) b ≡ false) (long : length x ≡ 65536) where
     fits : b + length (slotsIn 32 x 0) ≤ length (σ .blocks)
     fits = omega (arith, length-blocks 32 x 0, i .ready .count, packet-inside b (g .span) (γ .span-32) below, packet-rest b)
 
@@ -79,7 +79,7 @@ module _ (e : Setting) (g : Geometry) (γ : Ground e g) (h : Shape) (st : State)
 
     packet-cut : Ready e g (writes 1 c (upward 32 (locate (g .start) (entries l) b) x 0) d) n l (putsCut 1 c (σ .blocks) b (slotsIn 32 x 0))
     packet-cut =
-        ready-written e g γ d n l (σ .blocks) (i .ready) b multiple below x long c (putsCut 1 c (σ .blocks) b (slotsIn 32 x 0))
+        ready-written e g γ d n l (σ .blocks) (i .ready) b multiple below own-place x long c (putsCut 1 c (σ .blocks) b (slotsIn 32 x 0))
         (length-cut 1 c (σ .blocks) b (slotsIn 32 x 0))
         (λ j w. cut-other 1 c (σ .blocks) b (slotsIn 32 x 0) j (edge j w))
         (λ j u.
@@ -88,7 +88,7 @@ module _ (e : Setting) (g : Geometry) (γ : Ground e g) (h : Shape) (st : State)
 
     packet-done : struck c 32 ≡ false → Ready e g (writes 1 c (upward 32 (locate (g .start) (entries l) b) x 0) d) n l (puts (σ .blocks) b (slotsIn 32 x 0))
     packet-done uncut =
-        ready-written e g γ d n l (σ .blocks) (i .ready) b multiple below x long c (puts (σ .blocks) b (slotsIn 32 x 0))
+        ready-written e g γ d n l (σ .blocks) (i .ready) b multiple below own-place x long c (puts (σ .blocks) b (slotsIn 32 x 0))
         (length-puts (σ .blocks) b (slotsIn 32 x 0))
         (λ j w. puts-other (σ .blocks) b (slotsIn 32 x 0) j (edge j w))
         (λ j u.
@@ -96,24 +96,25 @@ module _ (e : Setting) (g : Geometry) (γ : Ground e g) (h : Shape) (st : State)
         ∙ block-in 32 x 0 j u
         ∙ sym (after-done (getD (σ .blocks) (b + j) unused) _ (landing-uncut (1 + j) 32 c uncut (omega arith) (omega arith))))
 
-  pub sound-packet : (ds : List Entry) → Keeps ds l → (b : ℕ) (x : List ℕ) (c : Cut) → Sound (AgainOk e g ds) h σ (savePacket b x c) (step e st (savePacket b x c))
-  unfolding step savePacketPlan packetWrites AgainOk cutIn writesIn taken packetTests packetLent
-  sound-packet ds kept b x c =
-      sound-plan (AgainOk e g ds) h σ (savePacket b x c) c st _ _ _ _ (n, l, i, kept) λ go.
-      let p = again-tells e d (st .table) _ (st .held) (packetTests e b) go in
+  pub sound-packet : (es : List Entry) → Keeps es l → (b : ℕ) (x : List ℕ) (c : Cut) → Sound (AgainOk e g es) h σ (savePacket b x c) (step e st (savePacket b x c))
+  unfolding step savePacketPlan packetWrites AgainOk cutIn writesIn taken packetTests spareTest packetLent
+  sound-packet es kept b x c =
+      sound-plan (AgainOk e g es) h σ (savePacket b x c) c st _ _ _ _ (n, l, i, kept) λ go.
+      let p = again-tells e d (st .table) _ (st .held) (packetTests e d b) go in
       let u = and-true (lentTable (st .table)) _ (p .0 .lengths) in
       let v = and-true (eqb (b % 32) 0) _ (p .1 .0) in
       let multiple : b % 32 ≡ 0 = eqb-true _ _ (v .0) in
       let below : b < g .span = rw (← γ .span-is) (ltb-true _ _ (v .1)) in
+      let own-place = sym (ready-spare γ (i .ready) b) ∙ not-true _ (p .1 .1 .0) in
       let long : length x ≡ 65536 = eqb-true _ _ (u .1) in
       let w = length-upward 32 (placeOf e d b) x 0 in
       let place = ready-place γ (i .ready) b in
-      sound-carried (AgainOk e g ds) h σ (savePacket b x c) c st _ _ _ refl (sym w)
-      (λ k. (n, l, rw place (packet-cut b x c multiple below long), i .lent, kept))
-      (λ k. (n, l, record { ready = rw place (packet-done b x c multiple below long (rw w at k)); held = i .held; front = i .front; lent = i .lent }, kept))
+      sound-carried (AgainOk e g es) h σ (savePacket b x c) c st _ _ _ refl (sym w)
+      (λ k. (n, l, rw place (packet-cut b x c multiple below own-place long), i .lent, kept))
+      (λ k. (n, l, record { ready = rw place (packet-done b x c multiple below own-place long (rw w at k)); held = i .held; front = i .front; lent = i .lent }, kept))
 
   -- ---- save block
-  module _ (b : ℕ) (x : List ℕ) (c : Cut) (below : b < g .span) (long : length x ≡ 2048) where
+  module _ (b : ℕ) (x : List ℕ) (c : Cut) (below : b < g .span) (own-place : ofSpare (g .start) (entries l) b ≡ false) (long : length x ≡ 2048) where
     abbrev p : ℕ
     p = packetOf b
 
@@ -128,6 +129,9 @@ module _ (e : Setting) (g : Geometry) (γ : Ground e g) (h : Shape) (st : State)
 
     p-below : p < g .span
     p-below = packet-less b (g .span) below
+
+    p-place : ofSpare (g .start) (entries l) p ≡ false
+    p-place = spare-packet (g .start) (entries l) p b (packet-own p (packet-multiple b)) ∙ own-place
 
     on : start + 32 ≤ length (d .marks)
     on = on-disc e g γ d n l (σ .blocks) (i .ready) p (packet-multiple b) p-below
@@ -170,7 +174,7 @@ module _ (e : Setting) (g : Geometry) (γ : Ground e g) (h : Shape) (st : State)
       -- a block of the packet that is not replaced holds what is rewritten
       old-block : (j : ℕ) → j < 32 → j ≢ k → getD (σ .blocks) (p + j) unused ≡ holds (part bytes (0 + 2048 * j) 2048)
       old-block j u w =
-          i .ready .same (p + j) (omega (arith, packet-inside b (g .span) (γ .span-32) below))
+          same-place (i .ready) (p + j) (omega (arith, packet-inside b (g .span) (γ .span-32) below)) (in-place e g γ d n l (σ .blocks) (i .ready) p (packet-multiple b) p-below p-place j u)
           ∙ ap (slotAt d) (at-place e g γ d n l (σ .blocks) (i .ready) p (packet-multiple b) p-below j u)
           ∙ slot-recorded d (start + j) (recorded-other j u w)
           ∙ ap holds (sym (part-other j u w))
@@ -197,7 +201,7 @@ module _ (e : Setting) (g : Geometry) (γ : Ground e g) (h : Shape) (st : State)
 
       block-cut : Ready e g (writes 1 c (upward 32 start bytes 0) d) n l (putsCut 1 c (σ .blocks) p (packetWith (σ .blocks) b x))
       block-cut =
-          ready-written e g γ d n l (σ .blocks) (i .ready) p (packet-multiple b) p-below bytes long-bytes c (putsCut 1 c (σ .blocks) p (packetWith (σ .blocks) b x))
+          ready-written e g γ d n l (σ .blocks) (i .ready) p (packet-multiple b) p-below p-place bytes long-bytes c (putsCut 1 c (σ .blocks) p (packetWith (σ .blocks) b x))
           (length-cut 1 c (σ .blocks) p (packetWith (σ .blocks) b x))
           (λ j w. cut-other 1 c (σ .blocks) p (packetWith (σ .blocks) b x) j (rw long-with (other-packet p j (packet-multiple b) w)))
           (λ j u.
@@ -206,7 +210,7 @@ module _ (e : Setting) (g : Geometry) (γ : Ground e g) (h : Shape) (st : State)
 
       block-done : struck c 32 ≡ false → Ready e g (writes 1 c (upward 32 start bytes 0) d) n l (set (σ .blocks) b (holds x))
       block-done uncut =
-          ready-written e g γ d n l (σ .blocks) (i .ready) p (packet-multiple b) p-below bytes long-bytes c (set (σ .blocks) b (holds x))
+          ready-written e g γ d n l (σ .blocks) (i .ready) p (packet-multiple b) p-below p-place bytes long-bytes c (set (σ .blocks) b (holds x))
           (length-set (σ .blocks) b (holds x))
           (λ j w. getD-set-other (σ .blocks) b j (holds x) unused (λ z. w (ap packetOf z)))
           (λ j u.
@@ -221,17 +225,18 @@ module _ (e : Setting) (g : Geometry) (γ : Ground e g) (h : Shape) (st : State)
           getD-set-other (σ .blocks) b (p + j) (holds x) unused z ∙ old-block j u w)
           ∙ sym (after-done (getD (σ .blocks) (p + j) unused) _ (landing-uncut (1 + j) 32 c uncut (omega arith) (omega arith))))
 
-  pub sound-block : (ds : List Entry) → Keeps ds l → (b : ℕ) (x : List ℕ) (c : Cut) → Sound (AgainOk e g ds) h σ (saveBlock b x c) (step e st (saveBlock b x c))
-  unfolding step saveBlockPlan packetWrites AgainOk cutIn writesIn taken saveBlockTests blockTest blockLent markTests
-  sound-block ds kept b x c =
-      sound-plan (AgainOk e g ds) h σ (saveBlock b x c) c st _ _ _ _ (n, l, i, kept) λ go.
+  pub sound-block : (es : List Entry) → Keeps es l → (b : ℕ) (x : List ℕ) (c : Cut) → Sound (AgainOk e g es) h σ (saveBlock b x c) (step e st (saveBlock b x c))
+  unfolding step saveBlockPlan packetWrites AgainOk cutIn writesIn taken saveBlockTests blockTest spareTest blockLent markTests
+  sound-block es kept b x c =
+      sound-plan (AgainOk e g es) h σ (saveBlock b x c) c st _ _ _ _ (n, l, i, kept) λ go.
       let t = again-tells e d (st .table) _ (st .held) (saveBlockTests e d b) go in
       let u = and-true (lentTable (st .table)) _ (t .0 .lengths) in
       let below : b < g .span = rw (← γ .span-is) (ltb-true _ _ (t .1 .0)) in
+      let own-place = sym (ready-spare γ (i .ready) b) ∙ not-true _ (t .1 .1 .0) in
       let long : length x ≡ 2048 = eqb-true _ _ (u .1) in
       let place = ready-place γ (i .ready) (packetOf b) in
-      let others = sym (other-mark d (locate (g .start) (entries l) (packetOf b)) (b % 32)) ∙ rw place at (t .1 .1 .1 .0) in
+      let others = sym (other-mark d (locate (g .start) (entries l) (packetOf b)) (b % 32)) ∙ rw place at (t .1 .1 .1 .1 .0) in
       let w = length-upward 32 (placeOf e d (packetOf b)) (replaced d (placeOf e d (packetOf b)) (b % 32) x) 0 in
-      sound-carried (AgainOk e g ds) h σ (saveBlock b x c) c st _ _ _ refl (sym w)
-      (λ z. (n, l, rw place (block-cut b x c below long others), i .lent, kept))
-      (λ z. (n, l, record { ready = rw place (block-done b x c below long others (rw w at z)); held = i .held; front = i .front; lent = i .lent }, kept))
+      sound-carried (AgainOk e g es) h σ (saveBlock b x c) c st _ _ _ refl (sym w)
+      (λ z. (n, l, rw place (block-cut b x c below own-place long others), i .lent, kept))
+      (λ z. (n, l, record { ready = rw place (block-done b x c below own-place long others (rw w at z)); held = i .held; front = i .front; lent = i .lent }, kept))

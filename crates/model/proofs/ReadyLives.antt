@@ -8,28 +8,29 @@ use native.Mathlib.Omega.{arith}
 use lib.ListN.{length, getD, set, drop, length-set}
 use lib.Seq.{take-at, getD-set-same, getD-set-other}
 use borrow.Author.Tests.{lt-ltb, le-ltb, eq-eqb}
-use Rattle.refusal.specs.declared.Refusal.the-variants.{NumberOutside}
+use Rattle.refusal.specs.declared.Refusal.the-variants.{NumberOutside, BelongsToSpare}
 use Rattle.refusal.specs.declared.Verdict.the-variants.{Go}
 use Rattle.fields.specs.Bytes.{part}
-use Rattle.maps.specs.Kinds.{readMaps, tablesOf}
+use Rattle.maps.specs.Kinds.{absent, readMaps, tablesOf}
 use Rattle.model.specs.declared.Record.{Record}
 use Rattle.model.specs.Disc.{Disc}
 use Rattle.model.specs.Writes.{noCut}
 use Rattle.model.specs.Vat.{none}
-use Rattle.model.specs.Sparing.{Geometry, Entry, entries, flat, isFree, defective, isUsed, usedOf, defectiveOf, freeOf, packetOf, inserted, firstFree, rest, without, turnedDefective, resorted}
+use Rattle.model.specs.Sparing.{Geometry, Entry, entries, flat, isFree, defective, isUsed, usedOf, defectiveOf, freeOf, mappedOf, packetOf, ofSpare, inserted, firstFree, rest, without, turnedDefective, resorted}
 use Rattle.model.specs.Examine.{Setting, volume, writeOnce, geometry}
 use Rattle.model.specs.Once.{filledFrom}
 use Rattle.model.specs.Rewrite.{noEntry, tableOn}
 use Rattle.model.specs.Both.{openVerdict, recordOn, numbersOn, passedOn, openedBy, filledBy, opening, openedTable, spareEntries, makeVerdict, made}
 use Rattle.model.specs.Calls.{saveBlock, sparePacket, openDisc, done, opened, State, step, answers, final}
-use Rattle.model.specs.Store.{Slot, holds, unused, blocksOn, start, puts, slotsIn, Store, store, Shape, shapeOf, bytes, turned, seenAs, look}
+use Rattle.model.specs.Store.{Slot, holds, unused, reserved, blocksOn, start, puts, slotsIn, Store, store, Shape, shapeOf, bytes, turned, seenAs, look}
 use Rattle.model.specs.Demand.{afterOpening, seen}
-use Rattle.model.specs.LivesAgain.{zeroBlock, OpensFree, RewritableMadeOpens, usualCalls, usualAnswers, ReadsBack, RewritableLives, twiceCalls, twiceAnswers, twiceTable, SparedTwice, RespareLives}
-use Rattle.model.proofs.SparingLaws.{entries-flat, multiple-none, multiple-defective, used-tests, Each, used-parts, defective-parts, free-parts, resorted-parts, packet-rest}
+use Rattle.model.specs.LivesAgain.{zeroBlock, inSpare, OpensFree, RewritableMadeOpens, usualCalls, usualAnswers, ReadsBack, RewritableLives, twiceCalls, twiceAnswers, twiceTable, SparedTwice, RespareLives}
+use Rattle.model.proofs.SparingLaws.{entries-flat, multiple-none, multiple-defective, used-tests, Each, used-parts, defective-parts, free-parts, resorted-parts, resorted-starts, packet-multiple, packet-rest, packet-inside, packet-start, packet-own, spare-same, spare-packet}
+use Rattle.model.proofs.Basics.{differ}
 use Rattle.model.proofs.Ground.{Ground}
-use Rattle.model.proofs.Ready.{Ready, Holds, LiveAgain, ready-table, table-length, read-again}
+use Rattle.model.proofs.Ready.{Ready, Holds, LiveAgain, ready-fits, ready-table, table-length, read-again}
 use Rattle.model.proofs.ReadyCalls.{other-packet}
-use Rattle.model.proofs.ReadyLivesMade.{some-free, length-spares, made-maps, made-ground, made-ready, made-count, made-zeros}
+use Rattle.model.proofs.ReadyLivesMade.{some-free, length-spares, made-maps, made-ground, made-ready, made-count, made-blocks}
 use Rattle.model.proofs.ReadyLivesCalls.{Whole, open-goes, record-again, save-answer, save-live, spare-answer, spare-live, spare-count, reopen-answer, reopen-live}
 use Rattle.model.proofs.Slots.{length-blocks, block-in, length-puts, puts-other, puts-inside}
 use Rattle.model.proofs.OnceOpen.{filled-long}
@@ -38,6 +39,11 @@ use Rattle.model.proofs.OnceOpen.{filled-long}
 look-holds : (σ : Store) (v : ℕ) (z : List ℕ) → v < length (σ .blocks) → getD (σ .blocks) v unused ≡ holds z → look σ v ≡ bytes z
 unfolding look seenAs
 look-holds σ v z h q = rw (lt-ltb v (length (σ .blocks)) h, q)
+
+-- of one that belongs to a spare
+pub look-reserved : (σ : Store) (v : ℕ) → v < length (σ .blocks) → getD (σ .blocks) v unused ≡ reserved → look σ v ≡ turned BelongsToSpare
+unfolding look seenAs
+look-reserved σ v h q = rw (lt-ltb v (length (σ .blocks)) h, q)
 
 -- and past its blocks
 look-none : (σ : Store) (v : ℕ) → length (σ .blocks) ≤ v → look σ v ≡ turned NumberOutside
@@ -102,8 +108,14 @@ module _ (e : Setting) (d : Disc) (spares t : List ℕ) (again : writeOnce e ≡
         free = ready-table ready;
         filled = filled;
         count = made-count e d spares again go;
-        zeros = made-zeros e d spares again go;
+        zeros = λ b h u. made-blocks e d spares again go b h ∙ rw u;
+        others = λ b h u. made-blocks e d spares again go b h ∙ rw u;
       }
+
+  -- a block belongs to a spare of the table
+  spare-is : (v : ℕ) → ofSpare (g .start) (entries l) v ≡ inSpare e spares v
+  unfolding inSpare
+  spare-is v = rw (entries-flat (spareEntries spares), ← γ .start-is)
 
   -- what holds after that opening
   live : LiveAgain e g (afterOpening e d′ t) 0 l (start e d′)
@@ -118,8 +130,8 @@ module _ (e : Setting) (d : Disc) (spares t : List ℕ) (again : writeOnce e ≡
 
   -- ---- a block saved, a packet spared, and the disc opened again
   module _ (two : 2 ≤ length (tablesOf (volume e))) (one : 1 ≤ length spares)
-      (b : ℕ) (x : List ℕ) (b-in : b < e .span) (x-long : length x ≡ 2048)
-      (p : ℕ) (y : List ℕ) (multiple : p % 32 ≡ 0) (p-in : p < e .span) (y-long : length y ≡ 65536) where
+      (b : ℕ) (x : List ℕ) (b-in : b < e .span) (b-free : inSpare e spares b ≡ false) (x-long : length x ≡ 2048)
+      (p : ℕ) (y : List ℕ) (multiple : p % 32 ≡ 0) (p-in : p < e .span) (p-free : inSpare e spares p ≡ false) (y-long : length y ≡ 65536) where
     abbrev h : Shape
     h = shapeOf e
 
@@ -149,17 +161,31 @@ module _ (e : Setting) (d : Disc) (spares t : List ℕ) (again : writeOnce e ≡
     p-below : p < g .span
     p-below = rw (← γ .span-is) p-in
 
-    whole : Whole (g .span) (start e d′ .blocks)
+    b-place : ofSpare (g .start) (entries l) b ≡ false
+    b-place = spare-is b ∙ b-free
+
+    p-place : ofSpare (g .start) (entries l) p ≡ false
+    p-place = spare-is p ∙ p-free
+
+    whole : Whole (packetOf b) (start e d′ .blocks)
     unfolding start
-    whole = record { bytes = λ v. zeroBlock; block = λ v u. made-zeros e d spares again go v (rw (γ .span-is) u) }
+    whole =
+        record {
+          bytes = λ j. zeroBlock;
+          block = λ j u.
+              let v : ℕ = packetOf b + j in
+              let free : inSpare e spares v ≡ false =
+              sym (spare-is v) ∙ spare-packet (g .start) (entries l) v b (packet-start (packetOf b) j (packet-multiple b) u) ∙ b-place in
+              made-blocks e d spares again go v (omega (arith, packet-inside b (g .span) (γ .span-32) b-below, γ .span-is)) ∙ rw free;
+        }
 
     -- ---- save b
     answer₁ : step e st₀ (saveBlock b x noCut) .answer ≡ done (Record.Rewritable (length (entries l)) 0)
-    answer₁ = save-answer e g again γ maps-go h st₀ 0 l (start e d′) live b x b-below x-long whole
+    answer₁ = save-answer e g again γ maps-go h st₀ 0 l (start e d′) live b x b-below b-place x-long whole
 
     live₁ : LiveAgain e g st₁ 0 l σ₁
     unfolding start
-    live₁ = save-live e g again γ maps-go h st₀ 0 l (start e d′) live b x b-below x-long whole
+    live₁ = save-live e g again γ maps-go h st₀ 0 l (start e d′) live b x b-below b-place x-long whole
 
     -- ---- spare p
     copies : h .tables ≡ length (g .tables)
@@ -174,16 +200,16 @@ module _ (e : Setting) (d : Disc) (spares t : List ℕ) (again : writeOnce e ≡
     some = rw (entries-flat (spareEntries spares)) (some-free spares one)
 
     answer₂ : step e st₁ (sparePacket p y noCut) .answer ≡ done (Record.Rewritable (length (entries l)) 1)
-    answer₂ = spare-answer e g again γ maps-go h st₁ 0 l σ₁ live₁ p y multiple p-below y-long copies two-tables some (omega arith)
+    answer₂ = spare-answer e g again γ maps-go h st₁ 0 l σ₁ live₁ p y multiple p-below p-place y-long copies two-tables some (omega arith)
 
     abbrev table₂ : List ℕ
     table₂ = flat (resorted (entries l) p)
 
     live₂ : LiveAgain e g st₂ 1 table₂ σ₂
-    live₂ = spare-live e g again γ maps-go h st₁ 0 l σ₁ live₁ p y multiple p-below y-long copies two-tables some (omega arith)
+    live₂ = spare-live e g again γ maps-go h st₁ 0 l σ₁ live₁ p y multiple p-below p-place y-long copies two-tables some (omega arith)
 
     count₂ : length (entries table₂) ≡ length (entries l)
-    count₂ = spare-count e g again γ maps-go h st₁ 0 l σ₁ live₁ p y multiple p-below y-long copies two-tables some (omega arith)
+    count₂ = spare-count e g again γ maps-go h st₁ 0 l σ₁ live₁ p y multiple p-below p-place y-long copies two-tables some (omega arith)
 
     -- ---- opening again
     answer₃ : step e st₂ openDisc .answer ≡ opened (Record.Rewritable (length (entries table₂)) 1) 0
@@ -208,6 +234,13 @@ module _ (e : Setting) (d : Disc) (spares t : List ℕ) (again : writeOnce e ≡
     blocks-count : length (σ₂ .blocks) ≡ e .span
     blocks-count = length-puts (σ₁ .blocks) p (slotsIn 32 y 0) ∙ length-set (blocksOn e d′) b (holds x) ∙ made-count e d spares again go
 
+    -- a block of packet q belongs to a spare as q does
+    in-packet : (v q : ℕ) → packetOf v ≡ q → inSpare e spares v ≡ inSpare e spares q
+    in-packet v q z =
+        sym (spare-is v)
+        ∙ spare-packet (g .start) (entries l) v q (z ∙ sym (rw z at (packet-own (packetOf v) (packet-multiple v))))
+        ∙ spare-is q
+
     -- a block of the spared packet
     packet-in : p + 32 ≤ length (σ₁ .blocks)
     packet-in = rw length-set (omega (arith, made-count e d spares again go, γ .span-is, γ .span-32))
@@ -219,7 +252,7 @@ module _ (e : Setting) (d : Disc) (spares t : List ℕ) (again : writeOnce e ≡
     other-block : (v : ℕ) → packetOf v ≢ p → getD (σ₂ .blocks) v unused ≡ getD (σ₁ .blocks) v unused
     other-block v w = puts-other (σ₁ .blocks) p (slotsIn 32 y 0) v (rw (length-blocks 32 y 0) (other-packet p v multiple w))
 
-    reads-back : ReadsBack e st₀ (length spares) b x p y
+    reads-back : ReadsBack e st₀ spares b x p y
     reads-back =
         record {
           answered = all-answers;
@@ -228,10 +261,17 @@ module _ (e : Setting) (d : Disc) (spares t : List ℕ) (again : writeOnce e ≡
               read v out k
               ∙ look-holds σ₂ v x (omega (arith, blocks-count))
               (other-block v w ∙ ap (λ (z : ℕ). getD (σ₁ .blocks) z unused) q ∙ getD-set-same (blocksOn e d′) b (holds x) unused (omega (arith, made-count e d spares again go)));
-          zeros = λ v out k q w u.
+          zeros = λ v out k q w u f.
               read v out k
               ∙ look-holds σ₂ v zeroBlock (omega (arith, blocks-count))
-              (other-block v w ∙ getD-set-other (blocksOn e d′) b v (holds x) unused q ∙ made-zeros e d spares again go v u);
+              (other-block v w ∙ getD-set-other (blocksOn e d′) b v (holds x) unused q ∙ made-blocks e d spares again go v u ∙ rw f);
+          thirty = λ v out k u f.
+              read v out k
+              ∙ look-reserved σ₂ v (omega (arith, blocks-count))
+              (other-block v (λ z. differ f (in-packet v p z ∙ p-free))
+              ∙ getD-set-other (blocksOn e d′) b v (holds x) unused (λ z. differ f (ap (inSpare e spares) z ∙ b-free))
+              ∙ made-blocks e d spares again go v u
+              ∙ rw f);
           beyond = λ v out k u. read v out k ∙ look-none σ₂ v (omega (arith, blocks-count));
         }
 
@@ -272,7 +312,7 @@ twice-taken p first second more multiple =
     ∙ rw (eq-eqb p p refl)
 
 module _ (e : Setting) (d : Disc) (first second : ℕ) (more t : List ℕ) (again : writeOnce e ≡ false) (go : makeVerdict e d (first ∷ second ∷ more) ≡ Go) (long : 4096 ≤ length t)
-    (two : 2 ≤ length (tablesOf (volume e))) (p : ℕ) (y z : List ℕ) (multiple : p % 32 ≡ 0) (p-in : p < e .span) (y-long : length y ≡ 65536) (z-long : length z ≡ 65536) where
+    (two : 2 ≤ length (tablesOf (volume e))) (p : ℕ) (y z : List ℕ) (multiple : p % 32 ≡ 0) (p-in : p < e .span) (p-free : inSpare e (first ∷ second ∷ more) p ≡ false) (y-long : length y ≡ 65536) (z-long : length z ≡ 65536) where
   abbrev spares : List ℕ
   spares = first ∷ second ∷ more
 
@@ -332,13 +372,26 @@ module _ (e : Setting) (d : Disc) (first second : ℕ) (more t : List ℕ) (agai
   some₀ : noEntry (freeOf (entries l₀)) ≡ false
   some₀ = rw (entries-flat (spareEntries spares)) (some-free spares (omega arith))
 
+  place₀ : ofSpare (geometry e d .start) (entries l₀) p ≡ false
+  place₀ = spare-is e d spares t again go long p ∙ p-free
+
+  -- also by the table after the first sparing, whose mapped starts are the same
+  place₁ : ofSpare (geometry e d .start) (entries l₁) p ≡ false
+  place₁ =
+      spare-same (geometry e d .start) (entries l₁) (entries l₀) p
+      (λ m.
+      ap (λ (k : List ℕ). absent m (mappedOf (entries k))) (sym first-table)
+      ∙ ap (λ (es : List Entry). absent m (mappedOf es)) (entries-flat (resorted (entries l₀) p))
+      ∙ resorted-starts (geometry e d) (entries l₀) p (ready-fits (went₀ .ready)) multiple below (omega (arith, ground .inside, ground .sectors)) some₀ m)
+      ∙ place₀
+
   went₁ : LiveAgain e (geometry e d) s₁ 1 l₁ τ₁
   went₁ =
       rw (← first-table)
-      (spare-live e (geometry e d) again ground (maps-go e d spares t again go long) (shapeOf e) s₀ 0 l₀ τ₀ went₀ p y multiple below y-long same-copies tables-two some₀ (omega arith))
+      (spare-live e (geometry e d) again ground (maps-go e d spares t again go long) (shapeOf e) s₀ 0 l₀ τ₀ went₀ p y multiple below place₀ y-long same-copies tables-two some₀ (omega arith))
 
   answered₁ : step e s₀ (sparePacket p y noCut) .answer ≡ done (Record.Rewritable (length (entries l₀)) 1)
-  answered₁ = spare-answer e (geometry e d) again ground (maps-go e d spares t again go long) (shapeOf e) s₀ 0 l₀ τ₀ went₀ p y multiple below y-long same-copies tables-two some₀ (omega arith)
+  answered₁ = spare-answer e (geometry e d) again ground (maps-go e d spares t again go long) (shapeOf e) s₀ 0 l₀ τ₀ went₀ p y multiple below place₀ y-long same-copies tables-two some₀ (omega arith)
 
   free₁ : freeOf (entries l₁) ≡ spareEntries (second ∷ more)
   free₁ =
@@ -358,10 +411,10 @@ module _ (e : Setting) (d : Disc) (first second : ℕ) (more t : List ℕ) (agai
   went₂ : LiveAgain e (geometry e d) s₂ 2 l₂ τ₂
   went₂ =
       rw (← second-table)
-      (spare-live e (geometry e d) again ground (maps-go e d spares t again go long) (shapeOf e) s₁ 1 l₁ τ₁ went₁ p z multiple below z-long same-copies tables-two some₁ (omega arith))
+      (spare-live e (geometry e d) again ground (maps-go e d spares t again go long) (shapeOf e) s₁ 1 l₁ τ₁ went₁ p z multiple below place₁ z-long same-copies tables-two some₁ (omega arith))
 
   answered₂ : step e s₁ (sparePacket p z noCut) .answer ≡ done (Record.Rewritable (length (entries l₁)) 2)
-  answered₂ = spare-answer e (geometry e d) again ground (maps-go e d spares t again go long) (shapeOf e) s₁ 1 l₁ τ₁ went₁ p z multiple below z-long same-copies tables-two some₁ (omega arith)
+  answered₂ = spare-answer e (geometry e d) again ground (maps-go e d spares t again go long) (shapeOf e) s₁ 1 l₁ τ₁ went₁ p z multiple below place₁ z-long same-copies tables-two some₁ (omega arith)
 
   answered₃ : step e s₂ openDisc .answer ≡ opened (Record.Rewritable (length (entries l₂)) 2) 0
   answered₃ = reopen-answer e (geometry e d) again ground (maps-go e d spares t again go long) (shapeOf e) s₂ 2 l₂ τ₂ went₂
@@ -431,11 +484,11 @@ again-made-opens e d spares t again go long = opens-empty e d spares t again go 
 -- a block that is saved on it and a packet that is spared read back after another opening
 pub again-lives : RewritableLives
 unfolding RewritableLives
-again-lives e d spares t again go long two one b x b-in x-long p y multiple p-in y-long =
-    reads-back e d spares t again go long two one b x b-in x-long p y multiple p-in y-long
+again-lives e d spares t again go long two one b x b-in b-free x-long p y multiple p-in p-free y-long =
+    reads-back e d spares t again go long two one b x b-in b-free x-long p y multiple p-in p-free y-long
 
 -- a packet that is spared on it twice reads as last spared after another opening, and every other block as before
 pub respare-lives : RespareLives
 unfolding RespareLives
-respare-lives e d first second more t again go long two p y z multiple p-in y-long z-long =
-    spared-twice e d first second more t again go long two p y z multiple p-in y-long z-long
+respare-lives e d first second more t again go long two p y z multiple p-in p-free y-long z-long =
+    spared-twice e d first second more t again go long two p y z multiple p-in p-free y-long z-long

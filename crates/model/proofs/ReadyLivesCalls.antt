@@ -2,8 +2,8 @@
 use Prim.Native.Nat.{ℕ, _+_, _-_, _*_, _%_, _≤_, _<_}
 use mathlib.Core.Bool.{Bool, true, false, cond}
 use mathlib.Core.Logic.{_≢_}
-use mathlib.Core.Path.{_≡_, refl, sym, ap, ap₂, _∙_}
-use mathlib.Core.List.{List, []}
+use mathlib.Core.Path.{_≡_, sym, ap, ap₂, _∙_}
+use mathlib.Core.List.{List}
 use native.Mathlib.Omega.{arith}
 use lib.Dec.{eqb}
 use lib.ListN.{length, getD, set, take, drop}
@@ -16,11 +16,11 @@ use Rattle.maps.specs.Kinds.{readMaps}
 use Rattle.model.specs.declared.Record.{Record}
 use Rattle.model.specs.Disc.{Disc, mark, recorded}
 use Rattle.model.specs.Writes.{Write, writes, struck, noCut}
-use Rattle.model.specs.Sparing.{Geometry, Entry, entries, flat, defectiveOf, freeOf, resorted, packetOf, locate}
+use Rattle.model.specs.Sparing.{Geometry, Entry, entries, flat, freeOf, resorted, packetOf, ofSpare, locate}
 use Rattle.model.specs.Examine.{Setting, writeOnce, lentTable}
 use Rattle.model.specs.Once.{filledFrom}
 use Rattle.model.specs.Plan.{carry, unless, replyOf, discAfter, tableAfter}
-use Rattle.model.specs.Rewrite.{noEntry, tableOn, copyTests, currentRecord, rewritableVerdict, otherMark, blockTest, saveBlockTests, blockLent, saveBlockPlan, packetTests, packetLent, spareTests, sparedTable, sparePlan}
+use Rattle.model.specs.Rewrite.{noEntry, tableOn, copyTests, currentRecord, rewritableVerdict, otherMark, blockTest, spareTest, saveBlockTests, blockLent, saveBlockPlan, packetTests, packetLent, spareTests, sparedTable, sparePlan}
 use Rattle.model.specs.Both.{openVerdict, recordOn, passedOn, openedBy, opening}
 use Rattle.model.specs.Calls.{Call, saveBlock, sparePacket, openDisc, done, opened, State, Result, answerOf, heldAfter, carried, answerOfOpening, step, accepted, isCut}
 use Rattle.model.specs.Store.{Slot, holds, unused, unreadable, blank, slotAt, puts, slotsIn, Store, store, Shape, cutIn, writesIn, wasCut, taken, next}
@@ -29,9 +29,9 @@ use Rattle.model.proofs.Marks.{mark-goes, other-mark}
 use Rattle.model.proofs.Verdicts.{go-then}
 use Rattle.model.proofs.Ground.{Ground}
 use Rattle.model.proofs.SectorsRuns.{recordedRun-all}
-use Rattle.model.proofs.SparingLaws.{entries-flat, length-flat, resorted-length, packet-multiple, packet-less, packet-inside, settled-some, settled-table, settled-agree}
-use Rattle.model.proofs.Ready.{Ready, Holds, LiveAgain, ready-fits, ready-entries, ready-count, ready-sequence, ready-place, examined-again, copies-go, held-current}
-use Rattle.model.proofs.ReadyOpen.{Keeps, AgainOk, reopened-again}
+use Rattle.model.proofs.SparingLaws.{entries-flat, length-flat, resorted-length, packet-multiple, packet-less, packet-inside, packet-start, spare-packet, settled-some, settled-table, settled-agree}
+use Rattle.model.proofs.Ready.{Ready, Holds, LiveAgain, ready-fits, ready-entries, ready-count, ready-sequence, ready-place, ready-spare, same-place, examined-again, copies-go, held-current}
+use Rattle.model.proofs.ReadyOpen.{Keeps, keeps-own, AgainOk, reopened-again}
 use Rattle.model.proofs.ReadySave.{at-place}
 use Rattle.model.proofs.ReadyCalls.{sound-block}
 use Rattle.model.proofs.ReadySpare.{sound-spare}
@@ -67,14 +67,10 @@ unfolding slotAt recorded
 holds-recorded d p x h =
     by-bool (eqb (mark d p) 1) (eqb-true _ _) (λ q. absurd (unread-differs (eqb (mark d p) 0) x (rw q at h)))
 
--- a store whose blocks below n all hold bytes
-pub record Whole (n : ℕ) (bs : List Slot) : Type 0 where
+-- the blocks of a packet all hold bytes
+pub record Whole (p : ℕ) (bs : List Slot) : Type 0 where
   pub bytes : ℕ → List ℕ
-  pub block : (v : ℕ) → v < n → getD bs v unused ≡ holds (bytes v)
-
--- any table's defective spares begin with none
-any-kept : (l : List ℕ) → Keeps [] l
-any-kept l = (defectiveOf (entries l), refl)
+  pub block : (j : ℕ) → j < 32 → getD bs (p + j) unused ≡ holds (bytes j)
 
 -- a record has one R and one sequence
 held-both : (r : Record) {a n a′ n′ : ℕ} → Holds r a n → Holds r a′ n′ → (a ≡ a′) × (n ≡ n′)
@@ -104,7 +100,7 @@ module _ (e : Setting) (g : Geometry) (again : writeOnce e ≡ false) (γ : Grou
   record-again d r = rw (again, ready-count r, ready-sequence r)
 
   -- what is left of the tests of a call are its own
-  own-tests : (st : State) (lent : Bool) (own : List Test) {n : ℕ} {l : List ℕ} {σ : Store} → LiveAgain e g st n l σ → lent ≡ true
+  pub own-tests : (st : State) (lent : Bool) (own : List Test) {n : ℕ} {l : List ℕ} {σ : Store} → LiveAgain e g st n l σ → lent ≡ true
       → rewritableVerdict e (st .disc) (st .table) lent (st .held) own ≡ first own
   unfolding rewritableVerdict need copyTests tableOn
   own-tests st lent own {n} {l} i c =
@@ -119,7 +115,7 @@ module _ (e : Setting) (g : Geometry) (again : writeOnce e ≡ false) (γ : Grou
     held-is (Record.Rewritable a s) q = ap₂ (λ (x y : ℕ). Record.Rewritable x y) (q .0) (q .1)
 
     -- ---- save b
-    module _ (b : ℕ) (x : List ℕ) (below : b < g .span) (long : length x ≡ 2048) (whole : Whole (g .span) (σ .blocks)) where
+    module _ (b : ℕ) (x : List ℕ) (below : b < g .span) (own-place : ofSpare (g .start) (entries l) b ≡ false) (long : length x ≡ 2048) (whole : Whole (packetOf b) (σ .blocks)) where
       abbrev p : ℕ
       p = packetOf b
 
@@ -130,10 +126,11 @@ module _ (e : Setting) (g : Geometry) (again : writeOnce e ≡ false) (γ : Grou
       each-recorded : (j : ℕ) → j < 32 → mark (st .disc) (start + j) ≡ 1
       each-recorded j u =
           let v : p + j < g .span = omega (arith, packet-inside b (g .span) (γ .span-32) below) in
-          holds-recorded (st .disc) (start + j) (whole .bytes (p + j))
+          let w : ofSpare (g .start) (entries l) (p + j) ≡ false = spare-packet (g .start) (entries l) (p + j) b (packet-start p j (packet-multiple b) u) ∙ own-place in
+          holds-recorded (st .disc) (start + j) (whole .bytes j)
           (ap (slotAt (st .disc)) (sym (at-place e g γ (st .disc) n l (σ .blocks) (i .ready) p (packet-multiple b) (packet-less b (g .span) below) j u))
-          ∙ sym (i .ready .same (p + j) v)
-          ∙ whole .block (p + j) v)
+          ∙ sym (same-place (i .ready) (p + j) v w)
+          ∙ whole .block j u)
 
       others : eqb (otherMark (st .disc) start (b % 32)) 1 ≡ true
       others =
@@ -147,10 +144,10 @@ module _ (e : Setting) (g : Geometry) (again : writeOnce e ≡ false) (γ : Grou
           rw z (each-recorded (k + 1 + j) (omega arith))))
 
       save-goes : rewritableVerdict e (st .disc) (st .table) (blockLent (st .table) x) (st .held) (saveBlockTests e (st .disc) b) ≡ Go
-      unfolding saveBlockTests blockTest blockLent lentTable need
+      unfolding saveBlockTests blockTest spareTest blockLent lentTable need
       save-goes =
           own-tests st _ (saveBlockTests e (st .disc) b) i (both (le-leb _ _ (i .lent)) (eq-eqb _ _ long))
-          ∙ rw (ready-place γ (i .ready) (packetOf b), γ .span-is, lt-ltb b (g .span) below) (sym (mark-goes _ others))
+          ∙ rw (ready-spare γ (i .ready) b, own-place, ready-place γ (i .ready) (packetOf b), γ .span-is, lt-ltb b (g .span) below) (sym (mark-goes _ others))
 
       -- it answers with the record as it was
       pub save-answer : step e st (saveBlock b x noCut) .answer ≡ done (Record.Rewritable (length (entries l)) n)
@@ -165,22 +162,22 @@ module _ (e : Setting) (g : Geometry) (again : writeOnce e ≡ false) (γ : Grou
       unfolding step saveBlockPlan
       save-table = ap (λ (r : Result). r .state .table) (carried-out _ _ _ _ st save-goes)
 
-      save-any : (n′ : ℕ) × (l′ : List ℕ) × LiveAgain e g (step e st (saveBlock b x noCut) .state) n′ l′ (store (set (σ .blocks) b (holds x)) (σ .copy)) × Keeps [] l′
+      save-any : (n′ : ℕ) × (l′ : List ℕ) × LiveAgain e g (step e st (saveBlock b x noCut) .state) n′ l′ (store (set (σ .blocks) b (holds x)) (σ .copy)) × Keeps (entries l) l′
       unfolding AgainOk taken wasCut cutIn writesIn struck noCut
-      save-any = sound-done (AgainOk e g []) h σ (saveBlock b x noCut) (step e st (saveBlock b x noCut)) _ save-answer (sound-block e g γ h st σ n l i [] (any-kept l) b x noCut)
+      save-any = sound-done (AgainOk e g (entries l)) h σ (saveBlock b x noCut) (step e st (saveBlock b x noCut)) _ save-answer (sound-block e g γ h st σ n l i (entries l) (keeps-own l) b x noCut)
 
       -- the table is as it was, and block b has its bytes
       pub save-live : LiveAgain e g (step e st (saveBlock b x noCut) .state) n l (store (set (σ .blocks) b (holds x)) (σ .copy))
       save-live = live-same e g st _ n l σ _ i (save-any .0) (save-any .1) (save-any .2) save-held save-table
 
     -- ---- spare p
-    module _ (p : ℕ) (y : List ℕ) (multiple : p % 32 ≡ 0) (below : p < g .span) (long : length y ≡ 65536) (copies : h .tables ≡ length (g .tables)) (two : 2 ≤ length (g .tables))
+    module _ (p : ℕ) (y : List ℕ) (multiple : p % 32 ≡ 0) (below : p < g .span) (own-place : ofSpare (g .start) (entries l) p ≡ false) (long : length y ≡ 65536) (copies : h .tables ≡ length (g .tables)) (two : 2 ≤ length (g .tables))
         (some : noEntry (freeOf (entries l)) ≡ false) (more : n ≢ 4294967295) where
       spare-goes : rewritableVerdict e (st .disc) (st .table) (packetLent (st .table) y) (st .held) (spareTests e (st .disc) p) ≡ Go
-      unfolding spareTests packetTests packetLent lentTable need
+      unfolding spareTests packetTests spareTest packetLent lentTable need
       spare-goes =
           own-tests st _ (spareTests e (st .disc) p) i (both (le-leb _ _ (i .lent)) (eq-eqb _ _ long))
-          ∙ rw (ready-entries (i .ready), ready-sequence (i .ready), i .ready .geo, eq-eqb (p % 32) 0 multiple, le-leb 2 (length (g .tables)) two, some, ne-eqb n 4294967295 more, γ .span-is, lt-ltb p (g .span) below)
+          ∙ rw (ready-spare γ (i .ready) p, own-place, ready-entries (i .ready), ready-sequence (i .ready), i .ready .geo, eq-eqb (p % 32) 0 multiple, le-leb 2 (length (g .tables)) two, some, ne-eqb n 4294967295 more, γ .span-is, lt-ltb p (g .span) below)
 
       -- it answers with the next sequence
       pub spare-answer : step e st (sparePacket p y noCut) .answer ≡ done (Record.Rewritable (length (entries l)) (n + 1))
@@ -195,10 +192,10 @@ module _ (e : Setting) (g : Geometry) (again : writeOnce e ≡ false) (γ : Grou
           ap (λ (r : Result). r .state .held) (carried-out _ _ _ _ st spare-goes)
           ∙ ap₂ (λ (a s : ℕ). Record.Rewritable a (s + 1)) (ready-count (i .ready)) (ready-sequence (i .ready))
 
-      spare-any : (n′ : ℕ) × (l′ : List ℕ) × LiveAgain e g (step e st (sparePacket p y noCut) .state) n′ l′ (store (puts (σ .blocks) p (slotsIn 32 y 0)) (σ .copy)) × Keeps [] l′
+      spare-any : (n′ : ℕ) × (l′ : List ℕ) × LiveAgain e g (step e st (sparePacket p y noCut) .state) n′ l′ (store (puts (σ .blocks) p (slotsIn 32 y 0)) (σ .copy)) × Keeps (entries l) l′
       unfolding AgainOk taken wasCut cutIn writesIn struck noCut
       spare-any =
-          sound-done (AgainOk e g []) h σ (sparePacket p y noCut) (step e st (sparePacket p y noCut)) _ spare-answer (sound-spare e g γ h copies st σ n l i p y noCut [] (any-kept l))
+          sound-done (AgainOk e g (entries l)) h σ (sparePacket p y noCut) (step e st (sparePacket p y noCut)) _ spare-answer (sound-spare e g γ h copies st σ n l i p y noCut (entries l) (keeps-own l))
 
       -- the lent table begins with the entries resorted
       spare-table : step e st (sparePacket p y noCut) .state .table ≡ filledFrom (flat (resorted (entries l) p)) (st .table)
@@ -238,6 +235,6 @@ module _ (e : Setting) (g : Geometry) (again : writeOnce e ≡ false) (γ : Grou
     reopen-live one =
         let r =
         rw one at
-        (sound-opened (AgainOk e g []) h σ openDisc (step e st openDisc) _ _ reopen-answer
-        (reopened-again e g again γ maps-go h one st σ n l (i .ready) (i .lent) [] (any-kept l) .sound)) in
+        (sound-opened (AgainOk e g (entries l)) h σ openDisc (step e st openDisc) _ _ reopen-answer
+        (reopened-again e g again γ maps-go h one st σ n l (i .ready) (i .lent) (entries l) (keeps-own l) .sound)) in
         (r .0, r .1, r .2)

@@ -1,6 +1,6 @@
 -- The disc that making leaves of a rewritable volume: zeros in the partition and the same table of free entries in every copy. Assumes nothing.
 use Prim.Native.Nat.{ℕ, zero, suc, _+_, _-_, _*_, _%_, _≤_, _<_}
-use mathlib.Core.Bool.{true, false, _||_, false≢true}
+use mathlib.Core.Bool.{true, false, cond, _||_, false≢true}
 use mathlib.Core.Logic.{_≢_, _⊎_, inl, ⊎-elim}
 use mathlib.Core.Path.{_≡_, refl, sym, ap, _∙_}
 use mathlib.Core.List.{List, [], _∷_, _++_}
@@ -22,12 +22,12 @@ use Rattle.model.specs.declared.Landing.{Landing}
 use Rattle.model.specs.Disc.{Disc, sector, mark, recorded}
 use Rattle.model.specs.Writes.{Write, landing, landed, writes, upward, noCut}
 use Rattle.model.specs.Vat.{none}
-use Rattle.model.specs.Sparing.{Geometry, Entry, flat, freeOf, isFree, entriesFit, copyFits, counts, sequenceIn, sequenceAt, tableIn, tableAt, spotOf, inPlace, packetOf, startAt, locate, writtenTable}
+use Rattle.model.specs.Sparing.{Geometry, Entry, entries, flat, freeOf, isFree, entriesFit, copyFits, counts, sequenceIn, sequenceAt, tableIn, tableAt, spotOf, inPlace, packetOf, ofSpare, startAt, locate, writtenTable}
 use Rattle.model.specs.Examine.{Setting, volume, isOnce, writeOnce, geometry, examined}
-use Rattle.model.specs.Rewrite.{noEntry, tableOn, entriesOn, placeOf, copiesTo}
+use Rattle.model.specs.Rewrite.{noEntry, tableOn, entriesOn, placeOf, ofSpareOn, copiesTo}
 use Rattle.model.specs.Both.{spareEntries, makeTests, makeVerdict, makeWrites, madeBy, made}
-use Rattle.model.specs.Store.{holds, unused, slotAt, blocksOn}
-use Rattle.model.specs.LivesAgain.{zeroBlock}
+use Rattle.model.specs.Store.{holds, unused, reserved, slotAt, placeSlot, blocksOn}
+use Rattle.model.specs.LivesAgain.{zeroBlock, inSpare}
 use Rattle.model.proofs.ReadyOpen.{length-places, place-slot}
 use Rattle.model.proofs.ReadySpare.{elsewhere-copies, placed-copies, Has, has-copies}
 use Rattle.model.proofs.Basics.{and-true}
@@ -306,11 +306,25 @@ module _ (e : Setting) (d : Disc) (spares : List ℕ) (again : writeOnce e ≡ f
   unfolding blocksOn
   count₂ = rw again (length-places e d₂ 0 (e .span))
 
-  block₂ : (b : ℕ) → b < e .span → getD (blocksOn e d₂) b unused ≡ holds zeroBlock
-  unfolding blocksOn
+  spare₂ : (b : ℕ) → ofSpareOn e d₂ b ≡ inSpare e spares b
+  unfolding ofSpareOn entriesOn inSpare
+  spare₂ b = rw (table₂, entries-flat es)
+
+  block₂ : (b : ℕ) → b < e .span → getD (blocksOn e d₂) b unused ≡ cond (inSpare e spares b) reserved (holds zeroBlock)
+  unfolding blocksOn placeSlot
   block₂ b h =
       let q : 0 + b ≡ b = omega arith in
-      rw again (place-slot e d₂ 0 (e .span) b h ∙ ap (slotAt d₂) (ap (placeOf e d₂) q ∙ place₂ b) ∙ slot₂ b h)
+      rw again
+      (place-slot e d₂ 0 (e .span) b h
+      ∙ ap (placeSlot e d₂) q
+      ∙ (λ i. cond (spare₂ b i) reserved ((ap (slotAt d₂) (place₂ b) ∙ slot₂ b h) i)))
+
+  spare-is : (b : ℕ) → inSpare e spares b ≡ ofSpare (g .start) (entries (flat es)) b
+  unfolding inSpare
+  spare-is b = sym (rw (entries-flat es, ← γ .start-is))
+
+  slot-is : (b : ℕ) → b < e .span → holds zeroBlock ≡ slotAt d₂ (locate (g .start) (entries (flat es)) b)
+  slot-is b h = sym (slot₂ b h) ∙ ap (slotAt d₂) (sym (rw (entries-flat es, ← γ .start-is) (free-place spares (e .start) b)))
 
   ready₂ : Ready e g d₂ 0 (flat es) (blocksOn e d₂)
   ready₂ =
@@ -326,8 +340,7 @@ module _ (e : Setting) (d : Disc) (spares : List ℕ) (again : writeOnce e ≡ f
         count = count₂ ∙ γ .span-is;
         same = λ b h.
             block₂ b (rw (γ .span-is) h)
-            ∙ sym (slot₂ b (rw (γ .span-is) h))
-            ∙ ap (slotAt d₂) (sym (rw (entries-flat es, ← γ .start-is) (free-place spares (e .start) b)));
+            ∙ (λ i. cond (spare-is b i) reserved (slot-is b (rw (γ .span-is) h) i));
       }
 
   -- the disc that making leaves: its copies are of sequence 0, with the spares as free entries
@@ -338,9 +351,9 @@ module _ (e : Setting) (d : Disc) (spares : List ℕ) (again : writeOnce e ≡ f
   pub made-count : length (blocksOn e (made e d spares)) ≡ e .span
   made-count = rw made-is count₂
 
-  -- each of zeros
-  pub made-zeros : (b : ℕ) → b < e .span → getD (blocksOn e (made e d spares)) b unused ≡ holds zeroBlock
-  made-zeros = rw made-is block₂
+  -- each of a spare, or of zeros
+  pub made-blocks : (b : ℕ) → b < e .span → getD (blocksOn e (made e d spares)) b unused ≡ cond (inSpare e spares b) reserved (holds zeroBlock)
+  made-blocks = rw made-is block₂
 
   -- each of its copies is the table with the spares as free entries
   pub made-stands : (t : ℕ) → In t (g .tables) → Has (made e d spares) t copy

@@ -1,6 +1,6 @@
 -- Opening a rewritable disc: it is accepted wherever the newest copies agree, and takes their table. Assumes nothing.
 use Prim.Native.Nat.{ℕ, zero, suc, _+_, _*_, _≤_, _<_}
-use mathlib.Core.Bool.{Bool, true, false}
+use mathlib.Core.Bool.{Bool, true, false, cond}
 use mathlib.Core.Path.{_≡_, refl, sym, ap, _∙_}
 use mathlib.Core.List.{List, [], _++_, append-nil}
 use native.Mathlib.Omega.{arith}
@@ -11,16 +11,16 @@ use Rattle.refusal.specs.declared.Verdict.the-variants.{Go}
 use Rattle.refusal.specs.Tests.{first}
 use Rattle.refusal.proofs.Laws.{passed}
 use Rattle.fields.proofs.Laws.{AllBytes, bytes-part}
-use Rattle.maps.specs.Kinds.{readMaps}
+use Rattle.maps.specs.Kinds.{absent, readMaps}
 use Rattle.model.specs.Disc.{Disc, sector}
 use Rattle.model.specs.Writes.{struck, noCut}
-use Rattle.model.specs.Sparing.{Geometry, Entry, entries, defectiveOf, counting, current, currentTable, currentSequence, agree, sequenceAt, locate}
+use Rattle.model.specs.Sparing.{Geometry, Entry, entries, defectiveOf, mappedOf, counting, current, currentTable, currentSequence, agree, sequenceAt, ofSpare, locate}
 use Rattle.model.specs.Examine.{Setting, writeOnce, geometry, examined, lentTable}
 use Rattle.model.specs.Once.{filledFrom}
-use Rattle.model.specs.Rewrite.{isNone, tableOn, entriesOn, copyTests, currentRecord, placeOf}
+use Rattle.model.specs.Rewrite.{isNone, tableOn, entriesOn, copyTests, currentRecord, placeOf, ofSpareOn}
 use Rattle.model.specs.Both.{openVerdict, recordOn, numbersOn, openedBy, filledBy, opening, openedTable}
 use Rattle.model.specs.Calls.{openDisc, State, Result, step, answerOfOpening, heldAfterOpening, accepted, isCut, isOpened}
-use Rattle.model.specs.Store.{unused, slotAt, placeSlots, blocksOn, start, Store, Shape, cutIn, writesIn, wasCut, taken, next}
+use Rattle.model.specs.Store.{unused, reserved, slotAt, placeSlot, placeSlots, blocksOn, start, Store, Shape, cutIn, writesIn, wasCut, taken, next}
 use Rattle.model.specs.Demand.{afterOpening, Below}
 use Rattle.model.proofs.Basics.{by-lt}
 use Rattle.model.proofs.Verdicts.{Examined, examined-tells, then-go}
@@ -30,15 +30,21 @@ use Rattle.model.proofs.OnceOpen.{filled-long}
 use Rattle.model.proofs.Ready.{Ready, Holds, LiveAgain, ready-table, ready-count, ready-sequence, table-length, examined-again, copies-go}
 use Rattle.model.proofs.Steps.{Sound}
 
--- the defective spares of a table begin with ds
-abbrev pub Keeps : List Entry → List ℕ → Type 0
-Keeps ds l = (k : List Entry) × (defectiveOf (entries l) ≡ ds ++ k)
+-- what a table keeps of the entries es that were there before: its defective spares begin with theirs, and its mapped starts are theirs
+pub record Keeps (es : List Entry) (l : List ℕ) : Type 0 where
+  pub later : List Entry
+  pub defectives : defectiveOf (entries l) ≡ defectiveOf es ++ later
+  pub starts : (m : ℕ) → absent m (mappedOf (entries l)) ≡ absent m (mappedOf es)
 
--- after a cut: a table on the disc that leads to the store's blocks, and the lent table long enough; else what holds between calls. The table's
--- defective spares begin with ds
+-- a table keeps its own
+pub keeps-own : (l : List ℕ) → Keeps (entries l) l
+keeps-own l = record { later = []; defectives = sym (append-nil (defectiveOf (entries l))); starts = λ m. refl }
+
+-- after a cut: a table on the disc that leads to the store's blocks, and the lent table long enough; else what holds between calls. The table
+-- keeps of the entries es what is kept
 unfoldable pub AgainOk : Setting → Geometry → List Entry → Bool → State → Store → Type 0
-AgainOk e g ds true st σ = (n : ℕ) × (l : List ℕ) × Ready e g (st .disc) n l (σ .blocks) × (4096 ≤ length (st .table)) × Keeps ds l
-AgainOk e g ds false st σ = (n : ℕ) × (l : List ℕ) × LiveAgain e g st n l σ × Keeps ds l
+AgainOk e g es true st σ = (n : ℕ) × (l : List ℕ) × Ready e g (st .disc) n l (σ .blocks) × (4096 ≤ length (st .table)) × Keeps es l
+AgainOk e g es false st σ = (n : ℕ) × (l : List ℕ) × LiveAgain e g st n l σ × Keeps es l
 
 -- the state after an opening that goes on
 live-opened : (e : Setting) (g : Geometry) (d : Disc) (t : List ℕ) (n : ℕ) (l : List ℕ) (σ : Store) → Ready e g d n l (σ .blocks) → 4096 ≤ length t
@@ -54,14 +60,14 @@ live-opened e g d t n l σ r long =
 
 module _ (e : Setting) (g : Geometry) (again : writeOnce e ≡ false) (γ : Ground e g) (maps-go : readMaps (e .maps) .verdict ≡ Go) where
   -- every opening is accepted, and changes no block
-  pub record ReopenedAgain (h : Shape) (ds : List Entry) (σ : Store) (r : Result) : Type 1 where
-    pub sound : Sound (AgainOk e g ds) h σ openDisc r
+  pub record ReopenedAgain (h : Shape) (es : List Entry) (σ : Store) (r : Result) : Type 1 where
+    pub sound : Sound (AgainOk e g es) h σ openDisc r
     pub accepts : isOpened (r .answer) ≡ true
 
   pub reopened-again : (h : Shape) → h .once ≡ false → (st : State) (σ : Store) (n : ℕ) (l : List ℕ) → Ready e g (st .disc) n l (σ .blocks) → 4096 ≤ length (st .table)
-      → (ds : List Entry) → Keeps ds l → ReopenedAgain h ds σ (step e st openDisc)
+      → (es : List Entry) → Keeps es l → ReopenedAgain h es σ (step e st openDisc)
   unfolding step opening openedTable openVerdict openedBy filledBy answerOfOpening heldAfterOpening accepted isCut isOpened next wasCut cutIn writesIn struck noCut taken AgainOk recordOn numbersOn lentTable
-  reopened-again h one st σ n l r long ds kept =
+  reopened-again h one st σ n l r long es kept =
       rw (examined-again e g again γ maps-go (st .disc) _ r (le-leb _ _ long), again, copies-go e g again γ maps-go (st .disc) r)
       (record {
         sound = rw one (n, l, live-opened e g (st .disc) (st .table) n l σ r long, kept);
@@ -71,20 +77,21 @@ module _ (e : Setting) (g : Geometry) (again : writeOnce e ≡ false) (γ : Grou
 -- ---- the disc that opening accepts at first
 
 -- the blocks of a rewritable disc, one by one
-pub place-slot : (e : Setting) (d : Disc) (b n i : ℕ) → i < n → getD (placeSlots e d b n) i unused ≡ slotAt d (placeOf e d (b + i))
+pub place-slot : (e : Setting) (d : Disc) (b n i : ℕ) → i < n → getD (placeSlots e d b n) i unused ≡ placeSlot e d (b + i)
 unfolding placeSlots
 place-slot e d b zero i h = absurd (omega arith)
-place-slot e d b (suc n) zero h = let q : b ≡ b + 0 = omega arith in ap (λ (x : ℕ). slotAt d (placeOf e d x)) q
+place-slot e d b (suc n) zero h = let q : b ≡ b + 0 = omega arith in ap (placeSlot e d) q
 place-slot e d b (suc n) (suc i) h =
     let q : b + 1 + i ≡ b + suc i = omega arith in
-    place-slot e d (b + 1) n i (omega arith) ∙ ap (λ (x : ℕ). slotAt d (placeOf e d x)) q
+    place-slot e d (b + 1) n i (omega arith) ∙ ap (placeSlot e d) q
 
 pub length-places : (e : Setting) (d : Disc) (b n : ℕ) → length (placeSlots e d b n) ≡ n
 unfolding placeSlots
 length-places e d b zero = refl
 length-places e d b (suc n) = ap suc (length-places e d (b + 1) n)
 
-all-bytes : (s : List ℕ) → Below 256 s → AllBytes s
+-- bytes are below 256, those past the end too
+pub all-bytes : (s : List ℕ) → Below 256 s → AllBytes s
 unfolding Below
 all-bytes s h i = by-lt i (length s) (h i) (λ q. rw (List·getD-eq-default s 0 q) (omega arith))
 
@@ -109,7 +116,7 @@ module _ (e : Setting) (again : writeOnce e ≡ false) (d : Disc) (t : List ℕ)
   first-settled = current-settled d (geometry e d) (first-tells .some) (first-tells .agreed)
 
   pub first-ready : Ready e (geometry e d) d (currentSequence d (geometry e d)) (currentTable d (geometry e d)) (blocksOn e d)
-  unfolding blocksOn sequenceAt sector placeOf entriesOn tableOn
+  unfolding blocksOn sequenceAt sector placeSlot placeOf ofSpareOn entriesOn tableOn
   first-ready =
       record {
         shape = first-tells .examines .shape;
@@ -123,16 +130,16 @@ module _ (e : Setting) (again : writeOnce e ≡ false) (d : Disc) (t : List ℕ)
             let q : 0 + b ≡ b = omega arith in
             rw again
             (place-slot e d 0 (e .span) b (rw (first-ground .span-is) h)
-            ∙ ap (λ (x : ℕ). slotAt d (placeOf e d x)) q
-            ∙ ap (λ (x : ℕ). slotAt d (locate x (entriesOn e d) b)) (first-ground .start-is));
+            ∙ ap (placeSlot e d) q
+            ∙ ap (λ (x : ℕ). cond (ofSpare x (entriesOn e d) b) reserved (slotAt d (locate x (entriesOn e d) b))) (first-ground .start-is));
       }
 
-  pub first-again : (n : ℕ) × (l : List ℕ) × LiveAgain e (geometry e d) (afterOpening e d t) n l (start e d) × Keeps (defectiveOf (entriesOn e d)) l
+  pub first-again : (n : ℕ) × (l : List ℕ) × LiveAgain e (geometry e d) (afterOpening e d t) n l (start e d) × Keeps (entriesOn e d) l
   unfolding afterOpening start openedTable filledBy recordOn numbersOn lentTable entriesOn tableOn
   first-again =
       rw (go, again) (
         currentSequence d (geometry e d),
         currentTable d (geometry e d),
         live-opened e (geometry e d) d t _ _ (start e d) first-ready (leb-true _ _ (first-tells .examines .lengths)),
-        ([], sym (append-nil (defectiveOf (entries (currentTable d (geometry e d)))))),
+        keeps-own (currentTable d (geometry e d)),
       )

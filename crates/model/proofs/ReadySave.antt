@@ -1,5 +1,6 @@
 -- Saving a block or a packet on a rewritable disc keeps the invariant, wherever it is cut. Assumes nothing.
 use Prim.Native.Nat.{ℕ, _+_, _-_, _*_, _%_, _≤_, _<_}
+use mathlib.Core.Bool.{false}
 use mathlib.Core.Logic.{_≢_, _⊎_, inl, inr}
 use mathlib.Core.Path.{_≡_, sym, ap, _∙_}
 use mathlib.Core.List.{List}
@@ -9,15 +10,15 @@ use Rattle.fields.specs.Bytes.{part}
 use Rattle.model.specs.declared.Cut.{Cut}
 use Rattle.model.specs.Disc.{Disc, sector, mark, inside}
 use Rattle.model.specs.Writes.{landing, landed, writes, upward}
-use Rattle.model.specs.Sparing.{Geometry, entries, tableAt, packetOf, locate}
+use Rattle.model.specs.Sparing.{Geometry, entries, tableAt, packetOf, ofSpare, locate}
 use Rattle.model.specs.Examine.{Setting, geometry}
 use Rattle.model.specs.Store.{Slot, holds, unused, slotAt, slotAfter}
-use Rattle.model.proofs.Basics.{by-lt, by-eq}
+use Rattle.model.proofs.Basics.{by-lt, by-eq, cond-elim}
 use Rattle.model.proofs.Sectors.{Made, Placed, shapely-made, writes-marks-length, writes-shapely, writes-inside, writes-other}
 use Rattle.model.proofs.SectorsRuns.{placed-upward, elsewhere-upward, upward-sector, upward-mark}
-use Rattle.model.proofs.SparingLaws.{In, packet-rest, packet-inside, packet-start, locate-on, locate-apart, locate-packet, locate-not-table, SameAt, counts-agree, sequence-agree, Settled}
+use Rattle.model.proofs.SparingLaws.{In, packet-rest, packet-inside, packet-start, packet-own, spare-packet, locate-on, locate-apart, locate-packet, locate-not-table, SameAt, counts-agree, sequence-agree, Settled}
 use Rattle.model.proofs.Ground.{Ground, geometry-same}
-use Rattle.model.proofs.Ready.{Ready, ready-fits}
+use Rattle.model.proofs.Ready.{Ready, ready-fits, same-place, same-spare}
 use Rattle.model.proofs.Slots.{slot-same, slot-landed}
 
 -- a number is in a run of 32, or outside it
@@ -58,6 +59,10 @@ module _ (e : Setting) (g : Geometry) (γ : Ground e g) (d : Disc) (n : ℕ) (l 
   pub at-place : (i : ℕ) → i < 32 → locate (g .start) (entries l) (p + i) ≡ q + i
   at-place i h = locate-packet g (entries l) (ready-fits r) (γ .start-32) (γ .span-32) p i multiple h
 
+  -- where it belongs to no spare, none of its blocks does
+  pub in-place : ofSpare (g .start) (entries l) p ≡ false → (i : ℕ) → i < 32 → ofSpare (g .start) (entries l) (p + i) ≡ false
+  in-place own-place i h = spare-packet (g .start) (entries l) (p + i) p (packet-start p i multiple h ∙ sym (packet-own p multiple)) ∙ own-place
+
   pub on-disc : q + 32 ≤ length (d .marks)
   on-disc =
       omega (arith, sectors, at-place 31 (omega arith), locate-on g (entries l) (ready-fits r) (γ .start-32) (γ .span-32) (p + 31) (in-packet 31 (omega arith)) (γ .inside))
@@ -66,7 +71,7 @@ module _ (e : Setting) (g : Geometry) (γ : Ground e g) (d : Disc) (n : ℕ) (l 
   made = shapely-made d (r .shape)
 
   -- 32 writes upward to it
-  module _ (x : List ℕ) (long : length x ≡ 65536) (c : Cut) where
+  module _ (own-place : ofSpare (g .start) (entries l) p ≡ false) (x : List ℕ) (long : length x ≡ 65536) (c : Cut) where
     -- the disc after them
     abbrev d′ : Disc
     d′ = writes 1 c (upward 32 q x 0) d
@@ -117,16 +122,21 @@ module _ (e : Setting) (g : Geometry) (γ : Ground e g) (d : Disc) (n : ℕ) (l 
               (λ w.
               let i : ℕ = b % 32 in
               let bi : b ≡ p + i = omega (arith, packet-rest b) in
-              rw bi
+              rw (bi, in-place own-place i (omega arith))
               (own i (omega arith)
-              ∙ ap (λ (y : Slot). slotAfter (landing (1 + i) c) y (holds (part x (0 + 2048 * i) 2048))) (r .same (p + i) (omega arith) ∙ ap (slotAt d) (at-place i (omega arith)))
+              ∙ ap (λ (y : Slot). slotAfter (landing (1 + i) c) y (holds (part x (0 + 2048 * i) 2048)))
+              (same-place r (p + i) (omega arith) (in-place own-place i (omega arith)) ∙ ap (slotAt d) (at-place i (omega arith)))
               ∙ sym (slot-written i (omega arith))
               ∙ ap (slotAt d′) (sym (at-place i (omega arith)))))
               (λ w.
+              other b w
+              ∙ cond-elim (λ (z : Slot). getD bs b unused ≡ z) (ofSpare (g .start) (entries l) b)
+              (λ u. same-spare r b h u)
+              (λ u.
               let y : ℕ = locate (g .start) (entries l) b in
               let k = kept y (run-cases y q
-              (λ j u v. absurd (locate-apart g (entries l) (ready-fits r) (γ .start-32) (γ .span-32) b (p + j) h (in-packet j u)
-              (λ z. w (ap packetOf z ∙ packet-start p j multiple u)) (v ∙ sym (at-place j u))))
-              (λ u. u)) in
-              other b w ∙ r .same b h ∙ sym (slot-same d′ d y y (k .0) (k .1)));
+              (λ j a v. absurd (locate-apart g (entries l) (ready-fits r) (γ .start-32) (γ .span-32) b (p + j) u (in-place own-place j a)
+              (λ z. w (ap packetOf z ∙ packet-start p j multiple a)) (v ∙ sym (at-place j a))))
+              (λ a. a)) in
+              same-place r b h u ∙ sym (slot-same d′ d y y (k .0) (k .1))));
         }

@@ -7,27 +7,28 @@ use mathlib.Core.Path.{_≡_, refl, sym, ap, ap₂, subst, _∙_}
 use mathlib.Core.List.{List, [], _∷_, _++_, append-assoc}
 use native.Mathlib.Omega.{arith}
 use lib.Dec.{leb, eqb}
-use lib.ListN.{length, drop, length-append}
+use lib.ListN.{length, getD, drop, length-append}
 use lib.Seq.{take-at}
 use borrow.Author.Tests.{leb-true, ltb-true, eqb-true, eqb-false, not-true}
 use Rattle.fields.specs.Bytes.{part}
+use Rattle.maps.specs.Kinds.{absent}
 use Rattle.model.specs.declared.Cut.{Cut}
 use Rattle.model.specs.declared.Landing.{Landing}
 use Rattle.model.specs.Disc.{Disc, sector, mark, recorded, shapely, inside}
 use Rattle.model.specs.Writes.{Write, landing, landed, write, writes, upward, struck}
-use Rattle.model.specs.Sparing.{Geometry, Entry, entries, flat, usedOf, defectiveOf, freeOf, firstFree, turnedDefective, resorted, writtenTable, entriesFit, counts, counting, current, sequenceAt, sequenceIn, tableAt, tableIn, copyFits, packetOf, locate}
+use Rattle.model.specs.Sparing.{Geometry, Entry, entries, flat, usedOf, defectiveOf, freeOf, mappedOf, firstFree, turnedDefective, resorted, writtenTable, entriesFit, counts, counting, current, sequenceAt, sequenceIn, tableAt, tableIn, copyFits, packetOf, ofSpare, locate}
 use Rattle.model.specs.Examine.{Setting, geometry, lentTable}
 use Rattle.model.specs.Once.{filledFrom}
-use Rattle.model.specs.Rewrite.{isNone, noEntry, entriesOn, stale, copiesTo, copyOrder, packetWrites, packetTests, packetLent, spareTests, sparedTable, spareWrites, sparePlan}
+use Rattle.model.specs.Rewrite.{isNone, noEntry, entriesOn, stale, copiesTo, copyOrder, packetWrites, packetTests, spareTest, packetLent, spareTests, sparedTable, spareWrites, sparePlan}
 use Rattle.model.specs.Calls.{sparePacket, State, step}
-use Rattle.model.specs.Store.{Slot, holds, slotAt, slotAfter, puts, slotsIn, Store, Shape, cutIn, writesIn, taken}
-use Rattle.model.proofs.Basics.{by-eq, and-true}
+use Rattle.model.specs.Store.{Slot, holds, unused, slotAt, slotAfter, puts, slotsIn, Store, Shape, cutIn, writesIn, taken}
+use Rattle.model.proofs.Basics.{by-eq, cond-elim, and-true}
 use Rattle.model.proofs.Sectors.{Made, Placed, Elsewhere, shapely-made, landed-made, landed-marks-length, sector-other, mark-other, sector-done, mark-done, mark-unreadable, sector-unreadable, writes-marks-length, writes-shapely, writes-inside, writes-made, writes-other, writes-append, landing-uncut, landing-done-before, landing-lost}
 use Rattle.model.proofs.SectorsRuns.{length-upward, placed-upward, elsewhere-upward, upward-sector, upward-mark}
-use Rattle.model.proofs.SparingLaws.{In, Distinct, multiple-none, multiple-defective, resorted-defective, entries-flat, tables-distinct, length-written, written-sequence, written-table, written-fits, resorted-length, resorted-fits, packet-rest, packet-inside, table-outside, locate-not-table, locate-not-free, free-not-table, free-on, locate-spared, locate-unspared, current-some, current-table, current-counting, current-sequence, current-distinct, counting-counts, stale-in, copy-order-length, copy-order-in, copy-order-distinct, length-copies, SameAt, counts-agree, sequence-agree, counts-recorded, fits-counts, Settled, settled-some, settled-sequence}
+use Rattle.model.proofs.SparingLaws.{In, Distinct, multiple-none, multiple-defective, resorted-defective, entries-flat, tables-distinct, length-written, written-sequence, written-table, written-fits, resorted-length, resorted-starts, resorted-fits, packet-rest, packet-inside, packet-own, packet-unmapped, spare-same, spare-packet, first-free, table-outside, locate-not-table, locate-not-free, free-not-table, free-on, locate-spared, locate-unspared, current-some, current-table, current-counting, current-sequence, current-distinct, counting-counts, stale-in, copy-order-length, copy-order-in, copy-order-distinct, length-copies, SameAt, counts-agree, sequence-agree, counts-recorded, fits-counts, Settled, settled-some, settled-sequence}
 use Rattle.model.proofs.Cuts.{spared-cut}
 use Rattle.model.proofs.Ground.{Ground, geometry-same}
-use Rattle.model.proofs.Ready.{Ready, Holds, LiveAgain, ready-fits, ready-entries, ready-count, ready-sequence, table-length}
+use Rattle.model.proofs.Ready.{Ready, Holds, LiveAgain, ready-fits, ready-entries, ready-count, ready-sequence, ready-spare, same-place, same-spare, table-length}
 use Rattle.model.proofs.ReadyOpen.{Keeps, AgainOk}
 use Rattle.model.proofs.ReadySave.{run-cases, settled-same}
 use Rattle.model.proofs.ReadyCalls.{again-tells, other-packet}
@@ -171,7 +172,7 @@ counts-mark d g t h = eqb-true _ _ (counts-recorded d g t h)
 
 -- ---- the sparing of packet b
 module _ (e : Setting) (g : Geometry) (γ : Ground e g) (d : Disc) (n : ℕ) (l : List ℕ) (bs : List Slot) (r : Ready e g d n l bs)
-    (b : ℕ) (x : List ℕ) (c : Cut) (multiple : b % 32 ≡ 0) (below : b < g .span) (long : length x ≡ 65536) (two : 2 ≤ length (g .tables))
+    (b : ℕ) (x : List ℕ) (c : Cut) (multiple : b % 32 ≡ 0) (below : b < g .span) (own-place : ofSpare (g .start) (entries l) b ≡ false) (long : length x ≡ 65536) (two : 2 ≤ length (g .tables))
     (some : noEntry (freeOf (entries l)) ≡ false) (more : n ≢ 4294967295) where
   -- the spare, the new entries and the new copy
   abbrev m : ℕ
@@ -220,10 +221,10 @@ module _ (e : Setting) (g : Geometry) (γ : Ground e g) (d : Disc) (n : ℕ) (l 
       (λ j h w. absurd (free-not-table g (entries l) (ready-fits r) (γ .start-32) (γ .span-32) t 0 j (γ .outside) i some (omega arith) h (omega arith)))
       (λ h. h)
 
-  block-away : (y : ℕ) → y < g .span → (locate (g .start) (entries l) y < m) ⊎ (m + 32 ≤ locate (g .start) (entries l) y)
+  block-away : (y : ℕ) → ofSpare (g .start) (entries l) y ≡ false → (locate (g .start) (entries l) y < m) ⊎ (m + 32 ≤ locate (g .start) (entries l) y)
   block-away y h =
       run-cases (locate (g .start) (entries l) y) m
-      (λ j u w. absurd (locate-not-free g (entries l) (ready-fits r) (γ .start-32) (γ .span-32) y j h some u w))
+      (λ j u w. absurd (locate-not-free g (entries l) (ready-fits r) (γ .start-32) (γ .span-32) y m j h (first-free (freeOf (entries l)) some) u w))
       (λ u. u)
 
   same₁ : SameAt d₁ d (g .tables)
@@ -240,7 +241,7 @@ module _ (e : Setting) (g : Geometry) (γ : Ground e g) (d : Disc) (n : ℕ) (l 
 
   -- ---- the copies
   fits′ : entriesFit g es′ ≡ true
-  fits′ = resorted-fits g (entries l) b (ready-fits r) multiple below span-small some
+  fits′ = resorted-fits g (entries l) b (ready-fits r) multiple below span-small some (packet-unmapped (g .start) (entries l) b multiple own-place)
 
   small′ : n + 1 < 4294967296
   small′ = omega (arith, r .small)
@@ -278,10 +279,10 @@ module _ (e : Setting) (g : Geometry) (γ : Ground e g) (d : Disc) (n : ℕ) (l 
       (inl (copy-order-in e d t .1 (rw (r .geo) i)))
 
   -- a block that is read through the old table reads as before
-  slot-kept : (y : ℕ) → y < g .span → slotAt d₂ (locate (g .start) (entries l) y) ≡ slotAt d (locate (g .start) (entries l) y)
-  slot-kept y h =
+  slot-kept : (y : ℕ) → y < g .span → ofSpare (g .start) (entries l) y ≡ false → slotAt d₂ (locate (g .start) (entries l) y) ≡ slotAt d (locate (g .start) (entries l) y)
+  slot-kept y h u =
       let p : ℕ = locate (g .start) (entries l) y in
-      let a = kept₁ p (block-away y h) in
+      let a = kept₁ p (block-away y u) in
       let w = kept₂ p (λ t i q. locate-not-table g (entries l) (ready-fits r) (γ .start-32) (γ .span-32) y t 0 h (γ .outside) i (omega arith) (omega (arith, q))) in
       slot-same d₂ d p p (w .0 ∙ a .0) (w .1 ∙ a .1)
 
@@ -352,7 +353,10 @@ module _ (e : Setting) (g : Geometry) (γ : Ground e g) (d : Disc) (n : ℕ) (l 
           small = r .small;
           even = r .even;
           count = r .count;
-          same = λ y h. r .same y h ∙ sym (slot-kept y h);
+          same = λ y h.
+              cond-elim (λ (z : Slot). getD bs y unused ≡ z) (ofSpare (g .start) (entries l) y)
+              (λ u. same-spare r y h u)
+              (λ u. same-place r y h u ∙ sym (slot-kept y h u));
         }
 
   -- ---- where it is whole the packet is spared
@@ -433,6 +437,10 @@ module _ (e : Setting) (g : Geometry) (γ : Ground e g) (d : Disc) (n : ℕ) (l 
     fits-blocks : b + length (slotsIn 32 x 0) ≤ length bs
     fits-blocks = omega (arith, length-blocks 32 x 0, r .count, packet-inside b (g .span) (γ .span-32) below, packet-rest b)
 
+    -- the new table has the spares of the old one
+    spares-same : (y : ℕ) → ofSpare (g .start) es′ y ≡ ofSpare (g .start) (entries l) y
+    spares-same y = spare-same (g .start) es′ (entries l) y (resorted-starts g (entries l) b (ready-fits r) multiple below span-small some)
+
     pub spare-done : Ready e g d₂ (n + 1) (flat es′) (puts bs b (slotsIn 32 x 0))
     spare-done =
         record {
@@ -444,39 +452,47 @@ module _ (e : Setting) (g : Geometry) (γ : Ground e g) (d : Disc) (n : ℕ) (l 
           even = ap flat (entries-flat es′);
           count = length-puts bs b (slotsIn 32 x 0) ∙ r .count;
           same = λ y h.
-              rw (entries-flat es′)
+              rw (entries-flat es′, spares-same y)
               (by-eq (packetOf y) b
               (λ w.
               let j : ℕ = y % 32 in
               let yj : y ≡ b + j = omega (arith, packet-rest y) in
-              rw yj
+              let u : ofSpare (g .start) (entries l) y ≡ false = spare-packet (g .start) (entries l) y b (w ∙ sym (packet-own b multiple)) ∙ own-place in
+              rw (u, yj)
               (puts-inside bs b (slotsIn 32 x 0) j (rw (length-blocks 32 x 0) (omega arith)) fits-blocks
               ∙ block-in 32 x 0 j (omega arith)
               ∙ sym (spare-slot j (omega arith))
               ∙ ap (slotAt d₂) (sym (locate-spared g (entries l) b (ready-fits r) multiple below span-small some j (omega arith)))))
               (λ w.
               puts-other bs b (slotsIn 32 x 0) y (rw (length-blocks 32 x 0) (other-packet b y multiple w))
-              ∙ r .same y h
-              ∙ sym (slot-kept y h)
-              ∙ ap (slotAt d₂) (sym (locate-unspared g (entries l) b (ready-fits r) multiple below span-small some y h w))));
+              ∙ cond-elim (λ (z : Slot). getD bs y unused ≡ z) (ofSpare (g .start) (entries l) y)
+              (λ u. same-spare r y h u)
+              (λ u.
+              same-place r y h u
+              ∙ sym (slot-kept y h u)
+              ∙ ap (slotAt d₂) (sym (locate-unspared g (entries l) b (ready-fits r) multiple below span-small some y h w)))));
         }
 
 -- ---- the call
 
--- the defective spares stay, and are the first
-keeps-spared : (ds : List Entry) (l : List ℕ) (b : ℕ) → b % 32 ≡ 0 → Keeps ds l → Keeps ds (flat (resorted (entries l) b))
-keeps-spared ds l b m (k, q) = (
-  k ++ turnedDefective b (usedOf (entries l)),
-  ap defectiveOf (entries-flat (resorted (entries l) b))
-      ∙ resorted-defective (entries l) b (multiple-none b m) (multiple-defective b m)
-      ∙ ap (λ (x : List Entry). x ++ turnedDefective b (usedOf (entries l))) q
-      ∙ append-assoc ds k (turnedDefective b (usedOf (entries l))),
-)
+-- the defective spares stay, and are the first; and so do the mapped starts
+keeps-spared : (es : List Entry) (l : List ℕ) (b : ℕ) → b % 32 ≡ 0 → ((m : ℕ) → absent m (mappedOf (resorted (entries l) b)) ≡ absent m (mappedOf (entries l)))
+    → Keeps es l → Keeps es (flat (resorted (entries l) b))
+keeps-spared es l b m starts k =
+    record {
+      later = k .later ++ turnedDefective b (usedOf (entries l));
+      defectives =
+          ap defectiveOf (entries-flat (resorted (entries l) b))
+          ∙ resorted-defective (entries l) b (multiple-none b m) (multiple-defective b m)
+          ∙ ap (λ (x : List Entry). x ++ turnedDefective b (usedOf (entries l))) (k .defectives)
+          ∙ append-assoc (defectiveOf es) (k .later) (turnedDefective b (usedOf (entries l)));
+      starts = λ x. ap (λ (e : List Entry). absent x (mappedOf e)) (entries-flat (resorted (entries l) b)) ∙ starts x ∙ k .starts x;
+    }
 
 -- a packet to the same place and the same copies in the same order
-same-spare : (p q : ℕ) (x : List ℕ) (o o′ : List ℕ) (m n : ℕ) (l l′ : List ℕ) → p ≡ q → o ≡ o′ → m ≡ n → l ≡ l′
+same-writes : (p q : ℕ) (x : List ℕ) (o o′ : List ℕ) (m n : ℕ) (l l′ : List ℕ) → p ≡ q → o ≡ o′ → m ≡ n → l ≡ l′
     → upward 32 p x 0 ++ copiesTo o (writtenTable m l) ≡ upward 32 q x 0 ++ copiesTo o′ (writtenTable n l′)
-same-spare p q x o o′ m n l l′ a b c d = λ i. upward 32 (a i) x 0 ++ copiesTo (b i) (writtenTable (c i) (d i))
+same-writes p q x o o′ m n l l′ a b c d = λ i. upward 32 (a i) x 0 ++ copiesTo (b i) (writtenTable (c i) (d i))
 
 -- the writes of a sparing, by the table on the disc
 spare-writes : (e : Setting) (g : Geometry) (d : Disc) (n : ℕ) (l : List ℕ) (bs : List Slot) (b : ℕ) (x : List ℕ) → Ready e g d n l bs
@@ -486,7 +502,7 @@ spare-writes : (e : Setting) (g : Geometry) (d : Disc) (n : ℕ) (l : List ℕ) 
 unfolding spareWrites packetWrites copyOrder sparedTable
 spare-writes e g d n l bs b x r =
     let m = ready-sequence r in
-    same-spare _ _ x _ _ _ _ _ _ (ap (λ (es : List Entry). firstFree (freeOf es)) (ready-entries r)) (cc) (omega arith) (ap (λ (es : List Entry). flat (resorted es b)) (ready-entries r))
+    same-writes _ _ x _ _ _ _ _ _ (ap (λ (es : List Entry). firstFree (freeOf es)) (ready-entries r)) (cc) (omega arith) (ap (λ (es : List Entry). flat (resorted es b)) (ready-entries r))
 
 -- they are 32, and one for each table
 spare-count : (e : Setting) (g : Geometry) (d : Disc) (n : ℕ) (l : List ℕ) (bs : List Slot) (b : ℕ) (x : List ℕ) → Ready e g d n l bs
@@ -501,10 +517,10 @@ spare-count e g d n l bs b x r =
 
 module _ (e : Setting) (g : Geometry) (γ : Ground e g) (h : Shape) (copies : h .tables ≡ length (g .tables)) (st : State) (σ : Store) (n : ℕ) (l : List ℕ) (i : LiveAgain e g st n l σ) (b : ℕ) (x : List ℕ) (c : Cut) where
   -- a sparing, refused, cut or carried out
-  pub sound-spare : (ds : List Entry) → Keeps ds l → Sound (AgainOk e g ds) h σ (sparePacket b x c) (step e st (sparePacket b x c))
-  unfolding step sparePlan AgainOk cutIn writesIn taken spareTests packetTests packetLent sparedTable Holds filledFrom struck
-  sound-spare ds kept =
-      sound-plan (AgainOk e g ds) h σ (sparePacket b x c) c st _ _ _ _ (n, l, i, kept) λ go.
+  pub sound-spare : (es : List Entry) → Keeps es l → Sound (AgainOk e g es) h σ (sparePacket b x c) (step e st (sparePacket b x c))
+  unfolding step sparePlan AgainOk cutIn writesIn taken spareTests packetTests spareTest packetLent sparedTable Holds filledFrom struck
+  sound-spare es kept =
+      sound-plan (AgainOk e g es) h σ (sparePacket b x c) c st _ _ _ _ (n, l, i, kept) λ go.
       let d : Disc = st .disc in
       let p = again-tells e d (st .table) _ (st .held) (spareTests e d b) go in
       let u = and-true (lentTable (st .table)) _ (p .0 .lengths) in
@@ -513,9 +529,12 @@ module _ (e : Setting) (g : Geometry) (γ : Ground e g) (h : Shape) (copies : h 
       let multiple : b % 32 ≡ 0 = eqb-true _ _ (v .0) in
       let below : b < g .span = rw (← γ .span-is) (ltb-true _ _ (v .1)) in
       let long : length x ≡ 65536 = eqb-true _ _ (u .1) in
-      let two : 2 ≤ length (g .tables) = leb-true _ _ (rw (r .geo) at (p .1 .1 .0)) in
-      let some : noEntry (freeOf (entries l)) ≡ false = not-true _ (rw (ready-entries r) at (p .1 .1 .1 .0)) in
-      let more : n ≢ 4294967295 = eqb-false _ _ (not-true _ (rw (ready-sequence r) at (p .1 .1 .1 .1 .0))) in
+      let own-place : ofSpare (g .start) (entries l) b ≡ false = sym (ready-spare γ r b) ∙ not-true _ (p .1 .1 .0) in
+      let two : 2 ≤ length (g .tables) = leb-true _ _ (rw (r .geo) at (p .1 .1 .1 .0)) in
+      let some : noEntry (freeOf (entries l)) ≡ false = not-true _ (rw (ready-entries r) at (p .1 .1 .1 .1 .0)) in
+      let more : n ≢ 4294967295 = eqb-false _ _ (not-true _ (rw (ready-sequence r) at (p .1 .1 .1 .1 .1 .0))) in
+      let small : g .span ≤ 1048576 = omega (arith, γ .inside, γ .sectors) in
+      let still = keeps-spared es l b multiple (resorted-starts g (entries l) b (ready-fits r) multiple below small some) kept in
       let ws : List Write = spareWrites e d b x in
       let o : List ℕ = copyOrder e d in
       let tb : List ℕ = writtenTable (n + 1) (flat (resorted (entries l) b)) in
@@ -527,20 +546,20 @@ module _ (e : Setting) (g : Geometry) (γ : Ground e g) (h : Shape) (copies : h 
       ∙ writes-append 1 c up (copiesTo o tb) d
       ∙ ap (λ (y : ℕ). writes (1 + y) c (copiesTo o tb) (writes 1 c up d)) (length-upward 32 (firstFree (freeOf (entries l))) x 0) in
       let same-count : length (resorted (entries l) b) ≡ length (entries l) =
-      resorted-length g (entries l) b (ready-fits r) multiple below (omega (arith, γ .inside, γ .sectors)) some in
-      sound-carried (AgainOk e g ds) h σ (sparePacket b x c) c st _ _ _ refl (ap (λ (y : ℕ). 32 + y) copies ∙ sym ln)
+      resorted-length g (entries l) b (ready-fits r) multiple below small some in
+      sound-carried (AgainOk e g es) h σ (sparePacket b x c) c st _ _ _ refl (ap (λ (y : ℕ). 32 + y) copies ∙ sym ln)
       (λ k.
       let at-least : 1 ≤ c .at = leb-true _ _ (and-true (leb 1 (c .at)) _ k .0) in
-      spared-cut h σ b x c (AgainOk e g ds true (record { disc = writes 1 c ws d; table = st .table; held = st .held })) at-least
+      spared-cut h σ b x c (AgainOk e g es true (record { disc = writes 1 c ws d; table = st .table; held = st .held })) at-least
       (λ w.
       rw e₂ (
         n + 1,
         flat (resorted (entries l) b),
-        spare-done e g γ d n l (σ .blocks) r b x c multiple below long two some more w,
+        spare-done e g γ d n l (σ .blocks) r b x c multiple below own-place long two some more w,
         i .lent,
-        keeps-spared ds l b multiple kept,
+        still,
       ))
-      (λ w. rw e₂ (n, l, spare-torn e g γ d n l (σ .blocks) r b x c multiple below long two some more w, i .lent, kept)))
+      (λ w. rw e₂ (n, l, spare-torn e g γ d n l (σ .blocks) r b x c multiple below own-place long two some more w, i .lent, kept)))
       (λ k.
       let w : landing 33 c ≡ Landing.Done = landing-uncut 33 (length ws) c k (omega arith) (omega (arith, ln)) in
       let l′ : List ℕ = flat (resorted (entries l) b) in
@@ -548,14 +567,14 @@ module _ (e : Setting) (g : Geometry) (γ : Ground e g) (h : Shape) (copies : h 
         n + 1,
         l′,
         record {
-          ready = rw e₂ (spare-done e g γ d n l (σ .blocks) r b x c multiple below long two some more w);
+          ready = rw e₂ (spare-done e g γ d n l (σ .blocks) r b x c multiple below own-place long two some more w);
           held = (ready-count r ∙ sym R, ap (λ (y : ℕ). y + 1) (ready-sequence r));
           front =
               rw (ready-entries r)
               (take-at l′ (drop (length l′) (st .table)) (2 * length (entries l′)) (table-length l′ (ap flat (entries-flat (resorted (entries l) b)))));
           lent = omega (arith, filled-long (flat (resorted (entriesOn e d) b)) (st .table), i .lent);
         },
-        keeps-spared ds l b multiple kept,
+        still,
       ))
 
   -- its answer says that it was cut exactly if the plain store knows it

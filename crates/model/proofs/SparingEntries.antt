@@ -1,17 +1,17 @@
 -- The entries of a sparing table: flat and back, used, defective and free ones, and their mapped starts. Assumes nothing.
 use Prim.Native.Nat.{ℕ, zero, suc, _+_, _*_, _%_, _≤_, _<_}
-use mathlib.Core.Bool.{true, false, not, _&&_, true≢false, false≢true}
-use mathlib.Core.Logic.{_≢_, inl, inr, ⊎-elim}
+use mathlib.Core.Bool.{Bool, true, false, not, _&&_, true≢false, false≢true}
+use mathlib.Core.Logic.{_≢_, _⊎_, inl, inr, ⊎-elim}
 use mathlib.Core.Path.{_≡_, refl, sym, ap, _∙_}
 use mathlib.Core.List.{List, [], _∷_, _++_}
 use native.Mathlib.Omega.{arith}
 use lib.Dec.{leb, ltb, eqb}
-use lib.ListN.{length}
-use borrow.Author.Tests.{ltb-true, leb-true, eqb-true, eq-eqb, ne-eqb, lt-ltb}
+use lib.ListN.{length, getD}
+use borrow.Author.Tests.{ltb-true, leb-true, eqb-true, eq-eqb, ne-eqb, lt-ltb, le-leb}
 use Rattle.fields.specs.Number.{field, words}
 use Rattle.maps.specs.Kinds.{absent}
 use Rattle.model.specs.Vat.{none}
-use Rattle.model.specs.Sparing.{Geometry, Entry, countIn, tableIn, entries, flat, isFree, defective, isDefective, isUsed, usedOf, defectiveOf, freeOf, originalFits, originalsFit, mayFollow, ascending, apartFrom, outside, mappedOf, mappedFit, entriesFit, Spot, mappedTo, inPlace, spotOf, firstFree}
+use Rattle.model.specs.Sparing.{Geometry, Entry, countIn, tableIn, entries, flat, isFree, defective, isDefective, isUsed, usedOf, defectiveOf, freeOf, originalFits, originalsFit, mayFollow, ascending, apartFrom, wholePacket, mappedOf, mappedFit, originalClear, originalsClear, entriesFit, Spot, mappedTo, inPlace, spotOf, firstFree}
 use Rattle.model.specs.Rewrite.{noEntry}
 use Rattle.model.proofs.Basics.{and-true, and-false-left, both, by-eq, cond-elim, or-cases, or-left, or-right, other}
 use Rattle.model.proofs.SparingLists.{In, absent-not-in, not-in-absent}
@@ -32,35 +32,51 @@ length-flat (e ∷ l) = omega (arith, length-flat l)
 
 -- ---- what the copy rule says
 
+-- its parts
+record Rule (g : Geometry) (es : List Entry) : Type 0 where
+  size : leb (56 + 8 * length es) (g .size) ≡ true
+  originals : originalsFit (g .span) es ≡ true
+  ascends : ascending es ≡ true
+  mapped : mappedFit g es ≡ true
+  clear : originalsClear (g .start) (mappedOf es) es ≡ true
+
+rule : (g : Geometry) (es : List Entry) → entriesFit g es ≡ true → Rule g es
+unfolding entriesFit
+rule g es h =
+    let m : Bool = mappedFit g es in
+    let c : Bool = originalsClear (g .start) (mappedOf es) es in
+    let a = and-true (leb (56 + 8 * length es) (g .size)) (originalsFit (g .span) es && (ascending es && (m && c))) h in
+    let b = and-true (originalsFit (g .span) es) (ascending es && (m && c)) (a .1) in
+    let r = and-true (ascending es) (m && c) (b .1) in
+    let q = and-true m c (r .1) in
+    record { size = a .0; originals = b .0; ascends = r .0; mapped = q .0; clear = q .1 }
+
 -- the entries fit the map's size
 pub fits-size : (g : Geometry) (es : List Entry) → entriesFit g es ≡ true → 56 + 8 * length es ≤ g .size
-unfolding entriesFit
-fits-size g es h =
-    leb-true (56 + 8 * length es) (g .size)
-    (and-true (leb (56 + 8 * length es) (g .size)) (originalsFit (g .span) es && (ascending es && mappedFit g es)) h .0)
+fits-size g es h = leb-true (56 + 8 * length es) (g .size) (rule g es h .size)
 
 -- the originals fit
 pub fits-originals : (g : Geometry) (es : List Entry) → entriesFit g es ≡ true → originalsFit (g .span) es ≡ true
-unfolding entriesFit
-fits-originals g es h =
-    and-true (originalsFit (g .span) es) (ascending es && mappedFit g es)
-    (and-true (leb (56 + 8 * length es) (g .size)) (originalsFit (g .span) es && (ascending es && mappedFit g es)) h .1) .0
+fits-originals g es h = rule g es h .originals
 
 -- they ascend
 pub fits-ascending : (g : Geometry) (es : List Entry) → entriesFit g es ≡ true → ascending es ≡ true
-unfolding entriesFit
-fits-ascending g es h =
-    and-true (ascending es) (mappedFit g es)
-    (and-true (originalsFit (g .span) es) (ascending es && mappedFit g es)
-    (and-true (leb (56 + 8 * length es) (g .size)) (originalsFit (g .span) es && (ascending es && mappedFit g es)) h .1) .1) .0
+fits-ascending g es h = rule g es h .ascends
 
 -- the mapped starts fit
 pub fits-mapped : (g : Geometry) (es : List Entry) → entriesFit g es ≡ true → mappedFit g es ≡ true
+fits-mapped g es h = rule g es h .mapped
+
+-- no original is a packet that is mapped
+pub fits-clear : (g : Geometry) (es : List Entry) → entriesFit g es ≡ true → originalsClear (g .start) (mappedOf es) es ≡ true
+fits-clear g es h = rule g es h .clear
+
+-- the rule from its parts
+pub fits-all : (g : Geometry) (es : List Entry) → 56 + 8 * length es ≤ g .size → originalsFit (g .span) es ≡ true → ascending es ≡ true → mappedFit g es ≡ true
+    → originalsClear (g .start) (mappedOf es) es ≡ true → entriesFit g es ≡ true
 unfolding entriesFit
-fits-mapped g es h =
-    and-true (ascending es) (mappedFit g es)
-    (and-true (originalsFit (g .span) es) (ascending es && mappedFit g es)
-    (and-true (leb (56 + 8 * length es) (g .size)) (originalsFit (g .span) es && (ascending es && mappedFit g es)) h .1) .1) .1
+fits-all g es size originals ascends mapped clear =
+    both (le-leb (56 + 8 * length es) (g .size) size) (both originals (both ascends (both mapped clear)))
 
 -- ---- originals
 
@@ -250,28 +266,28 @@ three-parts g es h s = parts-in-order (g .span) es s (fits-ascending g es h) (fi
 -- ---- mapped starts
 
 -- the parts of the rule for the first entry, and the rule for the others
-pub mapped-first : (g : Geometry) (e : Entry) (l : List Entry) → mappedFit g (e ∷ l) ≡ true → (outside g (e .mapped) ≡ true) × (apartFrom (e .mapped) (g .tables) ≡ true) × (absent (e .mapped) (mappedOf l) ≡ true) × (mappedFit g l ≡ true)
+pub mapped-first : (g : Geometry) (e : Entry) (l : List Entry) → mappedFit g (e ∷ l) ≡ true → (wholePacket g (e .mapped) ≡ true) × (apartFrom (e .mapped) (g .tables) ≡ true) × (absent (e .mapped) (mappedOf l) ≡ true) × (mappedFit g l ≡ true)
 unfolding mappedFit
 mapped-first g e l h =
-    let a = and-true (outside g (e .mapped)) (apartFrom (e .mapped) (g .tables) && (absent (e .mapped) (mappedOf l) && mappedFit g l)) h in
+    let a = and-true (wholePacket g (e .mapped)) (apartFrom (e .mapped) (g .tables) && (absent (e .mapped) (mappedOf l) && mappedFit g l)) h in
     let b = and-true (apartFrom (e .mapped) (g .tables)) (absent (e .mapped) (mappedOf l) && mappedFit g l) (a .1) in
     let c = and-true (absent (e .mapped) (mappedOf l)) (mappedFit g l) (b .1) in
     (a .0, b .0, c .0, c .1)
 
 -- the rule from its parts
-pub mapped-cons : (g : Geometry) (e : Entry) (l : List Entry) → outside g (e .mapped) ≡ true → apartFrom (e .mapped) (g .tables) ≡ true → (In (e .mapped) (mappedOf l) → ⊥) → mappedFit g l ≡ true → mappedFit g (e ∷ l) ≡ true
+pub mapped-cons : (g : Geometry) (e : Entry) (l : List Entry) → wholePacket g (e .mapped) ≡ true → apartFrom (e .mapped) (g .tables) ≡ true → (In (e .mapped) (mappedOf l) → ⊥) → mappedFit g l ≡ true → mappedFit g (e ∷ l) ≡ true
 unfolding mappedFit
 mapped-cons g e l a b c d =
     both a
     (both b
     (both (not-in-absent (e .mapped) (mappedOf l) c) d))
 
--- each is a whole packet of the disc, outside the partition
-pub mapped-outside : (g : Geometry) (es : List Entry) (m : ℕ) → mappedFit g es ≡ true → In m (mappedOf es) → outside g m ≡ true
+-- each is a whole packet of the disc
+pub mapped-whole : (g : Geometry) (es : List Entry) (m : ℕ) → mappedFit g es ≡ true → In m (mappedOf es) → wholePacket g m ≡ true
 unfolding mappedOf
-mapped-outside g [] m h i = absurd i
-mapped-outside g (e ∷ l) m h (inl q) = rw q (mapped-first g e l h .0)
-mapped-outside g (e ∷ l) m h (inr i) = mapped-outside g l m (mapped-first g e l h .3) i
+mapped-whole g [] m h i = absurd i
+mapped-whole g (e ∷ l) m h (inl q) = rw q (mapped-first g e l h .0)
+mapped-whole g (e ∷ l) m h (inr i) = mapped-whole g l m (mapped-first g e l h .3) i
 
 -- and apart from every table's packet
 pub mapped-apart : (g : Geometry) (es : List Entry) (m : ℕ) → mappedFit g es ≡ true → In m (mappedOf es) → apartFrom m (g .tables) ≡ true
@@ -279,6 +295,44 @@ unfolding mappedOf
 mapped-apart g [] m h i = absurd i
 mapped-apart g (e ∷ l) m h (inl q) = rw q (mapped-first g e l h .1)
 mapped-apart g (e ∷ l) m h (inr i) = mapped-apart g l m (mapped-first g e l h .3) i
+
+-- that of the entry at a place is one of them
+pub in-mapped : (es : List Entry) (i : ℕ) (x : Entry) → i < length es → In (getD es i x .mapped) (mappedOf es)
+unfolding mappedOf
+in-mapped [] i x l = absurd (omega arith)
+in-mapped (e ∷ es) zero x l = inl refl
+in-mapped (e ∷ es) (suc i) x l = inr (in-mapped es i x (omega arith))
+
+-- so what holds of each entry's holds of each
+pub mapped-each : (f : ℕ → Bool) (es : List Entry) (x : Entry) → ((i : ℕ) → i < length es → f (getD es i x .mapped) ≡ true) → (m : ℕ) → In m (mappedOf es) → f m ≡ true
+unfolding mappedOf
+mapped-each f [] x h m i = absurd i
+mapped-each f (e ∷ es) x h m (inl q) = ap f q ∙ h 0 (omega arith)
+mapped-each f (e ∷ es) x h m (inr i) = mapped-each f es x (λ j l. h (suc j) (omega arith)) m i
+
+-- ---- originals that are no mapped packet (02, slip 8)
+
+-- a used one's place is none of those
+pub clear-at : (s : ℕ) (ms : List ℕ) (es : List Entry) (i : ℕ) (x : Entry) → originalsClear s ms es ≡ true → i < length es → isUsed (getD es i x) ≡ true
+    → absent (s + getD es i x .original) ms ≡ true
+unfolding originalsClear originalClear
+clear-at s ms [] i x h l u = absurd (omega arith)
+clear-at s ms (e ∷ es) zero x h l u =
+    other (not (isUsed e)) (absent (s + e .original) ms) (and-true (originalClear s ms e) (originalsClear s ms es) h .0) (ap not u)
+clear-at s ms (e ∷ es) (suc i) x h l u = clear-at s ms es i x (and-true (originalClear s ms e) (originalsClear s ms es) h .1) (omega arith) u
+
+-- where no place of the partition is one of those, all are clear
+pub clear-away : (s n : ℕ) (ms : List ℕ) (es : List Entry) → originalsFit n es ≡ true → ((q : ℕ) → q < n → absent (s + q) ms ≡ true) → originalsClear s ms es ≡ true
+unfolding originalsClear originalClear
+clear-away s n ms [] o h = refl
+clear-away s n ms (e ∷ es) o h =
+    let p = originals-first n e es o in
+    both
+    (original-cases n (e .original) (p .0)
+    (λ q. or-left _ (ap not (free-tests e q .2)))
+    (λ q. or-left _ (ap not (defective-tests e q .2)))
+    (λ m l. or-right (not (isUsed e)) (h (e .original) l)))
+    (clear-away s n ms es (p .1) h)
 
 -- the first entry is the packet's
 pub spot-here : (e : Entry) (l : List Entry) (p : ℕ) → e .original ≡ p → spotOf (e ∷ l) p ≡ mappedTo (e .mapped)
@@ -327,72 +381,65 @@ spots-apart g (e ∷ l) p q m h a b =
     b)
     a
 
--- a free entry is no packet's
-pub spot-past-free : (e : Entry) (l : List Entry) (p : ℕ) → isFree e ≡ true → p ≢ none → spotOf (e ∷ l) p ≡ spotOf l p
-unfolding isFree
-spot-past-free e l p f n = spot-next e l p (λ q. n (sym q ∙ eqb-true (e .original) none f))
+-- an entry of some kind maps k
+abbrev pub Maps : (Entry → Bool) → ℕ → List Entry → Type 0
+Maps f k [] = ⊥
+Maps f k (e ∷ l) = ((f e ≡ true) × (k ≡ e .mapped)) ⊎ Maps f k l
 
--- the free entry of lowest index has one of the mapped starts
-pub free-in : (es : List Entry) → noEntry (freeOf es) ≡ false → In (firstFree (freeOf es)) (mappedOf es)
-unfolding freeOf firstFree noEntry mappedOf
-free-in [] h = absurd (true≢false h)
-free-in (e ∷ l) h =
-    cond-elim (λ (f : List Entry). noEntry f ≡ false → In (firstFree f) (mappedOf (e ∷ l))) (isFree e)
-    (λ _ _. inl refl)
-    (λ _ k. inr (free-in l k))
-    h
+-- it is one of the mapped starts
+pub maps-in : (f : Entry → Bool) (k : ℕ) (es : List Entry) → Maps f k es → In k (mappedOf es)
+unfolding mappedOf
+maps-in f k [] i = i
+maps-in f k (e ∷ l) (inl q) = inl (q .1)
+maps-in f k (e ∷ l) (inr i) = inr (maps-in f k l i)
 
-not-again-free : (g : Geometry) (e : Entry) (l : List Entry) → mappedFit g (e ∷ l) ≡ true → noEntry (freeOf l) ≡ false → e .mapped ≡ firstFree (freeOf l) → ⊥
-not-again-free g e l h k q =
-    absent-not-in (e .mapped) (mappedOf l) (mapped-first g e l h .2) (rw q (free-in l k))
-
--- and it is not that of any packet
-pub spot-not-free : (g : Geometry) (es : List Entry) (p m : ℕ) → mappedFit g es ≡ true → p ≢ none → noEntry (freeOf es) ≡ false → spotOf es p ≡ mappedTo m → m ≢ firstFree (freeOf es)
-unfolding freeOf firstFree noEntry spotOf isFree
-spot-not-free g [] p m h n k a = absurd (true≢false k)
-spot-not-free g (e ∷ l) p m h n k a =
-    cond-elim (λ (f : List Entry). noEntry f ≡ false → m ≢ firstFree f) (isFree e)
-    (λ f _ q. not-again g e l p m h (ap mappedTo (sym q)) (sym (spot-past-free e l p f n) ∙ a))
-    (λ f k′. cond-elim (λ (z : Spot). z ≡ mappedTo m → m ≢ firstFree (freeOf l)) (eqb (e .original) p)
-    (λ _ z q. not-again-free g e l h k′ (let s : mappedTo (e .mapped) ≡ mappedTo (firstFree (freeOf l)) = cc in cc))
-    (λ _ z. spot-not-free g l p m (mapped-first g e l h .3) n k′ z)
-    a)
-    k
-
--- the mapped starts of the defective entries are among those of all
-pub defective-in : (es : List Entry) (k : ℕ) → In k (mappedOf (defectiveOf es)) → In k (mappedOf es)
-unfolding defectiveOf mappedOf
-defective-in [] k i = i
-defective-in (e ∷ l) k i =
-    cond-elim (λ (d : List Entry). In k (mappedOf d) → In k (mappedOf (e ∷ l))) (isDefective e)
-    (λ _ j. ⊎-elim (λ q. inl q) (λ q. inr (defective-in l k q)) j)
-    (λ _ j. inr (defective-in l k j))
-    i
-
--- a defective spare is not that of any packet
-pub spot-not-defective : (g : Geometry) (es : List Entry) (p m k : ℕ) → mappedFit g es ≡ true → p ≢ defective → spotOf es p ≡ mappedTo m → In k (mappedOf (defectiveOf es)) → m ≢ k
-unfolding defectiveOf spotOf mappedOf
-spot-not-defective g [] p m k h n a i = absurd i
-spot-not-defective g (e ∷ l) p m k h n a i =
-    let f = mapped-first g e l h in
-    let away = absent-not-in (e .mapped) (mappedOf l) (f .2) in
-    cond-elim (λ (d : List Entry). In k (mappedOf d) → m ≢ k) (isDefective e)
-    (λ w j.
-    let past : spotOf l p ≡ mappedTo m = sym (spot-next e l p (λ z. n (sym z ∙ defective-means e w))) ∙ a in
-    ⊎-elim
-    (λ q z. let y : e .mapped ≡ m = sym (z ∙ q) in away (rw y (spot-in l p m past)))
-    (λ q. spot-not-defective g l p m k (f .3) n past q)
-    j)
-    (λ w j.
+-- of a kind that is no packet's, it is not that of a packet
+pub spot-not-kind : (f : Entry → Bool) (g : Geometry) (es : List Entry) (p m k : ℕ) → mappedFit g es ≡ true → ((e : Entry) → f e ≡ true → e .original ≢ p)
+    → Maps f k es → spotOf es p ≡ mappedTo m → m ≢ k
+spot-not-kind f g [] p m k h n i a = absurd i
+spot-not-kind f g (e ∷ l) p m k h n (inl (w, q)) a = λ z.
+    let y : e .mapped ≡ m = sym (z ∙ q) in
+    absent-not-in (e .mapped) (mappedOf l) (mapped-first g e l h .2) (rw y (spot-in l p m (sym (spot-next e l p (n e w)) ∙ a)))
+spot-not-kind f g (e ∷ l) p m k h n (inr i) a =
     by-eq (e .original) p
     (λ q z.
     let s : mappedTo (e .mapped) ≡ mappedTo m = sym (spot-here e l p q) ∙ a in
     let t : e .mapped ≡ k = cc in
-    away (rw t (defective-in l k j)))
-    (λ q. spot-not-defective g l p m k (f .3) n (sym (spot-next e l p q) ∙ a) j))
+    absent-not-in (e .mapped) (mappedOf l) (mapped-first g e l h .2) (rw t (maps-in f k l i)))
+    (λ q. spot-not-kind f g l p m k (mapped-first g e l h .3) n i (sym (spot-next e l p q) ∙ a))
+
+-- the free entries, and that of lowest index among them
+pub free-maps : (es : List Entry) (k : ℕ) → In k (mappedOf (freeOf es)) → Maps isFree k es
+unfolding freeOf mappedOf
+free-maps [] k i = i
+free-maps (e ∷ l) k i =
+    cond-elim (λ (f : List Entry). In k (mappedOf f) → Maps isFree k (e ∷ l)) (isFree e)
+    (λ w j. ⊎-elim (λ q. inl (w, q)) (λ q. inr (free-maps l k q)) j)
+    (λ _ j. inr (free-maps l k j))
     i
 
--- nor is it the free entry of lowest index
+pub first-free : (f : List Entry) → noEntry f ≡ false → In (firstFree f) (mappedOf f)
+unfolding firstFree noEntry mappedOf
+first-free [] h = absurd (true≢false h)
+first-free (e ∷ l) h = inl refl
+
+pub free-in : (es : List Entry) → noEntry (freeOf es) ≡ false → In (firstFree (freeOf es)) (mappedOf es)
+free-in es h = maps-in isFree (firstFree (freeOf es)) es (free-maps es (firstFree (freeOf es)) (first-free (freeOf es) h))
+
+-- the defective ones
+pub defective-maps : (es : List Entry) (k : ℕ) → In k (mappedOf (defectiveOf es)) → Maps isDefective k es
+unfolding defectiveOf mappedOf
+defective-maps [] k i = i
+defective-maps (e ∷ l) k i =
+    cond-elim (λ (d : List Entry). In k (mappedOf d) → Maps isDefective k (e ∷ l)) (isDefective e)
+    (λ w j. ⊎-elim (λ q. inl (w, q)) (λ q. inr (defective-maps l k q)) j)
+    (λ _ j. inr (defective-maps l k j))
+    i
+
+defective-in : (es : List Entry) (k : ℕ) → In k (mappedOf (defectiveOf es)) → In k (mappedOf es)
+defective-in es k i = maps-in isDefective k es (defective-maps es k i)
+
+-- a defective spare is not the free entry of lowest index
 pub free-not-defective : (g : Geometry) (es : List Entry) (k : ℕ) → mappedFit g es ≡ true → noEntry (freeOf es) ≡ false → In k (mappedOf (defectiveOf es)) → firstFree (freeOf es) ≢ k
 unfolding freeOf defectiveOf firstFree noEntry mappedOf
 free-not-defective g [] k h s i = absurd i

@@ -1,10 +1,12 @@
 -- Tests, cases and membership: what the laws of the sparing table are proved with. Assumes nothing.
-use Prim.Native.Nat.{ℕ, _%_}
+use Prim.Native.Nat.{ℕ, zero, suc, _%_, _<_}
 use mathlib.Core.Bool.{true, not, _&&_}
 use mathlib.Core.Logic.{_⊎_, inl, inr, ⊎-elim}
 use mathlib.Core.Path.{_≡_, refl, ap}
 use mathlib.Core.List.{List, [], _∷_, _++_}
+use native.Mathlib.Omega.{arith}
 use lib.Dec.{eqb}
+use lib.ListN.{length, getD}
 use borrow.Author.Tests.{eqb-false, ne-eqb, not-true}
 use Rattle.maps.specs.Kinds.{absent, tablesApart}
 use Rattle.model.proofs.Basics.{and-true, both}
@@ -34,6 +36,12 @@ pub in-either : (x : ℕ) (a b : List ℕ) → In x (a ++ b) → In x a ⊎ In x
 in-either x [] b h = inr h
 in-either x (y ∷ a) b (inl e) = inl (inl e)
 in-either x (y ∷ a) b (inr h) = ⊎-elim (λ l. inl (inr l)) (λ r. inr r) (in-either x a b h)
+
+-- what stands at a place of a list is in it
+pub in-place : (l : List ℕ) (i : ℕ) → i < length l → In (getD l i 0) l
+in-place [] i h = absurd (omega arith)
+in-place (x ∷ l) zero h = inl refl
+in-place (x ∷ l) (suc i) h = inr (in-place l i (omega arith))
 
 -- an absent number is not in the list
 pub absent-not-in : (x : ℕ) (l : List ℕ) → absent x l ≡ true → In x l → ⊥

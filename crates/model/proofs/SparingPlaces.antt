@@ -1,20 +1,21 @@
 -- Where a block of a rewritable disc is: on the disc, each in a sector of its own, and none in a table's packet or a free one. Assumes nothing.
 use Prim.Native.Nat.{ℕ, _+_, _%_, _≤_, _<_}
-use mathlib.Core.Bool.{true, false, _&&_, _||_}
+use mathlib.Core.Bool.{Bool, true, false, not, _||_}
 use mathlib.Core.Logic.{_≢_, _⊎_, inl, inr, ⊎-elim}
 use mathlib.Core.Path.{_≡_, refl, sym, ap, _∙_}
 use mathlib.Core.List.{List, [], _∷_}
 use native.Mathlib.Omega.{arith}
 use lib.Dec.{leb, eqb}
-use borrow.Author.Tests.{leb-true, eqb-true, eq-eqb, ne-eqb, le-leb, lt-leb}
+use borrow.Author.Tests.{leb-true, eqb-true, eq-eqb, ne-eqb, le-leb, lt-leb, not-false}
 use Rattle.maps.proofs.Tests.{fails, holds}
-use Rattle.model.specs.Sparing.{Geometry, Entry, defectiveOf, freeOf, apart, apartFrom, outside, mappedOf, entriesFit, Spot, mappedTo, inPlace, spotOf, packetOf, startAt, locate, firstFree, resorted}
+use Rattle.model.specs.Sparing.{Geometry, Entry, isFree, isDefective, defectiveOf, freeOf, apart, apartFrom, wholePacket, outside, mappedOf, entriesFit, Spot, mappedTo, inPlace, spotOf, packetOf, ofSpare, startAt, locate, firstFree, resorted}
 use Rattle.model.specs.Examine.{allOutside}
 use Rattle.model.specs.Rewrite.{noEntry}
 use Rattle.model.proofs.Basics.{and-true, by-eq, either, or-left}
-use Rattle.model.proofs.SparingLists.{In}
+use Rattle.maps.specs.Kinds.{absent}
+use Rattle.model.proofs.SparingLists.{In, absent-not-in}
 use Rattle.model.proofs.SparingResorted.{spot-same, spot-other}
-use Rattle.model.proofs.SparingEntries.{fits-mapped, mapped-outside, mapped-apart, spot-in, spots-apart, free-in, spot-not-free, defective-in, spot-not-defective, multiple-none, multiple-defective}
+use Rattle.model.proofs.SparingEntries.{fits-mapped, mapped-whole, mapped-apart, spot-in, spots-apart, Maps, maps-in, spot-not-kind, free-maps, free-in, defective-maps, free-means, defective-means, multiple-none, multiple-defective}
 
 -- ---- packets
 
@@ -58,52 +59,65 @@ packet-place p i m h = omega arith
 
 -- ---- outside the partition
 
--- a packet outside the partition is a whole packet of the disc
+-- a whole packet of the disc
+pub record Whole (g : Geometry) (m : ℕ) : Type 0 where
+  pub multiple : m % 32 ≡ 0
+  pub on : m + 32 ≤ g .sectors
+
+-- one outside the partition
 pub record Outside (g : Geometry) (m : ℕ) : Type 0 where
   pub multiple : m % 32 ≡ 0
   pub on : m + 32 ≤ g .sectors
   pub aside : (m + 32 ≤ g .start) ⊎ (g .start + g .span ≤ m)
 
--- what the test says
+-- what the tests say
+pub whole-means : (g : Geometry) (m : ℕ) → wholePacket g m ≡ true → Whole g m
+unfolding wholePacket
+whole-means g m h =
+    let a = and-true (eqb (m % 32) 0) (leb (m + 32) (g .sectors)) h in
+    record { multiple = eqb-true (m % 32) 0 (a .0); on = leb-true (m + 32) (g .sectors) (a .1) }
+
 pub outside-means : (g : Geometry) (m : ℕ) → outside g m ≡ true → Outside g m
 unfolding outside
 outside-means g m h =
-    let a = and-true (eqb (m % 32) 0) (leb (m + 32) (g .sectors) && (leb (m + 32) (g .start) || leb (g .start + g .span) m)) h in
-    let b = and-true (leb (m + 32) (g .sectors)) (leb (m + 32) (g .start) || leb (g .start + g .span) m) (a .1) in
+    let a = and-true (wholePacket g m) (leb (m + 32) (g .start) || leb (g .start + g .span) m) h in
+    let w = whole-means g m (a .0) in
     record {
-      multiple = eqb-true (m % 32) 0 (a .0);
-      on = leb-true (m + 32) (g .sectors) (b .0);
+      multiple = w .multiple;
+      on = w .on;
       aside =
           ⊎-elim
           (λ l. inl (leb-true (m + 32) (g .start) l))
           (λ r. inr (leb-true (g .start + g .span) m r))
-          (either (leb (m + 32) (g .start)) (leb (g .start + g .span) m) (b .1));
+          (either (leb (m + 32) (g .start)) (leb (g .start + g .span) m) (a .1));
     }
 
--- and what it is found by, test by test
+-- and what they are found by, test by test
 module _ (g : Geometry) (m : ℕ) where
   -- the packet begins at no multiple of 32
-  pub outside-off : (m % 32 ≡ 0 → ⊥) → false ≡ outside g m
-  unfolding outside
-  outside-off h = fails _ (ne-eqb (m % 32) 0 h)
+  pub whole-off : (m % 32 ≡ 0 → ⊥) → false ≡ wholePacket g m
+  unfolding wholePacket
+  whole-off h = fails _ (ne-eqb (m % 32) 0 h)
 
-  -- it runs past the end of the disc
-  pub outside-past : m % 32 ≡ 0 → g .sectors < m + 32 → false ≡ outside g m
+  -- else it has to end where the disc does, or before
+  pub whole-on : m % 32 ≡ 0 → leb (m + 32) (g .sectors) ≡ wholePacket g m
+  unfolding wholePacket
+  whole-on h = holds (eq-eqb (m % 32) 0 h) refl
+
+  -- it is no whole packet of the disc
+  pub outside-off : wholePacket g m ≡ false → false ≡ outside g m
   unfolding outside
-  outside-past h p = holds (eq-eqb (m % 32) 0 h) (fails _ (lt-leb (m + 32) (g .sectors) p))
+  outside-off h = fails _ h
 
   -- it ends where the partition begins, or before
-  pub outside-before : m % 32 ≡ 0 → m + 32 ≤ g .sectors → m + 32 ≤ g .start → true ≡ outside g m
+  pub outside-before : wholePacket g m ≡ true → m + 32 ≤ g .start → true ≡ outside g m
   unfolding outside
-  outside-before h p q =
-      holds (eq-eqb (m % 32) 0 h) (holds (le-leb (m + 32) (g .sectors) p) (sym (or-left _ (le-leb (m + 32) (g .start) q))))
+  outside-before h q = holds h (sym (or-left _ (le-leb (m + 32) (g .start) q)))
 
   -- else it has to begin where the partition ends, or after
-  pub outside-after : m % 32 ≡ 0 → m + 32 ≤ g .sectors → g .start < m + 32 → leb (g .start + g .span) m ≡ outside g m
+  pub outside-after : wholePacket g m ≡ true → g .start < m + 32 → leb (g .start + g .span) m ≡ outside g m
   unfolding outside
-  outside-after h p q =
-      let e = lt-leb (m + 32) (g .start) q in
-      holds (eq-eqb (m % 32) 0 h) (holds (le-leb (m + 32) (g .sectors) p) (rw e))
+  outside-after h q = let e = lt-leb (m + 32) (g .start) q in holds h (rw e)
 
 -- a table sector's packet is outside the partition
 pub table-outside : (g : Geometry) (ts : List ℕ) (t : ℕ) → allOutside g ts ≡ true → In t ts → Outside g t
@@ -154,34 +168,64 @@ steps-apart a b i j ha hb hi hj n = omega arith
 aside-apart : (g : Geometry) (m p : ℕ) → Outside g m → p < g .span → m ≢ g .start + p
 aside-apart g m p o l q = ⊎-elim (λ a. omega arith) (λ b. omega arith) (o .aside)
 
+-- ---- packets that belong to a spare (02, slip 8)
+
+-- the place of a packet that belongs to no spare is no mapped start
+pub place-unmapped : (s : ℕ) (es : List Entry) (b : ℕ) → ofSpare s es b ≡ false → absent (s + packetOf b) (mappedOf es) ≡ true
+unfolding ofSpare
+place-unmapped s es b h = not-false _ h
+
+-- also by its own number
+pub packet-unmapped : (s : ℕ) (es : List Entry) (p : ℕ) → p % 32 ≡ 0 → ofSpare s es p ≡ false → absent (s + p) (mappedOf es) ≡ true
+packet-unmapped s es p m h = rw (packet-own p m) at (place-unmapped s es p h)
+
+-- two tables with the same mapped starts have the same blocks in spares
+pub spare-same : (s : ℕ) (es fs : List Entry) (b : ℕ) → ((m : ℕ) → absent m (mappedOf es) ≡ absent m (mappedOf fs)) → ofSpare s es b ≡ ofSpare s fs b
+unfolding ofSpare
+spare-same s es fs b h = ap not (h (s + packetOf b))
+
+-- the blocks of a packet belong to a spare all or none
+pub spare-packet : (s : ℕ) (es : List Entry) (b c : ℕ) → packetOf b ≡ packetOf c → ofSpare s es b ≡ ofSpare s es c
+unfolding ofSpare
+spare-packet s es b c q = ap (λ (p : ℕ). not (absent (s + p) (mappedOf es))) q
+
+-- so it begins at no mapped start
+unmapped-apart : (g : Geometry) (es : List Entry) (b m : ℕ) → ofSpare (g .start) es b ≡ false → In m (mappedOf es) → m ≢ g .start + packetOf b
+unmapped-apart g es b m h i q = absent-not-in (g .start + packetOf b) (mappedOf es) (place-unmapped (g .start) es b h) (rw (← q) i)
+
 module _ (g : Geometry) (es : List Entry) (fits : entriesFit g es ≡ true) (start32 : g .start % 32 ≡ 0) (span32 : g .span % 32 ≡ 0) where
-  -- a mapped start is outside the partition
-  spot-outside : (p m : ℕ) → spotOf es p ≡ mappedTo m → Outside g m
-  spot-outside p m e = outside-means g m (mapped-outside g es m (fits-mapped g es fits) (spot-in es p m e))
+  -- a mapped start is that of a whole packet
+  mapped-start : (m : ℕ) → In m (mappedOf es) → Whole g m
+  mapped-start m i = whole-means g m (mapped-whole g es m (fits-mapped g es fits) i)
+
+  spot-whole : (p m : ℕ) → spotOf es p ≡ mappedTo m → Whole g m
+  spot-whole p m e = mapped-start m (spot-in es p m e)
 
   -- a packet is read from a multiple of 32 on
   at-multiple : (p : ℕ) → p % 32 ≡ 0 → packetAt g es p % 32 ≡ 0
   at-multiple p h =
       by-spot es p
       (λ e. rw (at-own g es p e) (omega arith))
-      (λ m e. rw (at-mapped g es p m e) (spot-outside p m e .multiple))
+      (λ m e. rw (at-mapped g es p m e) (spot-whole p m e .multiple))
 
   -- its sectors are on the disc
   at-on : (p : ℕ) → p % 32 ≡ 0 → p < g .span → g .start + g .span ≤ g .sectors → packetAt g es p + 32 ≤ g .sectors
   at-on p h l r =
       by-spot es p
       (λ e. rw (at-own g es p e) (omega arith))
-      (λ m e. rw (at-mapped g es p m e) (spot-outside p m e .on))
+      (λ m e. rw (at-mapped g es p m e) (spot-whole p m e .on))
 
-  -- two packets are read from different sectors on
-  at-apart : (p q : ℕ) → p % 32 ≡ 0 → q % 32 ≡ 0 → p < g .span → q < g .span → p ≢ q → packetAt g es p ≢ packetAt g es q
-  at-apart p q hp hq lp lq n =
+  -- two packets that belong to no spare are read from different sectors on
+  at-apart : (b c : ℕ) → ofSpare (g .start) es b ≡ false → ofSpare (g .start) es c ≡ false → packetOf b ≢ packetOf c → packetAt g es (packetOf b) ≢ packetAt g es (packetOf c)
+  at-apart b c ub uc n =
+      let p : ℕ = packetOf b in
+      let q : ℕ = packetOf c in
       by-spot es p
       (λ e. by-spot es q
       (λ f. rw (at-own g es p e, at-own g es q f) (omega arith))
-      (λ m f. rw (at-own g es p e, at-mapped g es q m f) (λ z. aside-apart g m p (spot-outside q m f) lp (sym z))))
+      (λ m f. rw (at-own g es p e, at-mapped g es q m f) (λ z. unmapped-apart g es b m ub (spot-in es q m f) (sym z))))
       (λ m e. by-spot es q
-      (λ f. rw (at-mapped g es p m e, at-own g es q f) (aside-apart g m q (spot-outside p m e) lq))
+      (λ f. rw (at-mapped g es p m e, at-own g es q f) (unmapped-apart g es c m uc (spot-in es p m e)))
       (λ k f. rw (at-mapped g es p m e, at-mapped g es q k f)
       (λ z. n (spots-apart g es p q m (fits-mapped g es fits) e (f ∙ ap mappedTo (sym z))))))
 
@@ -195,17 +239,9 @@ module _ (g : Geometry) (es : List Entry) (fits : entriesFit g es ≡ true) (sta
       (λ z. ⊎-elim (λ a. omega arith) (λ b. omega arith)
       (apart-means m (g .tables) t (mapped-apart g es m (fits-mapped g es fits) (spot-in es p m e)) i)))
 
-  -- the packet of the free entry of lowest index is outside the partition
-  pub free-outside : noEntry (freeOf es) ≡ false → Outside g (firstFree (freeOf es))
-  free-outside k =
-      outside-means g (firstFree (freeOf es)) (mapped-outside g es (firstFree (freeOf es)) (fits-mapped g es fits) (free-in es k))
-
-  -- nor from a free one
-  at-not-free : (p : ℕ) → p % 32 ≡ 0 → p < g .span → noEntry (freeOf es) ≡ false → packetAt g es p ≢ firstFree (freeOf es)
-  at-not-free p h l k =
-      by-spot es p
-      (λ e. rw (at-own g es p e) (λ z. aside-apart g (firstFree (freeOf es)) p (free-outside k) l (sym z)))
-      (λ m e. rw (at-mapped g es p m e) (spot-not-free g es p m (fits-mapped g es fits) (multiple-none p h) k e))
+  -- the packet of the free entry of lowest index is a whole one
+  pub free-whole : noEntry (freeOf es) ≡ false → Whole g (firstFree (freeOf es))
+  free-whole k = mapped-start (firstFree (freeOf es)) (free-in es k)
 
   -- ---- where a block is
 
@@ -219,17 +255,16 @@ module _ (g : Geometry) (es : List Entry) (fits : entriesFit g es ≡ true) (sta
   locate-on b l r =
       omega (arith, at-on (packetOf b) (packet-multiple b) (packet-less b (g .span) l) r)
 
-  -- two blocks are in different sectors
-  pub locate-apart : (b c : ℕ) → b < g .span → c < g .span → b ≢ c → locate (g .start) es b ≢ locate (g .start) es c
+  -- two blocks that belong to no spare are in different sectors
+  pub locate-apart : (b c : ℕ) → ofSpare (g .start) es b ≡ false → ofSpare (g .start) es c ≡ false → b ≢ c → locate (g .start) es b ≢ locate (g .start) es c
   unfolding locate
-  locate-apart b c lb lc n =
+  locate-apart b c ub uc n =
       by-eq (packetOf b) (packetOf c)
       (λ q z. n
       (omega (arith, ap (λ (p : ℕ). packetAt g es p) q, packet-rest b, packet-rest c)))
       (λ k. steps-apart (packetAt g es (packetOf b)) (packetAt g es (packetOf c)) (b % 32) (c % 32)
       (start-multiple b) (start-multiple c) (omega arith) (omega arith)
-      (at-apart (packetOf b) (packetOf c) (packet-multiple b) (packet-multiple c)
-      (packet-less b (g .span) lb) (packet-less c (g .span) lc) k))
+      (at-apart b c ub uc k))
 
   -- the blocks of a packet are in one run of sectors
   pub locate-packet : (p i : ℕ) → p % 32 ≡ 0 → i < 32 → locate (g .start) es (p + i) ≡ locate (g .start) es p + i
@@ -246,37 +281,39 @@ module _ (g : Geometry) (es : List Entry) (fits : entriesFit g es ≡ true) (sta
       steps-apart (packetAt g es (packetOf b)) t (b % 32) j (start-multiple b) (table-outside g (g .tables) t o i .multiple) (omega arith) h
       (at-not-table (packetOf b) t (packet-multiple b) (packet-less b (g .span) l) o i)
 
-  -- nor in the packet of the free entry of lowest index
-  pub locate-not-free : (b j : ℕ) → b < g .span → noEntry (freeOf es) ≡ false → j < 32 → locate (g .start) es b ≢ firstFree (freeOf es) + j
-  unfolding locate
-  locate-not-free b j l k h =
-      steps-apart (packetAt g es (packetOf b)) (firstFree (freeOf es)) (b % 32) j (start-multiple b) (free-outside k .multiple) (omega arith) h
-      (at-not-free (packetOf b) (packet-multiple b) (packet-less b (g .span) l) k)
+  -- one that belongs to no spare is in no spare of a kind that is no packet's
+  module _ (f : Entry → Bool) (off : (e : Entry) → f e ≡ true → (p : ℕ) → p % 32 ≡ 0 → e .original ≢ p) (k : ℕ) (maps : Maps f k es) where
+    at-not-kind : (b : ℕ) → ofSpare (g .start) es b ≡ false → packetAt g es (packetOf b) ≢ k
+    at-not-kind b u =
+        let p : ℕ = packetOf b in
+        by-spot es p
+        (λ e. rw (at-own g es p e) (λ z. unmapped-apart g es b k u (maps-in f k es maps) (sym z)))
+        (λ m e. rw (at-mapped g es p m e) (spot-not-kind f g es p m k (fits-mapped g es fits) (λ x w. off x w p (packet-multiple b)) maps e))
 
-  -- nor in that of a defective one
-  at-not-defective : (p k : ℕ) → p % 32 ≡ 0 → p < g .span → In k (mappedOf (defectiveOf es)) → packetAt g es p ≢ k
-  at-not-defective p k h l i =
-      by-spot es p
-      (λ e. rw (at-own g es p e) (λ z. aside-apart g k p (outside-means g k (mapped-outside g es k (fits-mapped g es fits) (defective-in es k i))) l (sym z)))
-      (λ m e. rw (at-mapped g es p m e) (spot-not-defective g es p m k (fits-mapped g es fits) (multiple-defective p h) e i))
+    locate-not-kind : (b j : ℕ) → ofSpare (g .start) es b ≡ false → j < 32 → locate (g .start) es b ≢ k + j
+    unfolding locate
+    locate-not-kind b j u h =
+        steps-apart (packetAt g es (packetOf b)) k (b % 32) j (start-multiple b) (mapped-start k (maps-in f k es maps) .multiple) (omega arith) h (at-not-kind b u)
 
-  pub locate-not-defective : (b k j : ℕ) → b < g .span → In k (mappedOf (defectiveOf es)) → j < 32 → locate (g .start) es b ≢ k + j
-  unfolding locate
-  locate-not-defective b k j l i h =
-      steps-apart (packetAt g es (packetOf b)) k (b % 32) j (start-multiple b)
-      (outside-means g k (mapped-outside g es k (fits-mapped g es fits) (defective-in es k i)) .multiple) (omega arith) h
-      (at-not-defective (packetOf b) k (packet-multiple b) (packet-less b (g .span) l) i)
+  -- a free one
+  pub locate-not-free : (b k j : ℕ) → ofSpare (g .start) es b ≡ false → In k (mappedOf (freeOf es)) → j < 32 → locate (g .start) es b ≢ k + j
+  locate-not-free b k j u i h = locate-not-kind isFree (λ e w p m q. multiple-none p m (sym q ∙ free-means e w)) k (free-maps es k i) b j u h
+
+  -- or a defective one
+  pub locate-not-defective : (b k j : ℕ) → ofSpare (g .start) es b ≡ false → In k (mappedOf (defectiveOf es)) → j < 32 → locate (g .start) es b ≢ k + j
+  locate-not-defective b k j u i h =
+      locate-not-kind isDefective (λ e w p m q. multiple-defective p m (sym q ∙ defective-means e w)) k (defective-maps es k i) b j u h
 
   -- the free one is no table's
   pub free-not-table : (t i j : ℕ) → allOutside g (g .tables) ≡ true → In t (g .tables) → noEntry (freeOf es) ≡ false → i < 32 → j < 32 → firstFree (freeOf es) + j ≢ t + i
   free-not-table t i j o e k hi hj =
-      steps-apart (firstFree (freeOf es)) t j i (free-outside k .multiple) (table-outside g (g .tables) t o e .multiple) hj hi
+      steps-apart (firstFree (freeOf es)) t j i (free-whole k .multiple) (table-outside g (g .tables) t o e .multiple) hj hi
       (λ z. ⊎-elim (λ a. omega arith) (λ b. omega arith)
       (apart-means (firstFree (freeOf es)) (g .tables) t (mapped-apart g es (firstFree (freeOf es)) (fits-mapped g es fits) (free-in es k)) e))
 
   -- and on the disc
   pub free-on : noEntry (freeOf es) ≡ false → firstFree (freeOf es) + 32 ≤ g .sectors
-  free-on k = free-outside k .on
+  free-on k = free-whole k .on
 
 -- ---- where a block is once a packet was spared
 

@@ -1,20 +1,21 @@
 -- The table once a packet, spared before or not, took the free entry of lowest index: it fits, that packet is found there, every other one
 -- where it was, and its old spare is the last of the defective ones. Assumes nothing.
-use Prim.Native.Nat.{ℕ, suc, _+_, _*_, _%_, _≤_, _<_}
-use mathlib.Core.Bool.{Bool, true, false, cond, true≢false}
+use Prim.Native.Nat.{ℕ, suc, _+_, _%_, _≤_, _<_}
+use mathlib.Core.Bool.{Bool, true, false, cond, not, _&&_, _||_, and-assoc, true≢false}
 use mathlib.Core.Logic.{_≢_, inl, inr, ⊎-elim}
-use mathlib.Core.Path.{_≡_, refl, sym, ap, _∙_}
+use mathlib.Core.Path.{_≡_, refl, sym, ap, ap₂, _∙_, subst}
 use mathlib.Core.List.{List, [], _∷_, _++_, append-assoc}
 use native.Mathlib.Omega.{arith}
 use lib.Dec.{ltb, eqb}
 use lib.ListN.{length, length-append}
-use borrow.Author.Tests.{ltb-true, ltb-false, eqb-true, eqb-false, ne-eqb, eq-eqb, le-leb}
+use borrow.Author.Tests.{ltb-true, ltb-false, eqb-true, eqb-false, ne-eqb, eq-eqb}
+use Rattle.maps.specs.Kinds.{absent}
 use Rattle.model.specs.Vat.{none}
-use Rattle.model.specs.Sparing.{Geometry, Entry, isFree, defective, isDefective, isUsed, usedOf, defectiveOf, freeOf, originalFits, originalsFit, mayFollow, ascending, apartFrom, outside, mappedOf, mappedFit, entriesFit, mappedTo, inPlace, spotOf, inserted, firstFree, rest, without, turnedDefective, retired, freeTaken, resorted}
+use Rattle.model.specs.Sparing.{Geometry, Entry, isFree, defective, isDefective, isUsed, usedOf, defectiveOf, freeOf, originalFits, originalsFit, mayFollow, ascending, apartFrom, wholePacket, mappedOf, mappedFit, originalClear, originalsClear, entriesFit, mappedTo, inPlace, spotOf, inserted, firstFree, rest, without, turnedDefective, retired, freeTaken, resorted}
 use Rattle.model.specs.Rewrite.{noEntry}
-use Rattle.model.proofs.Basics.{both, by-eq, cond-elim}
+use Rattle.model.proofs.Basics.{and-true, both, and-swap, or-right, by-eq, cond-elim}
 use Rattle.model.proofs.SparingLists.{In, absent-not-in}
-use Rattle.model.proofs.SparingEntries.{fits-size, fits-originals, fits-ascending, fits-mapped, three-parts, none-original, defective-original, packet-original, multiple-none, multiple-defective, entry-cases, free-means, defective-means, used-means, free-tests, defective-tests, used-tests, used-follows, follows-lower, follows-free, follows-defective, ascending-first, ascending-rest, originals-first, spot-here, spot-next, spot-none, mapped-first, mapped-cons}
+use Rattle.model.proofs.SparingEntries.{fits-size, fits-originals, fits-ascending, fits-mapped, fits-clear, fits-all, three-parts, none-original, defective-original, packet-original, multiple-none, multiple-defective, entry-cases, free-means, defective-means, used-means, free-tests, defective-tests, used-tests, used-follows, follows-lower, follows-free, follows-defective, ascending-first, ascending-rest, originals-first, spot-here, spot-next, spot-none, mapped-first, mapped-cons}
 
 -- ---- lists of one kind
 
@@ -27,7 +28,19 @@ each-append : (f : Entry → Bool) (a b : List Entry) → Each f a → Each f b 
 each-append f [] b h k = k
 each-append f (e ∷ a) b h k = (h .0, each-append f a b (h .1) k)
 
--- the used ones are
+-- what passes one test passes another
+each-so : (f h : Entry → Bool) (l : List Entry) → ((e : Entry) → f e ≡ true → h e ≡ true) → Each f l → Each h l
+each-so f h [] k u = tt
+each-so f h (e ∷ l) k u = (k e (u .0), each-so f h l k (u .1))
+
+-- the used ones are among all
+each-among : (f : Entry → Bool) (es : List Entry) → Each f es → Each f (usedOf es)
+unfolding usedOf
+each-among f [] h = tt
+each-among f (e ∷ l) h =
+    cond-elim (λ (z : List Entry). Each f z) (isUsed e) (λ _. (h .0, each-among f l (h .1))) (λ _. each-among f l (h .1))
+
+-- the used ones are used
 pub each-used : (es : List Entry) → Each isUsed (usedOf es)
 unfolding usedOf
 each-used [] = tt
@@ -202,52 +215,51 @@ length-rest (e ∷ f) h = refl
 
 -- ---- originals
 
-pub originals-cons : (n : ℕ) (e : Entry) (l : List Entry) → originalFits n (e .original) ≡ true → originalsFit n l ≡ true → originalsFit n (e ∷ l) ≡ true
+-- a test of each, from the rule, and back
+originals-each : (n : ℕ) (l : List Entry) → originalsFit n l ≡ true → Each (λ e. originalFits n (e .original)) l
+originals-each n [] h = tt
+originals-each n (e ∷ l) h = let p = originals-first n e l h in (p .0, originals-each n l (p .1))
+
+each-originals : (n : ℕ) (l : List Entry) → Each (λ e. originalFits n (e .original)) l → originalsFit n l ≡ true
 unfolding originalsFit
-originals-cons n e l h k = both h k
+each-originals n [] h = refl
+each-originals n (e ∷ l) h = both (h .0) (each-originals n l (h .1))
 
-originals-append : (n : ℕ) (a b : List Entry) → originalsFit n a ≡ true → originalsFit n b ≡ true → originalsFit n (a ++ b) ≡ true
-originals-append n [] b ha hb = hb
-originals-append n (e ∷ a) b ha hb =
-    let p = originals-first n e a ha in
-    originals-cons n e (a ++ b) (p .0) (originals-append n a b (p .1) hb)
+clear-each : (s : ℕ) (ms : List ℕ) (l : List Entry) → originalsClear s ms l ≡ true → Each (originalClear s ms) l
+unfolding originalsClear
+clear-each s ms [] h = tt
+clear-each s ms (e ∷ l) h = let p = and-true (originalClear s ms e) (originalsClear s ms l) h in (p .0, clear-each s ms l (p .1))
 
-originals-used : (n : ℕ) (es : List Entry) → originalsFit n es ≡ true → originalsFit n (usedOf es) ≡ true
-unfolding usedOf
-originals-used n [] h = h
-originals-used n (e ∷ l) h =
-    let p = originals-first n e l h in
-    cond-elim (λ (z : List Entry). originalsFit n z ≡ true) (isUsed e)
-    (λ _. originals-cons n e (usedOf l) (p .0) (originals-used n l (p .1)))
-    (λ _. originals-used n l (p .1))
+each-clear : (s : ℕ) (ms : List ℕ) (l : List Entry) → Each (originalClear s ms) l → originalsClear s ms l ≡ true
+unfolding originalsClear
+each-clear s ms [] h = refl
+each-clear s ms (e ∷ l) h = both (h .0) (each-clear s ms l (h .1))
 
-originals-without : (n p : ℕ) (u : List Entry) → originalsFit n u ≡ true → originalsFit n (without p u) ≡ true
-unfolding without
-originals-without n p [] h = h
-originals-without n p (e ∷ u) h =
-    let q = originals-first n e u h in
-    cond-elim (λ (z : List Entry). originalsFit n z ≡ true) (eqb (e .original) p)
-    (λ _. originals-without n p u (q .1))
-    (λ _. originals-cons n e (without p u) (q .0) (originals-without n p u (q .1)))
+-- what passes each entry of a table, the new one, and each that is defective or free, passes each after it
+resorted-each : (f : Entry → Bool) (es : List Entry) (p : ℕ) → Each f es → f (own es p) ≡ true → ((e : Entry) → isDefective e ≡ true → f e ≡ true)
+    → ((e : Entry) → isFree e ≡ true → f e ≡ true) → Each f (resorted es p)
+resorted-each f es p h n d r =
+    subst (Each f) (sym (resorted-parts es p))
+    (each-append f (inserted (own es p) (others es p)) (marked es p ++ rest (freeOf es))
+    (each-inserted f (own es p) (others es p) n (each-without f p (usedOf es) (each-among f es h)))
+    (each-append f (marked es p) (rest (freeOf es))
+    (each-so isDefective f (marked es p) d (marked-defective es p))
+    (each-so isFree f (rest (freeOf es)) r (each-rest isFree (freeOf es) (each-free es)))))
 
-originals-inserted : (n : ℕ) (x : Entry) (u : List Entry) → originalFits n (x .original) ≡ true → originalsFit n u ≡ true → originalsFit n (inserted x u) ≡ true
-unfolding inserted
-originals-inserted n x [] f h = originals-cons n x [] f h
-originals-inserted n x (e ∷ u) f h =
-    let p = originals-first n e u h in
-    cond-elim (λ (l : List Entry). originalsFit n l ≡ true) (ltb (x .original) (e .original))
-    (λ _. originals-cons n x (e ∷ u) f h)
-    (λ _. originals-cons n e (inserted x u) (p .0) (originals-inserted n x u f (p .1)))
+-- the original of an entry of another kind than a packet's is clear
+unused-clear : (s : ℕ) (ms : List ℕ) (e : Entry) → isUsed e ≡ false → originalClear s ms e ≡ true
+unfolding originalClear
+unused-clear s ms e h = rw h
 
-originals-defective : (n : ℕ) (d : List Entry) → Each isDefective d → originalsFit n d ≡ true
-unfolding originalsFit
-originals-defective n [] h = refl
-originals-defective n (e ∷ d) h = both {a = originalFits n (e .original)} (rw (defective-means e (h .0)) (defective-original n)) (originals-defective n d (h .1))
+-- and that of a packet, where its place is none of those
+place-clear : (s : ℕ) (ms : List ℕ) (e : Entry) → absent (s + e .original) ms ≡ true → originalClear s ms e ≡ true
+unfolding originalClear
+place-clear s ms e h = or-right (not (isUsed e)) h
 
-originals-free : (n : ℕ) (f : List Entry) → Each isFree f → originalsFit n f ≡ true
-unfolding originalsFit
-originals-free n [] h = refl
-originals-free n (e ∷ f) h = both {a = originalFits n (e .original)} (rw (free-means e (h .0)) (none-original n)) (originals-free n f (h .1))
+-- as it is of other places with the same among them
+clear-same : (s : ℕ) (ms ns : List ℕ) (e : Entry) → ((m : ℕ) → absent m ms ≡ absent m ns) → originalClear s ms e ≡ originalClear s ns e
+unfolding originalClear
+clear-same s ms ns e h = ap (λ (b : Bool). not (isUsed e) || b) (h (s + e .original))
 
 -- ---- ascending
 
@@ -500,7 +512,7 @@ module _ (p : ℕ) (d : List Entry) where
       go (eqb (e .original) p) (a .0) (a .1) (λ i. absent-not-in (e .mapped) (mappedOf (u ++ (d ++ r))) (a .2) (in-turned (e .mapped) u r i))
       (mapped-turned g u r (a .3))
     where
-      go : (b : Bool) → outside g (e .mapped) ≡ true → apartFrom (e .mapped) (g .tables) ≡ true → (In (e .mapped) (mappedOf (without p u ++ (d ++ (turnedDefective p u ++ r)))) → ⊥)
+      go : (b : Bool) → wholePacket g (e .mapped) ≡ true → apartFrom (e .mapped) (g .tables) ≡ true → (In (e .mapped) (mappedOf (without p u ++ (d ++ (turnedDefective p u ++ r)))) → ⊥)
           → mappedFit g (without p u ++ (d ++ (turnedDefective p u ++ r))) ≡ true
           → mappedFit g (cond b (without p u) (e ∷ without p u) ++ (d ++ (cond b (record { original = defective; mapped = e .mapped } ∷ turnedDefective p u) (turnedDefective p u) ++ r))) ≡ true
       go true o t n k =
@@ -523,6 +535,56 @@ mapped-taken g p u d (f ∷ r) h k =
     (mapped-same g f x (u ++ (d ++ r)) refl
     (ap (λ (l : List Entry). mappedFit g (f ∷ l)) (sym (append-assoc u d r))
     ∙ mapped-front g (u ++ d) f r (ap (mappedFit g) (append-assoc u d (f ∷ r)) ∙ h)))
+
+-- a number is among the mapped starts of the table exactly if it was before
+module _ (m : ℕ) where
+  -- it is none of them
+  abbrev unmapped : List Entry → Bool
+  unmapped l = absent m (mappedOf l)
+
+  unmapped-append : (a b : List Entry) → unmapped (a ++ b) ≡ unmapped a && unmapped b
+  unfolding mappedOf absent
+  unmapped-append [] b = refl
+  unmapped-append (e ∷ a) b =
+      ap (λ (z : Bool). not (eqb m (e .mapped)) && z) (unmapped-append a b) ∙ sym (and-assoc (not (eqb m (e .mapped))) (unmapped a) (unmapped b))
+
+  unmapped-inserted : (x : Entry) (u : List Entry) → unmapped (inserted x u) ≡ not (eqb m (x .mapped)) && unmapped u
+  unfolding inserted mappedOf absent
+  unmapped-inserted x [] = refl
+  unmapped-inserted x (e ∷ u) =
+      cond-elim (λ (z : List Entry). unmapped z ≡ not (eqb m (x .mapped)) && unmapped (e ∷ u)) (ltb (x .original) (e .original))
+      (λ _. refl)
+      (λ _. ap (λ (z : Bool). not (eqb m (e .mapped)) && z) (unmapped-inserted x u) ∙ and-swap (not (eqb m (e .mapped))) (not (eqb m (x .mapped))) (unmapped u))
+
+  unmapped-turned : (p : ℕ) (u : List Entry) → unmapped (without p u) && unmapped (turnedDefective p u) ≡ unmapped u
+  unfolding without turnedDefective mappedOf absent
+  unmapped-turned p [] = refl
+  unmapped-turned p (e ∷ u) = go (eqb (e .original) p) (unmapped-turned p u)
+    where
+      go : (b : Bool) → unmapped (without p u) && unmapped (turnedDefective p u) ≡ unmapped u
+          → unmapped (cond b (without p u) (e ∷ without p u)) && unmapped (cond b (record { original = defective; mapped = e .mapped } ∷ turnedDefective p u) (turnedDefective p u)) ≡ unmapped (e ∷ u)
+      go true h =
+          and-swap (unmapped (without p u)) (not (eqb m (e .mapped))) (unmapped (turnedDefective p u)) ∙ ap (λ (z : Bool). not (eqb m (e .mapped)) && z) h
+      go false h =
+          and-assoc (not (eqb m (e .mapped))) (unmapped (without p u)) (unmapped (turnedDefective p u)) ∙ ap (λ (z : Bool). not (eqb m (e .mapped)) && z) h
+
+  unmapped-rest : (f : List Entry) → noEntry f ≡ false → not (eqb m (firstFree f)) && unmapped (rest f) ≡ unmapped f
+  unfolding rest noEntry firstFree mappedOf absent
+  unmapped-rest [] h = absurd (true≢false h)
+  unmapped-rest (e ∷ f) h = refl
+
+  -- the new entry, the used ones, the defective ones, the one that turns defective and the free ones left, put in the order of the table before
+  put-back : (n o d t r : Bool) → (n && o) && ((d && t) && r) ≡ (o && t) && (d && (n && r))
+  put-back true true true true r = refl
+  put-back true true true false r = refl
+  put-back true true false true r = refl
+  put-back true true false false r = refl
+  put-back true false d t r = refl
+  put-back false true true true r = refl
+  put-back false true true false r = refl
+  put-back false true false true r = refl
+  put-back false true false false r = refl
+  put-back false false d t r = refl
 
 -- ---- the entry that turns defective
 
@@ -588,14 +650,11 @@ module _ (g : Geometry) (es : List Entry) (p : ℕ) (fits : entriesFit g es ≡ 
 
   resorted-originals : originalsFit (g .span) (resorted es p) ≡ true
   resorted-originals =
-      let u : List Entry = usedOf es in
-      ap (originalsFit (g .span)) (resorted-parts es p)
-      ∙ originals-append (g .span) (inserted (own es p) (without p u)) (marked es p ++ rest (freeOf es))
-      (originals-inserted (g .span) (own es p) (without p u) (packet-original (g .span) p multiple below)
-      (originals-without (g .span) p u (originals-used (g .span) es (fits-originals g es fits))))
-      (originals-append (g .span) (marked es p) (rest (freeOf es))
-      (originals-defective (g .span) (marked es p) (marked-defective es p))
-      (originals-free (g .span) (rest (freeOf es)) (each-rest isFree (freeOf es) (each-free es))))
+      each-originals (g .span) (resorted es p)
+      (resorted-each (λ e. originalFits (g .span) (e .original)) es p (originals-each (g .span) es (fits-originals g es fits))
+      (packet-original (g .span) p multiple below)
+      (λ e w. rw (defective-means e w) (defective-original (g .span)))
+      (λ e w. rw (free-means e w) (none-original (g .span))))
 
   resorted-ascending : ascending (resorted es p) ≡ true
   resorted-ascending =
@@ -617,13 +676,35 @@ module _ (g : Geometry) (es : List Entry) (p : ℕ) (fits : entriesFit g es ≡ 
       ∙ mapped-turned p d g u (freeOf es) (ap (mappedFit g) (sym whole) ∙ fits-mapped g es fits))
       some
 
-  -- the table fits again
-  pub resorted-fits : entriesFit g (resorted es p) ≡ true
-  unfolding entriesFit
-  resorted-fits =
-      both
-      (le-leb (56 + 8 * length (resorted es p)) (g .size) (omega (arith, fits-size g es fits, resorted-length)))
-      (both resorted-originals (both resorted-ascending resorted-mapped))
+  -- the set of mapped starts is as it was
+  pub resorted-starts : (m : ℕ) → absent m (mappedOf (resorted es p)) ≡ absent m (mappedOf es)
+  resorted-starts m =
+      let o : List Entry = others es p in
+      let d : List Entry = defectiveOf es in
+      let t : List Entry = turnedDefective p (usedOf es) in
+      let f : List Entry = freeOf es in
+      let n : Bool = not (eqb m (firstFree f)) in
+      ap (unmapped m) (resorted-parts es p)
+      ∙ unmapped-append m (inserted (own es p) o) ((d ++ t) ++ rest f)
+      ∙ ap₂ (λ (x y : Bool). x && y) (unmapped-inserted m (own es p) o)
+      (unmapped-append m (d ++ t) (rest f) ∙ ap (λ (x : Bool). x && unmapped m (rest f)) (unmapped-append m d t))
+      ∙ put-back m n (unmapped m o) (unmapped m d) (unmapped m t) (unmapped m (rest f))
+      ∙ ap₂ (λ (x y : Bool). x && y) (unmapped-turned m p (usedOf es))
+      (ap (λ (x : Bool). unmapped m d && x) (unmapped-rest m f some) ∙ sym (unmapped-append m d f))
+      ∙ sym (ap (unmapped m) whole ∙ unmapped-append m (usedOf es) (d ++ f))
+
+  -- the table fits again, where the packet's own place is none of them
+  pub resorted-fits : absent (g .start + p) (mappedOf es) ≡ true → entriesFit g (resorted es p) ≡ true
+  resorted-fits clear =
+      let s : ℕ = g .start in
+      let ms : List ℕ = mappedOf es in
+      fits-all g (resorted es p) (omega (arith, fits-size g es fits, resorted-length)) resorted-originals resorted-ascending resorted-mapped
+      (each-clear s (mappedOf (resorted es p)) (resorted es p)
+      (each-so (originalClear s ms) (originalClear s (mappedOf (resorted es p))) (resorted es p)
+      (λ e w. clear-same s (mappedOf (resorted es p)) ms e resorted-starts ∙ w)
+      (resorted-each (originalClear s ms) es p (clear-each s ms es (fits-clear g es fits)) (place-clear s ms (own es p) clear)
+      (λ e w. unused-clear s ms e (defective-tests e (defective-means e w) .2))
+      (λ e w. unused-clear s ms e (free-tests e (free-means e w) .2)))))
 
   -- the packet is at the start that was free
   pub spot-same : spotOf (resorted es p) p ≡ mappedTo (firstFree (freeOf es))

@@ -15,7 +15,7 @@ use Rattle.model.specs.Sparing.{Geometry, Entry, sparingName, entries, f
 use Rattle.fields.proofs.Words.{AllWords, length-quads, words-append-add, words-quads}
 use Rattle.model.proofs.Basics.{both, or-left}
 use Rattle.model.proofs.SparingEntries.{entries-flat, length-flat, fits-size, fits-originals, fits-mapped, original-cases, originals-first, mapped-first}
-use Rattle.model.proofs.SparingPlaces.{outside-means}
+use Rattle.model.proofs.SparingPlaces.{whole-means}
 
 -- the first 56 bytes of a table of c entries
 front : ℕ → ℕ → List ℕ
@@ -84,7 +84,7 @@ unfolding flat
 flat-words g [] o m c s i = omega arith
 flat-words g (e ∷ l) o m c s zero =
     original-word (g .span) (e .original) (originals-first (g .span) e l o .0) s
-flat-words g (e ∷ l) o m c s (suc zero) = omega (arith, outside-means g (e .mapped) (mapped-first g e l m .0) .on)
+flat-words g (e ∷ l) o m c s (suc zero) = omega (arith, whole-means g (e .mapped) (mapped-first g e l m .0) .on)
 flat-words g (e ∷ l) o m c s (suc (suc i)) =
     flat-words g l
     (originals-first (g .span) e l o .1)

@@ -19,7 +19,7 @@ use Rattle.model.specs.VatWritten.{writtenIcb}
 use Rattle.model.specs.Sparing.{Entry, flat, entriesFit, writtenTable}
 use Rattle.model.specs.Examine.{Setting, writeOnce, geometry, examined, lentTable}
 use Rattle.model.specs.Once.{heldFits, entryTests, newestFile, openOnceTests, foundRecord, passedOver, filledFrom, nextOn}
-use Rattle.model.specs.Rewrite.{tableOn, copyTests, currentRecord, heldCurrent, placeOf, blockTest, copiesTo}
+use Rattle.model.specs.Rewrite.{tableOn, copyTests, currentRecord, heldCurrent, placeOf, blockTest, spareTest, copiesTo}
 
 -- ---- opening
 
@@ -74,12 +74,13 @@ readOnceTests e d t held v =
     test (heldFits e d t held) StaleRecord
     ∷ (entryTests t held v ++ markTests (mark d (blockSector e d t v)))
 
--- lines 8, 10 to 12, 25 and 14 on a rewritable disc
+-- lines 8, 10 to 12, 30, 25 and 14 on a rewritable disc
 unfoldable pub readRewritableTests : Setting → Disc → List ℕ → Record → ℕ → List Test
 readRewritableTests e d t held b =
     copyTests e d
     ++ (test (heldCurrent e d t held) StaleRecord
     ∷ blockTest e b
+    ∷ spareTest e d b
     ∷ markTests (mark d (blockSector e d t b)))
 
 -- line 3

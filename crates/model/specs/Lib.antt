@@ -24,3 +24,4 @@ pub mod Forecast
 pub mod EitherFirst
 pub mod ReadBack
 pub mod NewerWriters
+pub mod SparesInside

@@ -1,12 +1,13 @@
 -- What the calls do for a rewritable disc (document 01, "The buyer's note"): a call that always refuses would meet demand 3 (Demand.antt) too. A
--- disc that was made is opened, empty; then a block can be saved and a packet spared, once and again, and after another opening they read back.
+-- disc that was made is opened, empty; then a block can be saved and a packet spared, once and again, and after another opening they read back. So it
+-- is too where spares lie inside the partition (02, slip 8): their blocks give 30, and every other block can be used.
 use Prim.Native.Nat.{ℕ, _+_, _*_, _%_, _≤_, _<_}
 use mathlib.Core.Path.{_≡_}
-use mathlib.Core.Bool.{true, false}
+use mathlib.Core.Bool.{Bool, true, false}
 use mathlib.Core.Logic.{_≢_}
 use mathlib.Core.List.{List, [], _∷_}
 use lib.ListN.{length, getD, replicate}
-use Rattle.refusal.specs.declared.Refusal.the-variants.{NumberOutside}
+use Rattle.refusal.specs.declared.Refusal.the-variants.{NumberOutside, BelongsToSpare}
 use Rattle.refusal.specs.declared.Verdict.the-variants.{Go}
 use Rattle.fields.specs.Bytes.{part}
 use Rattle.maps.specs.declared.Kind.the-variants.{Rewritable}
@@ -16,18 +17,22 @@ use Rattle.model.specs.declared.Record.{Record}
 use Rattle.model.specs.declared.Opened.{Opened}
 use Rattle.model.specs.Disc.{Disc, shapely}
 use Rattle.model.specs.Writes.{noCut}
-use Rattle.model.specs.Sparing.{flat, defective, packetOf}
+use Rattle.model.specs.Sparing.{flat, defective, packetOf, ofSpare}
 use Rattle.model.specs.Examine.{Setting, setting, volume, writeOnce}
 use Rattle.model.specs.Once.{filledFrom}
 use Rattle.model.specs.Rewrite.{tableOn}
 use Rattle.model.specs.Both.{openVerdict, recordOn, opening, openedTable, spareEntries, makeVerdict, made}
 use Rattle.model.specs.Calls.{Call, saveBlock, sparePacket, openDisc, Answer, done, opened, State, answers, final}
-use Rattle.model.specs.Store.{holds, unused, blocksOn, bytes, turned}
+use Rattle.model.specs.Store.{holds, unused, reserved, blocksOn, bytes, turned}
 use Rattle.model.specs.Demand.{afterOpening, seen}
 
 -- 2,048 zeros: a block as making leaves it ("Calls and their sector writes")
 unfoldable pub zeroBlock : List ℕ
 zeroBlock = replicate 2048 0
+
+-- block v of a disc that is made with these spares belongs to one of them (02, slip 8)
+unfoldable pub inSpare : Setting → List ℕ → ℕ → Bool
+inSpare e spares v = ofSpare (e .start) (spareEntries spares) v
 
 -- ---- a made disc opens
 
@@ -41,9 +46,10 @@ pub record OpensFree (e : Setting) (d : Disc) (spares t : List ℕ) : Type 0 whe
   -- all entries are free, and the lent table is filled with them from its start
   pub free : tableOn e d ≡ flat (spareEntries spares)
   pub filled : openedTable e d t ≡ filledFrom (flat (spareEntries spares)) t
-  -- the plain store begins with L blocks, each of zeros ("The plain store")
+  -- the plain store begins with L blocks, each of zeros ("The plain store") or of a spare
   pub count : length (blocksOn e d) ≡ e .span
-  pub zeros : (b : ℕ) → b < e .span → getD (blocksOn e d) b unused ≡ holds zeroBlock
+  pub zeros : (b : ℕ) → b < e .span → inSpare e spares b ≡ false → getD (blocksOn e d) b unused ≡ holds zeroBlock
+  pub others : (b : ℕ) → b < e .span → inSpare e spares b ≡ true → getD (blocksOn e d) b unused ≡ reserved
 
 -- every rewritable disc whose making is accepted is opened, and is empty ("The buyer's note": opening that never accepts)
 unfoldable pub RewritableMadeOpens : Type 0
@@ -64,9 +70,10 @@ usualCalls b x p y = saveBlock b x noCut ∷ sparePacket p y noCut ∷ openDisc 
 unfoldable pub usualAnswers : ℕ → List Answer
 usualAnswers r = done (Record.Rewritable r 0) ∷ done (Record.Rewritable r 1) ∷ opened (Record.Rewritable r 1) 0 ∷ []
 
--- what is claimed of these calls from the state st on, with r entries in the table, and of reading any block v after them ("The plain store")
-pub record ReadsBack (e : Setting) (st : State) (r b : ℕ) (x : List ℕ) (p : ℕ) (y : List ℕ) : Type 0 where
-  pub answered : answers e st (usualCalls b x p y) ≡ usualAnswers r
+-- what is claimed of these calls from the state st on, on a disc that was made with these spares, and of reading any block v after them ("The plain
+-- store")
+pub record ReadsBack (e : Setting) (st : State) (spares : List ℕ) (b : ℕ) (x : List ℕ) (p : ℕ) (y : List ℕ) : Type 0 where
+  pub answered : answers e st (usualCalls b x p y) ≡ usualAnswers (length spares)
   -- a block of the spared packet reads as its part of the lent bytes
   pub spared :
       (v : ℕ) (out : List ℕ) → length out ≡ 2048 → packetOf v ≡ p
@@ -77,15 +84,19 @@ pub record ReadsBack (e : Setting) (st : State) (r b : ℕ) (x : List ℕ) (p : 
       → seen e (final e st (usualCalls b x p y)) v out ≡ bytes x
   -- every other block of the partition as zeros
   pub zeros :
-      (v : ℕ) (out : List ℕ) → length out ≡ 2048 → v ≢ b → packetOf v ≢ p → v < e .span
+      (v : ℕ) (out : List ℕ) → length out ≡ 2048 → v ≢ b → packetOf v ≢ p → v < e .span → inSpare e spares v ≡ false
       → seen e (final e st (usualCalls b x p y)) v out ≡ bytes zeroBlock
+  -- but those of spares give 30
+  pub thirty :
+      (v : ℕ) (out : List ℕ) → length out ≡ 2048 → v < e .span → inSpare e spares v ≡ true
+      → seen e (final e st (usualCalls b x p y)) v out ≡ turned BelongsToSpare
   -- and from L upward there is none
   pub beyond :
       (v : ℕ) (out : List ℕ) → length out ≡ 2048 → e .span ≤ v
       → seen e (final e st (usualCalls b x p y)) v out ≡ turned NumberOutside
 
--- so it is on every made rewritable disc with two tables or more and a spare, for every block and every packet of the partition ("The buyer's
--- note": a save that writes nothing, reading that always gives zeros, "no spare" on an unused disc)
+-- so it is on every made rewritable disc with two tables or more and a spare, for every block and every packet of the partition that belongs to no
+-- spare ("The buyer's note": a save that writes nothing, reading that always gives zeros, "no spare" on an unused disc)
 unfoldable pub RewritableLives : Type 0
 RewritableLives =
     (e : Setting) (d : Disc) (spares t : List ℕ)
@@ -94,9 +105,9 @@ RewritableLives =
     → 4096 ≤ length t
     → 2 ≤ length (tablesOf (volume e))
     → 1 ≤ length spares
-    → (b : ℕ) (x : List ℕ) → b < e .span → length x ≡ 2048
-    → (p : ℕ) (y : List ℕ) → p % 32 ≡ 0 → p < e .span → length y ≡ 65536
-    → ReadsBack e (afterOpening e (made e d spares) t) (length spares) b x p y
+    → (b : ℕ) (x : List ℕ) → b < e .span → inSpare e spares b ≡ false → length x ≡ 2048
+    → (p : ℕ) (y : List ℕ) → p % 32 ≡ 0 → p < e .span → inSpare e spares p ≡ false → length y ≡ 65536
+    → ReadsBack e (afterOpening e (made e d spares) t) spares b x p y
 
 -- ---- what is spared twice reads back as last spared (02, slip 1)
 
@@ -126,8 +137,8 @@ pub record SparedTwice (e : Setting) (st : State) (first second : ℕ) (more : L
       (v : ℕ) (out : List ℕ) → length out ≡ 2048 → packetOf v ≢ p
       → seen e (final e st (twiceCalls p y z)) v out ≡ seen e st v out
 
--- so it is on every made rewritable disc with two tables or more and two spares or more, for every packet of the partition: so that no call answers
--- 18 (NewerWriters.antt) is not because sparing refuses
+-- so it is on every made rewritable disc with two tables or more and two spares or more, for every packet of the partition that belongs to no spare:
+-- so that no call answers 18 (NewerWriters.antt) is not because sparing refuses
 unfoldable pub RespareLives : Type 0
 RespareLives =
     (e : Setting) (d : Disc) (first second : ℕ) (more t : List ℕ)
@@ -135,24 +146,32 @@ RespareLives =
     → makeVerdict e d (first ∷ second ∷ more) ≡ Go
     → 4096 ≤ length t
     → 2 ≤ length (tablesOf (volume e))
-    → (p : ℕ) (y z : List ℕ) → p % 32 ≡ 0 → p < e .span → length y ≡ 65536 → length z ≡ 65536
+    → (p : ℕ) (y z : List ℕ) → p % 32 ≡ 0 → p < e .span → inSpare e (first ∷ second ∷ more) p ≡ false → length y ≡ 65536 → length z ≡ 65536
     → SparedTwice e (afterOpening e (made e d (first ∷ second ∷ more)) t) first second more p y z
 
 -- ---- these claims speak of some disc
 
--- a volume with tables at sectors 0 and 32 and a partition of one packet from sector 96 on; its spares are to be at 64 and 128 ("The disc and its
--- addresses")
+-- a volume with tables at sectors 0 and 32 and a partition of two packets from sector 96 on ("The disc and its addresses"); its spares are to be at
+-- 128, inside the partition (02, slip 8), and at 64, outside it
 unfoldable pub smallVolume : Setting
-smallVolume = setting (mapsOf (Rewritable 0 2 72) (0 ∷ 32 ∷ 0 ∷ 0 ∷ [])) 96 32
+smallVolume = setting (mapsOf (Rewritable 0 2 72) (0 ∷ 32 ∷ 0 ∷ 0 ∷ [])) 96 64
 
--- it is made, with one spare, on every disc of 128 sectors or more that meets line 1 ("Why a call is turned down"), whatever is recorded there;
--- and with both on every one of 160 sectors or more
+-- both of them
+unfoldable pub smallSpares : List ℕ
+smallSpares = 128 ∷ 64 ∷ []
+
+-- what is claimed of it on the disc d
+pub record Makes (d : Disc) : Type 0 where
+  pub kind : writeOnce smallVolume ≡ false
+  pub tables : 2 ≤ length (tablesOf (volume smallVolume))
+  -- it is made with either spare and with both
+  pub inside : makeVerdict smallVolume d (128 ∷ []) ≡ Go
+  pub outside : makeVerdict smallVolume d (64 ∷ []) ≡ Go
+  pub either : makeVerdict smallVolume d smallSpares ≡ Go
+  -- the blocks of its first packet belong to no spare, and those of its second to that at 128
+  pub free : (b : ℕ) → b < 32 → inSpare smallVolume smallSpares b ≡ false
+  pub ofSpares : (b : ℕ) → 32 ≤ b → b < 64 → inSpare smallVolume smallSpares b ≡ true
+
+-- so it is on every disc of 160 sectors or more that meets line 1 ("Why a call is turned down"), whatever is recorded there
 unfoldable pub RewritableMakes : Type 0
-RewritableMakes =
-    (d : Disc)
-    → shapely d ≡ true
-    → 128 ≤ length (d .marks)
-    → (writeOnce smallVolume ≡ false)
-    × (2 ≤ length (tablesOf (volume smallVolume)))
-    × (makeVerdict smallVolume d (64 ∷ []) ≡ Go)
-    × (160 ≤ length (d .marks) → makeVerdict smallVolume d (64 ∷ 128 ∷ []) ≡ Go)
+RewritableMakes = (d : Disc) → shapely d ≡ true → 160 ≤ length (d .marks) → Makes d

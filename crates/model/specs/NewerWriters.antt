@@ -22,7 +22,7 @@ use Rattle.model.specs.declared.Forecast.{Forecast}
 use Rattle.model.specs.Disc.{Disc}
 use Rattle.model.specs.Vat.{none}
 use Rattle.model.specs.Told.{replyNumber, openedNumber, givenNumber, forecastNumber}
-use Rattle.model.specs.Sparing.{sparingName, olderName, Geometry, Entry, entries, flat, defective, usedOf, defectiveOf, freeOf, entriesFit, tableIn, noneDefective, copyFits, counts, sequenceIn, sequenceAt, tableAt, currentSequence, current, currentTable, agree, mappedTo, inPlace, spotOf, locate, firstFree, rest, inserted, without, turnedDefective, resorted, writtenTable}
+use Rattle.model.specs.Sparing.{sparingName, olderName, Geometry, Entry, entries, flat, defective, usedOf, defectiveOf, freeOf, entriesFit, tableIn, noneDefective, copyFits, counts, sequenceIn, sequenceAt, tableAt, currentSequence, current, currentTable, agree, mappedTo, inPlace, spotOf, ofSpare, locate, firstFree, rest, inserted, without, turnedDefective, resorted, writtenTable}
 use Rattle.model.specs.Plan.{replyOf, discAfter}
 use Rattle.model.specs.Examine.{Setting, writeOnce, geometry}
 use Rattle.model.specs.Rewrite.{noEntry, entriesOn, sequenceOn, sparedTable, sparePlan}
@@ -135,10 +135,10 @@ pub record Respared : Type 0 where
       → turnedDefective p (usedOf es) ≡ entry defective m ∷ []
   -- and there is none where the packet had none
   pub kept : (es : List Entry) (p : ℕ) → p % 32 ≡ 0 → spotOf es p ≡ inPlace → turnedDefective p (usedOf es) ≡ []
-  -- the table fits again: used, then defective, then free, as the copy rule has it; and R stays
+  -- the table fits again, where the packet belongs to no spare: used, then defective, then free, as the copy rule has it; and R stays
   pub fits :
       (g : Geometry) (es : List Entry) (p : ℕ)
-      → entriesFit g es ≡ true → g .span ≤ 1048576 → p % 32 ≡ 0 → p < g .span → noEntry (freeOf es) ≡ false
+      → entriesFit g es ≡ true → g .span ≤ 1048576 → p % 32 ≡ 0 → p < g .span → ofSpare (g .start) es p ≡ false → noEntry (freeOf es) ≡ false
       → (entriesFit g (resorted es p) ≡ true)
       × (resorted es p ≡ usedOf (resorted es p) ++ (defectiveOf (resorted es p) ++ freeOf (resorted es p)))
       × (length (resorted es p) ≡ length es)
@@ -153,10 +153,10 @@ pub record Respared : Type 0 where
       → entriesFit g es ≡ true → g .span ≤ 1048576 → p % 32 ≡ 0 → p < g .span → noEntry (freeOf es) ≡ false
       → q < g .span → q ≢ p
       → spotOf (resorted es p) q ≡ spotOf es q
-  -- in a table that fits no block is in a defective spare
+  -- in a table that fits no block is in a defective spare, but for those that give 30
   pub unread :
       (g : Geometry) (es : List Entry) (i v j : ℕ)
-      → entriesFit g es ≡ true → g .start % 32 ≡ 0 → g .span % 32 ≡ 0 → v < g .span → j < 32
+      → entriesFit g es ≡ true → g .start % 32 ≡ 0 → g .span % 32 ≡ 0 → ofSpare (g .start) es v ≡ false → j < 32
       → i < length (defectiveOf es)
       → locate (g .start) es v ≢ getD (defectiveOf es) i (entry 0 0) .mapped + j
   -- and none is the spare that a sparing takes

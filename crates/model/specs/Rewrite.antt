@@ -1,17 +1,22 @@
--- The calls on a rewritable disc (document 01, "Calls and their sector writes"), each as its tests in checking order and its plan.
+-- The calls on a rewritable disc (document 01, "Calls and their sector writes"; 02, slips 1, 5 and 8), each as its tests in checking order and its
+-- plan.
 use Prim.Native.Nat.{ℕ, _+_, _-_, _*_, _%_}
 use mathlib.Core.Bool.{Bool, true, false, cond, not, _&&_}
 use mathlib.Core.List.{List, [], _∷_, _++_}
 use lib.ListN.{length, take}
 use lib.Dec.{eqb, leb, ltb}
-use Rattle.refusal.specs.declared.Refusal.the-variants.{OtherKind, NoTable, CopiesDiffer, StaleRecord, NumberOutside, OneTable, NoSpare, LastSequence}
+use Rattle.refusal.specs.declared.Refusal.the-variants.{OtherKind, NoTable, CopiesDiffer, StaleRecord, NumberOutside, BelongsToSpare, OneTable, NoSpare, LastSequence}
 use Rattle.refusal.specs.declared.Verdict.{Verdict}
 use Rattle.refusal.specs.Tests.{Test, test, first, andThen}
 use Rattle.fields.specs.Bytes.{same, splice}
+use Rattle.address.specs.declared.LogicalAddress.{LogicalAddress}
+use Rattle.address.specs.declared.Span.{Span}
+use Rattle.address.specs.declared.ToPhysical.{ToPhysical}
+use Rattle.address.specs.Translation.{blockTests, unlessPhysical}
 use Rattle.model.specs.declared.Record.{Record}
 use Rattle.model.specs.Disc.{Disc, recordedRun, firstMark, markTests, joined}
 use Rattle.model.specs.Writes.{Write, upward}
-use Rattle.model.specs.Sparing.{Entry, entries, flat, freeOf, counting, current, currentSequence, currentTable, agree, packetOf, locate, firstFree, resorted, writtenTable}
+use Rattle.model.specs.Sparing.{Entry, entries, flat, freeOf, counting, current, currentSequence, currentTable, agree, packetOf, ofSpare, locate, firstFree, resorted, writtenTable}
 use Rattle.model.specs.Examine.{Setting, writeOnce, geometry, examined, lentTable}
 use Rattle.model.specs.Once.{filledFrom}
 use Rattle.model.specs.Plan.{Plan, carry, unless}
@@ -64,6 +69,27 @@ rewritableVerdict e d t lent held own =
 unfoldable pub placeOf : Setting → Disc → ℕ → ℕ
 placeOf e d b = locate (e .start) (entriesOn e d) b
 
+-- line 12: b is below L
+unfoldable pub blockTest : Setting → ℕ → Test
+blockTest e b = test (ltb b (e .span)) NumberOutside
+
+-- block b belongs to a spare of the current table
+unfoldable pub ofSpareOn : Setting → Disc → ℕ → Bool
+ofSpareOn e d b = ofSpare (e .start) (entriesOn e d) b
+
+-- line 30: "the block or packet belongs to a spare" (02, slip 8)
+unfoldable pub spareTest : Setting → Disc → ℕ → Test
+spareTest e d b = test (not (ofSpareOn e d b)) BelongsToSpare
+
+-- why a logical address is turned down by a translation that is lent the sparing entries: lines 12 and 30. One that is lent S and L only (address) does
+-- not test 30
+unfoldable pub packetVerdict : Span → List Entry → LogicalAddress → Verdict
+packetVerdict s es b = first (blockTests s b ++ (test (not (ofSpare (s .start) es (b .0))) BelongsToSpare ∷ []))
+
+-- that translation: the first sector of the packet of b
+unfoldable pub packetPhysical : Span → List Entry → LogicalAddress → ToPhysical
+packetPhysical s es b = unlessPhysical (packetVerdict s es b) (record { 0 = locate (s .start) es (packetOf (b .0)) })
+
 -- ---- save b: the packet read, one block replaced, 32 sectors rewritten upward
 
 -- the sectors to be read (02, slip 5): those of a packet from p on but the one that is replaced, number i of them. The mark of the first of
@@ -71,14 +97,11 @@ placeOf e d b = locate (e .start) (entriesOn e d) b
 unfoldable pub otherMark : Disc → ℕ → ℕ → ℕ
 otherMark d p i = cond (recordedRun d p i) (firstMark d (p + i + 1) (31 - i)) (firstMark d p i)
 
--- line 12: b is below L
-unfoldable pub blockTest : Setting → ℕ → Test
-blockTest e b = test (ltb b (e .span)) NumberOutside
-
--- lines 12, 25 and 14
+-- lines 12, 30, 25 and 14
 unfoldable pub saveBlockTests : Setting → Disc → ℕ → List Test
 saveBlockTests e d b =
     blockTest e b
+    ∷ spareTest e d b
     ∷ markTests (otherMark d (placeOf e d (packetOf b)) (b % 32))
 
 -- line 3
@@ -105,9 +128,9 @@ saveBlockPlan e d t held b block =
 
 -- ---- save packet: the same with 65,536 lent bytes
 
--- line 12: a packet start is a multiple of 32 below L
-unfoldable pub packetTests : Setting → ℕ → List Test
-packetTests e b = test (eqb (b % 32) 0 && ltb b (e .span)) NumberOutside ∷ []
+-- lines 12 and 30: a packet start is a multiple of 32 below L, and no spare's
+unfoldable pub packetTests : Setting → Disc → ℕ → List Test
+packetTests e d b = test (eqb (b % 32) 0 && ltb b (e .span)) NumberOutside ∷ spareTest e d b ∷ []
 
 -- line 3
 unfoldable pub packetLent : List ℕ → List ℕ → Bool
@@ -117,7 +140,7 @@ packetLent t packet = lentTable t && eqb (length packet) 65536
 unfoldable pub savePacketPlan : Setting → Disc → List ℕ → Record → ℕ → List ℕ → Plan
 savePacketPlan e d t held b packet =
     unless
-    (rewritableVerdict e d t (packetLent t packet) held (packetTests e b))
+    (rewritableVerdict e d t (packetLent t packet) held (packetTests e d b))
     (carry (packetWrites (placeOf e d b) packet) t held)
 
 -- ---- spare packet, also one that is spared already (02, slip 1): those bytes to the free entry of lowest index, upward; then the table,
@@ -128,10 +151,10 @@ unfoldable pub noEntry : List Entry → Bool
 noEntry [] = true
 noEntry (x ∷ l) = false
 
--- lines 12, 17, 19 and 20
+-- lines 12, 30, 17, 19 and 20
 unfoldable pub spareTests : Setting → Disc → ℕ → List Test
 spareTests e d b =
-    packetTests e b
+    packetTests e d b
     ++ (test (leb 2 (length (geometry e d .tables))) OneTable
     ∷ test (not (noEntry (freeOf (entriesOn e d)))) NoSpare
     ∷ test (not (eqb (sequenceOn e d) 0xffffffff)) LastSequence

@@ -1,4 +1,4 @@
--- The sparing table (document 01, "The sparing table"; 004, table 6; and 02, slip 1). A table is the list of its numbers, original and mapped by
+-- The sparing table (document 01, "The sparing table"; 004, table 6; and 02, slips 1 and 8). A table is the list of its numbers, original and mapped by
 -- turns, as in the lent table. In two things tables follow OSTA UDF 1.50, as 02 quotes it: the identifier that is written, and the original that
 -- marks a defective spare. All else is 004 in 01's form, and the suffix of the identifier is written as zeros, like that of every regid.
 use Prim.Native.Nat.{ℕ, _+_, _-_, _*_, _/_, _%_}
@@ -115,26 +115,42 @@ unfoldable pub apartFrom : ℕ → List ℕ → Bool
 apartFrom m [] = true
 apartFrom m (x ∷ l) = apart m x && apartFrom m l
 
--- a packet that begins at m is a whole packet of the disc, outside the partition
+-- a packet that begins at m is a whole packet of the disc
+unfoldable pub wholePacket : Geometry → ℕ → Bool
+wholePacket g m = eqb (m % 32) 0 && leb (m + 32) (g .sectors)
+
+-- and outside the partition besides: what line 6 asks of a table's packet ("table packets still stay outside"; 02, slip 8)
 unfoldable pub outside : Geometry → ℕ → Bool
-outside g m =
-    eqb (m % 32) 0 && (leb (m + 32) (g .sectors) && (leb (m + 32) (g .start) || leb (g .start + g .span) m))
+outside g m = wholePacket g m && (leb (m + 32) (g .start) || leb (g .start + g .span) m)
 
 -- the mapped starts
 unfoldable pub mappedOf : List Entry → List ℕ
 mappedOf [] = []
 mappedOf (e ∷ l) = e .mapped ∷ mappedOf l
 
--- mapped starts are distinct multiples of 32, whole packets on the disc, outside the partition and every table's packet
+-- mapped starts are distinct multiples of 32, whole packets on the disc and outside every table's packet. "Mapped packets there", in the
+-- partition, "are to be accepted" (02, slip 8)
 unfoldable pub mappedFit : Geometry → List Entry → Bool
 mappedFit g [] = true
 mappedFit g (e ∷ es) =
-    outside g (e .mapped) && (apartFrom (e .mapped) (g .tables) && (absent (e .mapped) (mappedOf es) && mappedFit g es))
+    wholePacket g (e .mapped) && (apartFrom (e .mapped) (g .tables) && (absent (e .mapped) (mappedOf es) && mappedFit g es))
 
--- the copy rule: R entries fit the map's size, and originals and mapped starts are as above
+-- the packet of an entry that is used is none of those that begin at the sectors ms, in a partition that starts at sector s
+unfoldable pub originalClear : ℕ → List ℕ → Entry → Bool
+originalClear s ms e = not (isUsed e) || absent (sectorAt s (e .original)) ms
+
+-- each of them is so
+unfoldable pub originalsClear : ℕ → List ℕ → List Entry → Bool
+originalsClear s ms [] = true
+originalsClear s ms (e ∷ es) = originalClear s ms e && originalsClear s ms es
+
+-- the copy rule: R entries fit the map's size, originals and mapped starts are as above, and "an original may not be such a packet" (02, slip 8):
+-- one that any entry maps, whether it is used, defective or free, its own among them
 unfoldable pub entriesFit : Geometry → List Entry → Bool
 entriesFit g es =
-    leb (56 + 8 * length es) (g .size) && (originalsFit (g .span) es && (ascending es && mappedFit g es))
+    leb (56 + 8 * length es) (g .size)
+    && (originalsFit (g .span) es
+    && (ascending es && (mappedFit g es && originalsClear (g .start) (mappedOf es) es)))
 
 -- ---- a copy
 
@@ -234,6 +250,10 @@ spotOf (e ∷ l) p = cond (eqb (e .original) p) (mappedTo (e .mapped)) (spotOf l
 -- the first block of the packet of block b
 unfoldable pub packetOf : ℕ → ℕ
 packetOf b = b - b % 32
+
+-- block b belongs to a spare (02, slip 8): an entry, whether it is used, defective or free, maps the sectors of its packet
+unfoldable pub ofSpare : ℕ → List Entry → ℕ → Bool
+ofSpare s es b = not (absent (sectorAt s (packetOf b)) (mappedOf es))
 
 -- the sector at which a packet that begins at p is read
 unfoldable pub startAt : Spot → ℕ → ℕ → ℕ

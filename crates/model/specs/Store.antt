@@ -6,7 +6,7 @@ use mathlib.Core.List.{List, [], _∷_, _++_, map}
 use lib.ListN.{length, getD, set, take, drop}
 use lib.Dec.{eqb, ltb}
 use Rattle.refusal.specs.declared.Refusal.{Refusal}
-use Rattle.refusal.specs.declared.Refusal.the-variants.{NumberOutside, UnusedEntry, BlankSector, UnreadableSector}
+use Rattle.refusal.specs.declared.Refusal.the-variants.{NumberOutside, BelongsToSpare, UnusedEntry, BlankSector, UnreadableSector}
 use Rattle.fields.specs.Bytes.{part}
 use Rattle.address.specs.Translation.{sectorAt}
 use Rattle.model.specs.declared.Cut.{Cut}
@@ -19,16 +19,17 @@ use Rattle.model.specs.VatWritten.{dataSectors}
 use Rattle.model.specs.Sparing.{packetOf}
 use Rattle.model.specs.Examine.{Setting, writeOnce, volume}
 use Rattle.model.specs.Once.{newestFile}
-use Rattle.model.specs.Rewrite.{placeOf}
+use Rattle.model.specs.Rewrite.{ofSpareOn, placeOf}
 use Rattle.model.specs.Calls.{Call, saveVirtual, freeVirtual, commit, saveBlock, savePacket, sparePacket, openDisc}
 use Rattle.maps.specs.Kinds.{tablesOf}
 
--- a block: its bytes, unused, unreadable, or blank (02, slip 5: "The plain store gains blank as a fourth reading")
+-- a block: its bytes, unused, unreadable, blank (02, slip 5: "The plain store gains blank as a fourth reading"), or of a spare (02, slip 8)
 pub data Slot : Type 0 where
   holds : List ℕ → Slot
   unused : Slot
   unreadable : Slot
   blank : Slot
+  reserved : Slot
 
 -- the blocks, and on a write-once disc a committed copy of them
 pub record Store : Type 0 where
@@ -58,10 +59,14 @@ entrySlot d s x = cond (eqb x none) unused (slotAt d (sectorAt s x))
 unfoldable pub entrySlots : Disc → ℕ → List ℕ → List Slot
 entrySlots d s l = map (entrySlot d s) l
 
--- n blocks from b on of a rewritable disc
+-- block b of a rewritable disc: of a spare, or the sector at which it is
+unfoldable pub placeSlot : Setting → Disc → ℕ → Slot
+placeSlot e d b = cond (ofSpareOn e d b) reserved (slotAt d (placeOf e d b))
+
+-- n blocks from b on
 unfoldable pub placeSlots : Setting → Disc → ℕ → ℕ → List Slot
 placeSlots e d b zero = []
-placeSlots e d b (suc n) = slotAt d (placeOf e d b) ∷ placeSlots e d (b + 1) n
+placeSlots e d b (suc n) = placeSlot e d b ∷ placeSlots e d (b + 1) n
 
 -- the blocks of a disc
 unfoldable pub blocksOn : Setting → Disc → List Slot
@@ -172,12 +177,13 @@ pub data Seen : Type 0 where
   bytes : List ℕ → Seen
   turned : Refusal → Seen
 
--- its bytes, 13 where it is unused, 14 where it is unreadable, 25 where it is blank
+-- its bytes, 13 where it is unused, 14 where it is unreadable, 25 where it is blank, 30 where it is of a spare
 unfoldable pub seenAs : Slot → Seen
 seenAs (holds b) = bytes b
 seenAs unused = turned UnusedEntry
 seenAs unreadable = turned UnreadableSector
 seenAs blank = turned BlankSector
+seenAs reserved = turned BelongsToSpare
 
 -- and 12 from the number of blocks upward
 unfoldable pub look : Store → ℕ → Seen

@@ -1,13 +1,13 @@
 // Document 01 as definitions, in specs/, and the theorem over them, in proofs/. Here are only what the
 // calls share: numbers of the format, what a cut is, the record that a call hands on, what a call answers, and
-// the test of a packet that tables and spares are both put to.
+// the tests that packets of tables and of spares are put to.
 use address::PhysicalAddress;
 use maps::PACKET;
 use refusal::Refusal;
 ghost use mathlib.Core.Path.{_≡_};
 ghost use mathlib.Core.List.{List};
 ghost use Prim.Native.Nat.{ℕ};
-ghost use Rattle.model.specs.Sparing.{groundOf, outside};
+ghost use Rattle.model.specs.Sparing.{groundOf, wholePacket, outside};
 
 // The bytes of a sector, and so of a block.
 pub const SECTOR: usize = 2048;
@@ -91,17 +91,25 @@ pub enum Forecast {
     Refused(Refusal),
 }
 
-// Whether the packet at m is a whole packet of the disc, outside the partition.
-pub fn is_outside(sectors: usize, s: u32, l: u32, m: PhysicalAddress) -> bool
-    ensures { λ r. ⌜ ((tables : List ℕ) (size : ℕ) → r ≡ outside (groundOf s l sectors tables size) (m .0)) ⌝ }
+// Whether the packet at m is a whole packet of the disc.
+pub fn is_whole(sectors: usize, m: PhysicalAddress) -> bool
+    ensures { λ r. ⌜ ((s l : ℕ) (tables : List ℕ) (size : ℕ) → r ≡ wholePacket (groundOf s l sectors tables size) (m .0)) ⌝ }
 {
     let at = m.0 as u64;
     if at % WIDE_PACKET != 0 {
         return false;
     }
-    if (sectors as u64) < at + WIDE_PACKET {
+    at + WIDE_PACKET <= sectors as u64
+}
+
+// Whether it is one outside the partition.
+pub fn is_outside(sectors: usize, s: u32, l: u32, m: PhysicalAddress) -> bool
+    ensures { λ r. ⌜ ((tables : List ℕ) (size : ℕ) → r ≡ outside (groundOf s l sectors tables size) (m .0)) ⌝ }
+{
+    if !is_whole(sectors, m) {
         return false;
     }
+    let at = m.0 as u64;
     if at + WIDE_PACKET <= s as u64 {
         return true;
     }

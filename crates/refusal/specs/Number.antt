@@ -3,7 +3,7 @@ use Prim.Native.Nat.{ℕ}
 use Rattle.refusal.specs.declared.Refusal.{Refusal}
 use Rattle.refusal.specs.declared.Verdict.{Verdict}
 use Rattle.refusal.specs.declared.Verdict.the-variants.{Go, Stop}
-use Rattle.refusal.specs.declared.Refusal.the-variants.{DiscShape, SpanOutside, LentLength, MapCut, NeitherKind, Misaligned, OtherKind, NoTable, TooManyEntries, CopiesDiffer, StaleRecord, NumberOutside, UnusedEntry, BlankSector, UnreadableSector, PassesAsIcb, NoRoom, OneTable, NoSpare, LastSequence, NotBlank}
+use Rattle.refusal.specs.declared.Refusal.the-variants.{DiscShape, SpanOutside, LentLength, MapCut, NeitherKind, Misaligned, OtherKind, NoTable, TooManyEntries, CopiesDiffer, StaleRecord, NumberOutside, BelongsToSpare, UnusedEntry, BlankSector, UnreadableSector, PassesAsIcb, NoRoom, OneTable, NoSpare, LastSequence, NotBlank}
 
 -- the line by which a call is turned down
 abbrev pub numberOf : Refusal → ℕ
@@ -19,6 +19,7 @@ numberOf TooManyEntries = 9
 numberOf CopiesDiffer = 10
 numberOf StaleRecord = 11
 numberOf NumberOutside = 12
+numberOf BelongsToSpare = 30
 numberOf UnusedEntry = 13
 numberOf BlankSector = 25
 numberOf UnreadableSector = 14

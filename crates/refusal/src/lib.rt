@@ -4,7 +4,7 @@ ghost use mathlib.Core.Path.{_≡_};
 ghost use Rattle.refusal.specs.Number.{numberOf};
 
 // A variant for each line, in checking order. That is not the order of the numbers: those of document 02 stand where it
-// places them, 25 directly before 14. Line 18 never occurs (02, slip 1), and no variant has its number.
+// places them, 30 after 12 and 25 directly before 14. Line 18 never occurs (02, slip 1), and no variant has its number.
 pub enum Refusal {
     // Disc bytes are not 2,048 times the marks, sectors exceed the limit or are none, or a mark exceeds 2.
     DiscShape,
@@ -30,6 +30,8 @@ pub enum Refusal {
     StaleRecord,
     // The number of a block or a packet is out of range.
     NumberOutside,
+    // The block or packet belongs to a spare (document 02, slip 8).
+    BelongsToSpare,
     // The entry to be read or freed is unused.
     UnusedEntry,
     // The first sector to be read that is not recorded is blank (document 02, slip 5).
@@ -73,6 +75,7 @@ pub fn number(r: Refusal) -> u32
         Refusal::CopiesDiffer => 10,
         Refusal::StaleRecord => 11,
         Refusal::NumberOutside => 12,
+        Refusal::BelongsToSpare => 30,
         Refusal::UnusedEntry => 13,
         Refusal::BlankSector => 25,
         Refusal::UnreadableSector => 14,

@@ -16,7 +16,7 @@ use Rattle.model.specs.declared.Given.{Given}
 use Rattle.model.specs.Disc.{Disc, sector, mark, markTests}
 use Rattle.model.specs.Sparing.{packetOf, locate}
 use Rattle.model.specs.Examine.{Setting, geometry, lentTable}
-use Rattle.model.specs.Rewrite.{entriesOn, rewritableVerdict, placeOf, blockTest}
+use Rattle.model.specs.Rewrite.{entriesOn, rewritableVerdict, placeOf, blockTest, spareTest}
 use Rattle.model.specs.Both.{readLent, givenBy, blockBy}
 use Rattle.model.proofs.Basics.{and-true}
 use Rattle.model.proofs.SparingLaws.{packet-multiple, packet-rest, locate-packet}
@@ -42,8 +42,8 @@ module _ (e : Setting) (d : Disc) (t : List ℕ) (held : Record) (b : ℕ) (out 
   read-refused h = (sym (ap givenBy h), sym (ap (λ (w : Verdict). blockBy w (sector d (placeOf e d b)) out) h))
 
   -- k says whether the lent slices have their lengths, and w is the verdict of `place_block`
-  module _ {k : Bool} (q : k ≡ (lentTable t && eqb (length out) 2048)) {w : Verdict} (f : w ≡ rewritableVerdict e d t k held (blockTest e b ∷ [])) where
-    -- lines 1 to 8 and 10 to 12
+  module _ {k : Bool} (q : k ≡ (lentTable t && eqb (length out) 2048)) {w : Verdict} (f : w ≡ rewritableVerdict e d t k held (blockTest e b ∷ spareTest e d b ∷ [])) where
+    -- lines 1 to 8, 10 to 12 and 30
     pub read-stopped : {why : Refusal} → w ≡ Stop why → (Given.Refused why ≡ readingBlock e d t held b out) × (out ≡ readBlockBytes e d t held b out)
     unfolding readBlockVerdict readLent
     read-stopped h = read-refused (place-stops e d t (readLent t out) held b q f _ h)

@@ -7,7 +7,7 @@ use Rattle.model.specs.declared.Opened.{Opened}
 use Rattle.model.specs.declared.Given.{Given}
 use Rattle.model.specs.Disc.{Disc, sector, mark, markTests}
 use Rattle.model.specs.Examine.{Setting, lentTable}
-use Rattle.model.specs.Rewrite.{tableOn, currentRecord, rewritableVerdict, placeOf, blockTest}
+use Rattle.model.specs.Rewrite.{tableOn, currentRecord, rewritableVerdict, placeOf, blockTest, spareTest}
 use Rattle.sparing_current.specs.Looked.{lookVerdict}
 use Rattle.model.specs.Both.{openedBy, filledBy, readLent, givenBy, blockBy}
 
@@ -21,12 +21,12 @@ openingRewritable e d t = openedBy (lookVerdict e d (lentTable t)) (currentRecor
 unfoldable pub openedRewritable : Setting → Disc → List ℕ → List ℕ
 openedRewritable e d t = filledBy (lookVerdict e d (lentTable t)) (tableOn e d) t
 
--- ---- reading: lines 1 to 8, 10 to 12, 25 and 14
+-- ---- reading: lines 1 to 8, 10 to 12, 30, 25 and 14
 
 -- why it is turned down
 unfoldable pub readBlockVerdict : Setting → Disc → List ℕ → Record → ℕ → List ℕ → Verdict
 readBlockVerdict e d t held b out =
-    rewritableVerdict e d t (readLent t out) held (blockTest e b ∷ markTests (mark d (placeOf e d b)))
+    rewritableVerdict e d t (readLent t out) held (blockTest e b ∷ spareTest e d b ∷ markTests (mark d (placeOf e d b)))
 
 -- what it answers
 unfoldable pub readingBlock : Setting → Disc → List ℕ → Record → ℕ → List ℕ → Given

@@ -17,7 +17,7 @@ use Rattle.model.specs.Disc.{Disc, firstMark, markTests}
 use Rattle.model.specs.Writes.{writes, upward, struck}
 use Rattle.model.specs.Sparing.{packetOf}
 use Rattle.model.specs.Examine.{Setting, lentTable}
-use Rattle.model.specs.Rewrite.{rewritableVerdict, placeOf, otherMark, blockTest, saveBlockTests, blockLent, packetWrites, replaced, saveBlockPlan, packetTests, packetLent, savePacketPlan}
+use Rattle.model.specs.Rewrite.{rewritableVerdict, placeOf, otherMark, blockTest, spareTest, saveBlockTests, blockLent, packetWrites, replaced, saveBlockPlan, packetTests, packetLent, savePacketPlan}
 use Rattle.model.specs.Plan.{carry}
 use Rattle.model.proofs.Basics.{and-true}
 use Rattle.model.proofs.Marks.{others-below, others-above}
@@ -25,6 +25,8 @@ use Rattle.model.proofs.Verdicts.{unless-go}
 use Rattle.model.proofs.SectorsRuns.{length-upward}
 use Rattle.model.proofs.SparingLaws.{packet-own}
 use Rattle.sparing_current.proofs.Held.{place-on}
+use Rattle.sparing_place.specs.declared.Placed.{Placed}
+use Rattle.sparing_place.specs.Placed.{PlacesPacket}
 use Rattle.sparing_place.proofs.Laws.{going-all, found, place-stops, place-goes}
 use Rattle.sparing_place.proofs.Packets.{packet-bytes, packet-tells}
 
@@ -42,7 +44,7 @@ block-bytes t block h = eqb-true (length block) 2048 (and-true (lentTable t) (eq
 
 -- ---- lines 25 and 14 of a block, after what `place_block` said, w; x is what the test of the lent lengths did
 
-module _ (e : Setting) (d : Disc) (t : List ℕ) (held : Record) (b : ℕ) (block : List ℕ) {x : Bool} {w : Verdict} (is : x ≡ blockLent t block) (says : w ≡ rewritableVerdict e d t x held (blockTest e b ∷ [])) where
+module _ (e : Setting) (d : Disc) (t : List ℕ) (held : Record) (b : ℕ) (block : List ℕ) {x : Bool} {w : Verdict} (is : x ≡ blockLent t block) (says : w ≡ rewritableVerdict e d t x held (blockTest e b ∷ spareTest e d b ∷ [])) where
   -- the verdict of the save
   abbrev verdict : Verdict
   verdict = rewritableVerdict e d t (blockLent t block) held (saveBlockTests e d b)
@@ -106,7 +108,15 @@ pub block-written : (c : Cut) (e : Setting) (d : Disc) (b : ℕ) (block : List �
 block-written c e d b block q w =
     w ∙ ap (λ (k : ℕ). writes 1 c (packetWrites k (replaced d k (b % 32) block)) d) q
 
--- ---- what a save of a packet may rely on
+-- ---- a save of a packet
+
+-- it is judged by its lent lengths; x is what the test of them did
+pub packet-judged : (e : Setting) (d : Disc) (t : List ℕ) (held : Record) (b : ℕ) (packet : List ℕ) (r : Placed) {x : Bool} → x ≡ packetLent t packet
+    → PlacesPacket e d t x held b r → PlacesPacket e d t (packetLent t packet) held b r
+packet-judged e d t held b packet r q h =
+    record { verdict = h .verdict ∙ ap (λ (y : Bool). rewritableVerdict e d t y held (packetTests e d b)) q; place = h .place }
+
+-- ---- what it may rely on
 
 -- once nothing stops it
 pub record SavesPacket (e : Setting) (d : Disc) (t : List ℕ) (held : Record) (b : ℕ) (packet : List ℕ) : Type 0 where
@@ -116,20 +126,20 @@ pub record SavesPacket (e : Setting) (d : Disc) (t : List ℕ) (held : Record) (
   pub whole : length packet ≡ 65536
 
 -- from its verdict
-pub saves-packet : (e : Setting) (d : Disc) (t : List ℕ) (held : Record) (b : ℕ) (packet : List ℕ) {v : Verdict} → v ≡ rewritableVerdict e d t (packetLent t packet) held (packetTests e b) → v ≡ Go → SavesPacket e d t held b packet
+pub saves-packet : (e : Setting) (d : Disc) (t : List ℕ) (held : Record) (b : ℕ) (packet : List ℕ) {v : Verdict} → v ≡ rewritableVerdict e d t (packetLent t packet) held (packetTests e d b) → v ≡ Go → SavesPacket e d t held b packet
 saves-packet e d t held b packet f g =
-    let a = going-all e d t (packetLent t packet) held (packetTests e b) (sym f ∙ g) in
-    let k = packet-tells e b (a .1) in
-    let q : packetOf b ≡ b = packet-own b (k .0) in
+    let a = going-all e d t (packetLent t packet) held (packetTests e d b) (sym f ∙ g) in
+    let k = packet-tells e d b (a .1) in
+    let q : packetOf b ≡ b = packet-own b (k .start) in
     record {
-      on = omega (arith, place-on e d t _ held (a .0) b (k .1), ap (placeOf e d) q);
+      on = omega (arith, place-on e d t _ held (a .0) b (k .low), ap (placeOf e d) q);
       most = a .0 .few;
       shape = a .0 .shape;
       whole = packet-bytes t packet (a .0 .lengths);
     }
 
 -- its plan
-pub packet-plan : (e : Setting) (d : Disc) (t : List ℕ) (held : Record) (b : ℕ) (packet : List ℕ) {v : Verdict} → v ≡ rewritableVerdict e d t (packetLent t packet) held (packetTests e b) → v ≡ Go → savePacketPlan e d t held b packet ≡ carry (packetWrites (placeOf e d b) packet) t held
+pub packet-plan : (e : Setting) (d : Disc) (t : List ℕ) (held : Record) (b : ℕ) (packet : List ℕ) {v : Verdict} → v ≡ rewritableVerdict e d t (packetLent t packet) held (packetTests e d b) → v ≡ Go → savePacketPlan e d t held b packet ≡ carry (packetWrites (placeOf e d b) packet) t held
 unfolding savePacketPlan
 packet-plan e d t held b packet f g = unless-go _ (sym f ∙ g)
 

@@ -20,6 +20,6 @@ JudgesBlock x t held b block r =
 abbrev pub JudgesPacket : Lent → List ℕ → Record → ℕ → List ℕ → Placed → Type 0
 JudgesPacket x t held b packet r =
     PlacedAs
-    (rewritableVerdict (x .setting) (x .disc) t (packetLent t packet) held (packetTests (x .setting) b))
+    (rewritableVerdict (x .setting) (x .disc) t (packetLent t packet) held (packetTests (x .setting) (x .disc) b))
     (placeOf (x .setting) (x .disc) b)
     r

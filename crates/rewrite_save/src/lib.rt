@@ -8,7 +8,6 @@ use model::PACKET_BYTES;
 use model::Record;
 use model::Reply;
 use model::SECTOR;
-use refusal::Refusal;
 use refusal::Verdict;
 use sparing_place::Placed;
 ghost use Rattle.model.specs.Disc.{disc as discOf};
@@ -98,15 +97,7 @@ fn judge_packet(
         (now (table .entry)) held (b .0) (now (packet .entry)) r ⌝ }
 {
     let lent = examine::are_lent(table, packet, PACKET_BYTES);
-    let placed = sparing_place::place_block(disc, marks, maps, s, l, table, lent, held, b);
-    let verdict = placed.verdict;
-    if let Verdict::Stop(_) = verdict {
-        return placed;
-    }
-    if b.0 % PACKET != 0 {
-        return sparing_place::stopped(Refusal::NumberOutside);
-    }
-    placed
+    sparing_place::place_packet(disc, marks, maps, s, l, table, lent, held, b)
 }
 
 // Saves a packet: its 32 sectors are written, wherever it is read.

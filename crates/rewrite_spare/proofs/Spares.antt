@@ -8,7 +8,7 @@ use native.Mathlib.Omega.{arith}
 use borrow.Author.Tests.{eq-eqb, ne-eqb, eqb-false, le-leb, lt-leb, not-true, not-false}
 use lib.Dec.{eqb, leb}
 use lib.ListN.{length, take, length-append}
-use Rattle.refusal.specs.declared.Refusal.the-variants.{NumberOutside, OneTable, NoSpare, LastSequence}
+use Rattle.refusal.specs.declared.Refusal.the-variants.{NumberOutside, BelongsToSpare, OneTable, NoSpare, LastSequence}
 use Rattle.refusal.specs.declared.Verdict.{Verdict}
 use Rattle.refusal.specs.declared.Verdict.the-variants.{Go, Stop}
 use Rattle.refusal.specs.Tests.{Test, test, first}
@@ -17,16 +17,16 @@ use Rattle.model.specs.declared.Cut.{Cut}
 use Rattle.model.specs.declared.Record.{Record}
 use Rattle.model.specs.Disc.{Disc}
 use Rattle.model.specs.Writes.{writes, upward, struck}
-use Rattle.model.specs.Sparing.{Geometry, Entry, entries, flat, freeOf, entriesFit, countIn, tableIn, counts, firstFree, resorted, writtenTable}
+use Rattle.model.specs.Sparing.{Geometry, Entry, entries, flat, freeOf, entriesFit, countIn, tableIn, counts, ofSpare, firstFree, resorted, writtenTable}
 use Rattle.model.specs.Examine.{Setting, geometry}
 use Rattle.model.specs.Once.{filledFrom}
 use Rattle.model.specs.Plan.{carry}
-use Rattle.model.specs.Rewrite.{entriesOn, sequenceOn, countOn, rewritableVerdict, packetTests, packetLent, packetWrites, noEntry, spareTests, copiesTo, sparedTable, copyOrder, spareWrites, sparePlan}
+use Rattle.model.specs.Rewrite.{entriesOn, sequenceOn, countOn, rewritableVerdict, ofSpareOn, packetTests, packetLent, packetWrites, noEntry, spareTests, copiesTo, sparedTable, copyOrder, spareWrites, sparePlan}
 use Rattle.model.proofs.Verdicts.{unless-go}
 use Rattle.model.proofs.Ground.{Ground}
 use Rattle.model.proofs.Sectors.{writes-append}
 use Rattle.model.proofs.SectorsRuns.{length-upward}
-use Rattle.model.proofs.SparingLaws.{fits-ascending, three-parts, free-on, written-count, written-table, resorted-length, resorted-fits, length-copies, copy-order-length}
+use Rattle.model.proofs.SparingLaws.{fits-ascending, three-parts, free-on, written-count, written-table, packet-unmapped, resorted-length, resorted-fits, length-copies, copy-order-length}
 use Rattle.sparing_copy.specs.Layout.{geometryIn}
 use Rattle.address.specs.declared.PhysicalAddress.{PhysicalAddress}
 use Rattle.sparing_table.specs.declared.FirstFree.{FirstFree}
@@ -42,7 +42,7 @@ use Rattle.rewrite_spare.specs.Parts.{SparingJudgedAs, sparingWrites}
 use Rattle.sparing_current.proofs.Held.{count-held, sequence-held, room-held, entries-lent}
 use Rattle.sparing_current.proofs.Judging.{Laid, laid}
 use Rattle.sparing_place.proofs.Laws.{going-all}
-use Rattle.sparing_place.proofs.Packets.{packet-bytes, packet-off, packet-outside, packet-fits, packet-tells}
+use Rattle.sparing_place.proofs.Packets.{packet-bytes, packet-off, packet-outside, packet-spared, packet-fits, packet-tells}
 
 -- ---- the free entry of lowest index
 
@@ -91,9 +91,9 @@ module _ (t : List ℕ) (held : Record) {r : ℕ} {f : FirstFree} (is : r ≡ co
   unfolding someIn
   free-none h = sym (ap someIn h) ∙ ap someIn in-lent ∙ some-free (freeOf (entriesLent t held))
 
--- ---- lines 12, 17, 19 and 20
+-- ---- lines 12, 30, 17, 19 and 20
 
--- the lines after 12
+-- the lines after 12 and 30
 abbrev ownTests : Setting → Disc → ℕ → List Test
 ownTests e d b =
     test (leb 2 (length (geometry e d .tables))) OneTable
@@ -101,22 +101,32 @@ ownTests e d b =
     ∷ test (not (eqb (sequenceOn e d) 0xffffffff)) LastSequence
     ∷ []
 
+-- u, found by S and the lent entries, tells whether block b belongs to a spare
+pub spare-known : (e : Setting) (d : Disc) (b : ℕ) {s : ℕ} {es : List Entry} {u x : Bool} → e .start ≡ s → entriesOn e d ≡ es → u ≡ ofSpare s es b → u ≡ x → ofSpareOn e d b ≡ x
+unfolding ofSpareOn
+spare-known e d b p q f h = ap₂ (λ (s : ℕ) (es : List Entry). ofSpare s es b) p q ∙ sym f ∙ h
+
 module _ (e : Setting) (d : Disc) (b : ℕ) where
   -- b is not a packet's start
   pub spare-off : (b % 32 ≡ 0 → ⊥) → Stop NumberOutside ≡ first (spareTests e d b)
   unfolding spareTests
-  spare-off h = stops-all (packetTests e b) (ownTests e d b) (sym (packet-off e b h))
+  spare-off h = stops-all (packetTests e d b) (ownTests e d b) (sym (packet-off e d b h))
 
   -- there is no block b
   pub spare-outside : e .span ≤ b → Stop NumberOutside ≡ first (spareTests e d b)
   unfolding spareTests
-  spare-outside h = stops-all (packetTests e b) (ownTests e d b) (sym (packet-outside e b h))
+  spare-outside h = stops-all (packetTests e d b) (ownTests e d b) (sym (packet-outside e d b h))
 
-  module _ (start : b % 32 ≡ 0) (low : b < e .span) where
-    -- line 12 lets it go on
+  -- it belongs to a spare
+  pub spare-reserved : b % 32 ≡ 0 → b < e .span → ofSpareOn e d b ≡ true → Stop BelongsToSpare ≡ first (spareTests e d b)
+  unfolding spareTests
+  spare-reserved start low u = stops-all (packetTests e d b) (ownTests e d b) (sym (packet-spared e d b start low u))
+
+  module _ (start : b % 32 ≡ 0) (low : b < e .span) (place : ofSpareOn e d b ≡ false) where
+    -- lines 12 and 30 let it go on
     on-line : {w : Verdict} → w ≡ first (ownTests e d b) → w ≡ first (spareTests e d b)
     unfolding spareTests
-    on-line {w} h = goes-all (packetTests e b) (ownTests e d b) w (sym (packet-fits e b start low)) h
+    on-line {w} h = goes-all (packetTests e d b) (ownTests e d b) w (sym (packet-fits e d b start low place)) h
 
     -- there is one table
     pub spare-one : length (geometry e d .tables) < 2 → Stop OneTable ≡ first (spareTests e d b)
@@ -144,18 +154,20 @@ module _ (e : Setting) (d : Disc) (b : ℕ) where
 record Lines (e : Setting) (d : Disc) (b : ℕ) : Type 0 where
   pub start : b % 32 ≡ 0
   pub low : b < e .span
+  pub place : ofSpareOn e d b ≡ false
   pub some : noEntry (freeOf (entriesOn e d)) ≡ false
   pub last : sequenceOn e d ≡ 0xffffffff → ⊥
 
 lines : (e : Setting) (d : Disc) (b : ℕ) → first (spareTests e d b) ≡ Go → Lines e d b
 unfolding spareTests
 lines e d b h =
-    let p = both-go (packetTests e b) (ownTests e d b) h in
-    let k = packet-tells e b (p .0) in
+    let p = both-go (packetTests e d b) (ownTests e d b) h in
+    let k = packet-tells e d b (p .0) in
     let a = passed (ownTests e d b) (p .1) in
     record {
-      start = k .0;
-      low = k .1;
+      start = k .start;
+      low = k .low;
+      place = k .place;
       some = not-true _ (a .1 .0);
       last = eqb-false (sequenceOn e d) 0xffffffff (not-true _ (a .1 .1 .0));
     }
@@ -186,7 +198,7 @@ pub record Spares (e : Setting) (d : Disc) (t : List ℕ) (held : Record) (b : �
 
 -- from its verdict
 pub spares : (e : Setting) (d : Disc) (t : List ℕ) (held : Record) (b : ℕ) (packet : List ℕ) (j : Judged) → SparingJudgedAs (rewritableVerdict e d t (packetLent t packet) held (spareTests e d b)) e d j → j .verdict ≡ Go → Spares e d t held b packet j
-unfolding geometry countOn
+unfolding geometry countOn ofSpareOn
 spares e d t held b packet j r g =
     let a = going-all e d t (packetLent t packet) held (spareTests e d b) (sym (r .judged .verdict) ∙ g) in
     let is = r .judged .layout g in
@@ -218,7 +230,7 @@ spares e d t held b packet j r g =
             some = k .some;
           };
       on = free-on (geometry e d) (entriesOn e d) (h .fits) (h .start-32) (h .span-32) (k .some);
-      fits = resorted-fits (geometry e d) (entriesOn e d) b (h .fits) (k .start) (k .low) small (k .some);
+      fits = resorted-fits (geometry e d) (entriesOn e d) b (h .fits) (k .start) (k .low) small (k .some) (packet-unmapped (e .start) (entriesOn e d) b (k .start) (k .place));
       many = resorted-length (geometry e d) (entriesOn e d) b (h .fits) (k .start) (k .low) small (k .some);
       lies = h .lies;
     }

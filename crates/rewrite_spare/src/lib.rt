@@ -1,8 +1,9 @@
-// Sparing a packet of a rewritable disc (document 01, "Calls and their sector writes"; 02, slip 1). The call examines what
-// it gets and refuses with the first line of document 01 that applies; a refusal leaves every lent byte as it
+// Sparing a packet of a rewritable disc (document 01, "Calls and their sector writes"; 02, slips 1 and 8). The call examines what
+// it gets and refuses with the first line of documents 01 and 02 that applies; a refusal leaves every lent byte as it
 // came. It has no requires.
 use address::LogicalAddress;
 use address::PhysicalAddress;
+use address::Span;
 use maps::PACKET;
 use model::Cut;
 use model::PACKET_BYTES;
@@ -16,7 +17,7 @@ use sparing_current::Judged;
 use sparing_table::FirstFree;
 ghost use mathlib.Core.Path.{_≡_};
 ghost use mathlib.Core.Bool.{true, not};
-ghost use Prim.Native.Nat.{_+_, _*_, _≤_, _<_};
+ghost use Prim.Native.Nat.{_+_, _*_, _^_, _≤_, _<_};
 ghost use lib.ListN.{length};
 ghost use Rattle.refusal.specs.declared.Verdict;
 ghost use Rattle.refusal.specs.Tests.{first};
@@ -60,18 +61,21 @@ fn has_free(table: &[u32], held: Record) -> bool
     }
 }
 
-// Lines 12, 17, 19 and 20, of a volume of `count` tables. Inside the layers: line 11 has been tested.
-fn judge_sparing(count: u8, l: u32, table: &[u32], held: Record, b: LogicalAddress) -> Verdict
-    requires { ⌜ 2 * countHeld held ≤ length (now table) ⌝ }
-    ensures { λ r. ⌜ ((e : Setting) (d : Disc) → e .span ≡ l → length (geometry e d .tables) ≡ count
+// Lines 12, 30, 17, 19 and 20, of a volume of `count` tables. Inside the layers: lines 2 and 11 have been tested.
+fn judge_sparing(count: u8, span: Span, table: &[u32], held: Record, b: LogicalAddress) -> Verdict
+    requires { ⌜ (2 * countHeld held ≤ length (now table)) × (span .start + span .length < 2 ^ 32) ⌝ }
+    ensures { λ r. ⌜ ((e : Setting) (d : Disc) → e .start ≡ span .start → e .span ≡ span .length → length (geometry e d .tables) ≡ count
         → entriesOn e d ≡ entriesLent (now (table .entry)) held → sequenceOn e d ≡ sequenceHeld held
         → r ≡ first (spareTests e d (b .0))) ⌝ }
 {
     if b.0 % PACKET != 0 {
         return Verdict::Stop(Refusal::NumberOutside);
     }
-    if l <= b.0 {
+    if span.length <= b.0 {
         return Verdict::Stop(Refusal::NumberOutside);
+    }
+    if sparing_current::is_of_spare(table, held, span.start, b) {
+        return Verdict::Stop(Refusal::BelongsToSpare);
     }
     if count < 2 {
         return Verdict::Stop(Refusal::OneTable);
@@ -109,7 +113,7 @@ fn judge_spare(
     }
     let layout = judged.layout;
     let at = judged.at;
-    let own = judge_sparing(layout.count, layout.volume.span.length, table, held, b);
+    let own = judge_sparing(layout.count, layout.volume.span, table, held, b);
     Judged {
         verdict: own,
         layout,

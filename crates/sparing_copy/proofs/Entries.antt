@@ -1,15 +1,20 @@
 -- Laws of the entries of a table by their number: those of a list of numbers, of a sector and of a list of spares. Assumes nothing.
 use Prim.Native.Nat.{ℕ, zero, suc, _+_, _*_, _≤_, _<_}
 use mathlib.Core.Path.{_≡_, refl, sym, ap, ap₂, _∙_}
+use mathlib.Core.Bool.{true, not}
 use mathlib.Core.List.{List, [], _∷_}
 use native.Mathlib.Omega.{arith}
 use native.Mathlib.Numerals.{add-one}
 use lib.ListN.{length, getD, drop, drop-of-length-le}
 use lib.Seq.{drop-cons, drop-nil}
+use borrow.Author.Tests.{ne-eqb}
 use Rattle.fields.specs.Number.{field, words}
+use Rattle.fields.proofs.Laws.{AllBytes, field-below}
+use Rattle.maps.specs.Kinds.{absent}
 use Rattle.model.specs.Vat.{none}
-use Rattle.model.specs.Sparing.{Entry, entries, countIn, tableIn}
+use Rattle.model.specs.Sparing.{Entry, entries, mappedOf, countIn, tableIn}
 use Rattle.model.specs.Both.{spareEntries}
+use Rattle.model.proofs.Basics.{both}
 use Rattle.model.proofs.OnceOpen.{length-words}
 use Rattle.sparing_copy.specs.Entries.{entriesIn, entryIn}
 use Rattle.sparing_copy.proofs.Words.{getD-words}
@@ -66,6 +71,20 @@ module _ (b : List ℕ) (n i : ℕ) where
   pub sector-end : n ≤ i → drop i (entriesIn b n) ≡ []
   unfolding entriesIn
   sector-end h = entries-end (words b 56 (2 * n)) i (omega (arith, length-words b 56 (2 * n)))
+
+-- no mapped start is past 32 bits
+words-below : (b : List ℕ) (at n m : ℕ) → AllBytes b → at + 8 * n ≤ length b → 4294967296 ≤ m → absent m (mappedOf (entries (words b at (2 * n)))) ≡ true
+unfolding absent mappedOf entries words
+words-below b at zero m a h l = refl
+words-below b at (suc n) m a h l =
+    let e : 2 * suc n ≡ suc (suc (2 * n)) = omega arith in
+    rw e
+    (both (ap not (ne-eqb m (field b (at + 4) 4) (omega (arith, field-below b (at + 4) 4 a (omega arith)))))
+    (words-below b (at + 4 + 4) n m a (omega arith) l))
+
+pub sector-below : (b : List ℕ) (n m : ℕ) → AllBytes b → 56 + 8 * n ≤ length b → 4294967296 ≤ m → absent m (mappedOf (entriesIn b n)) ≡ true
+unfolding entriesIn
+sector-below b n m a h l = words-below b 56 n m a h l
 
 -- all that a sector counts are its table's
 pub sector-table : (b : List ℕ) → entriesIn b (countIn b) ≡ entries (tableIn b)

@@ -2,4 +2,5 @@ pub mod Places
 pub mod Words
 pub mod Entries
 pub mod Rule
+pub mod Slots
 pub mod Laws

@@ -1,17 +1,18 @@
--- Laws of where a packet may lie: apart from another, outside the partition, and no table's. Assumes nothing.
-use Prim.Native.Nat.{ℕ, suc, _+_, _-_, _≤_, _<_}
+-- Laws of where a packet may lie: apart from another, in the partition, and no table's. Assumes nothing.
+use Prim.Native.Nat.{ℕ, suc, _+_, _-_, _%_, _≤_, _<_}
 use mathlib.Core.Path.{_≡_, sym, ap, _∙_}
 use mathlib.Core.List.{List, [], _∷_}
 use mathlib.Core.Bool.{Bool, true, false, _||_}
 use native.Mathlib.Omega.{arith}
 use native.Mathlib.Numerals.{add-one}
-use borrow.Author.Tests.{le-leb, lt-leb, leb-true}
-use lib.Dec.{leb}
+use borrow.Author.Tests.{le-leb, lt-leb, lt-ltb, leb-true}
+use lib.Dec.{leb, ltb}
 use lib.ListN.{length, getD, take, drop, length-take, length-drop, drop-of-length-le}
 use lib.Seq.{drop-cons, getD-take, getD-drop}
 use Rattle.maps.proofs.Tests.{fails, holds, alike}
-use Rattle.model.specs.Sparing.{Geometry, apart, apartFrom, outside}
+use Rattle.model.specs.Sparing.{Geometry, apart, apartFrom, wholePacket}
 use Rattle.sparing_copy.specs.Entries.{placed}
+use Rattle.sparing_copy.specs.Slots.{inside}
 
 -- ---- numbers
 
@@ -42,15 +43,29 @@ unfolding apart
 apart-above a b h =
     or-second (leb (b + 32) a) (lt-leb (a + 32) b (omega arith)) (same-order 32 (a - b) (b + 32) a (λ e. omega arith) (λ e. omega arith))
 
+-- ---- the partition, l sectors from s on
+
+-- whether m is in it, by the number that s added to wraps back to m
+pub inside-wraps : (s l m r : ℕ) → s < 4294967296 → r < 4294967296 → (r + s) % 4294967296 ≡ m → ltb r l ≡ inside s l m
+unfolding inside
+inside-wraps s l m r hs hr e =
+    let d : r ≡ (m + 4294967296 - s) % 4294967296 = omega arith in
+    ap (λ (k : ℕ). ltb k l) d
+
+-- each place of it is
+pub inside-here : (s l q : ℕ) → q < l → inside s l (s + q) ≡ true
+unfolding inside
+inside-here s l q h = lt-ltb ((s + q + 4294967296 - s) % 4294967296) l (omega arith)
+
 -- ---- a packet that may be a spare
 
--- it is not outside
-pub placed-off : (g : Geometry) (m : ℕ) → outside g m ≡ false → false ≡ placed g m
+-- it is no whole packet of the disc
+pub placed-off : (g : Geometry) (m : ℕ) → wholePacket g m ≡ false → false ≡ placed g m
 unfolding placed
 placed-off g m e = fails _ e
 
 -- it is
-pub placed-met : (g : Geometry) (m : ℕ) (r : Bool) → outside g m ≡ true → r ≡ apartFrom m (g .tables) → r ≡ placed g m
+pub placed-met : (g : Geometry) (m : ℕ) (r : Bool) → wholePacket g m ≡ true → r ≡ apartFrom m (g .tables) → r ≡ placed g m
 unfolding placed
 placed-met g m r e q = holds e q
 

@@ -1,24 +1,26 @@
 -- Laws of the copy rule, an entry at a time (document 01, "The sparing table"). Assumes nothing.
-use Prim.Native.Nat.{ℕ, zero, suc, _+_, _-_, _*_, _/_, _%_, _≤_, _<_}
+use Prim.Native.Nat.{ℕ, zero, suc, _+_, _*_, _%_, _≤_, _<_}
 use mathlib.Core.Path.{_≡_, refl, sym, ap, ap₂, _∙_}
 use mathlib.Core.List.{List, [], _∷_}
 use mathlib.Core.Bool.{Bool, true, false, not, _&&_}
 use native.Mathlib.Omega.{arith}
-use borrow.Author.Tests.{eq-eqb, ne-eqb, le-leb, lt-leb, le-ltb}
+use borrow.Author.Tests.{eq-eqb, ne-eqb, le-leb, lt-leb, le-ltb, not-true}
 use lib.Dec.{leb, ltb, eqb}
-use lib.ListN.{length, getD, set, drop, length-set}
-use lib.Seq.{drop-drop, getD-set-same, getD-set-other}
+use lib.ListN.{length, drop}
+use lib.Seq.{drop-drop}
 use Rattle.fields.specs.Number.{field}
 use Rattle.fields.specs.Regid.{hasRegid}
 use Rattle.maps.specs.Kinds.{absent}
 use Rattle.maps.proofs.Tests.{fails, holds}
 use Rattle.model.specs.Vat.{none}
-use Rattle.model.specs.Sparing.{Geometry, Entry, defective, isDefective, originalFits, originalsFit, mayFollow, ascending, apartFrom, outside, mappedOf, mappedFit, sparingName, olderName, entries, entriesFit, countIn, tableIn, noneDefective, named, copyFits}
+use Rattle.model.specs.Sparing.{Geometry, Entry, defective, isFree, isDefective, isUsed, originalFits, originalsFit, mayFollow, ascending, apartFrom, wholePacket, mappedOf, mappedFit, originalClear, originalsClear, sparingName, olderName, entries, entriesFit, countIn, tableIn, noneDefective, named, copyFits}
 use Rattle.model.specs.Both.{spareEntries}
-use Rattle.model.proofs.Basics.{both, and-false, and-false-left, by-bool, by-eq, or-left}
+use Rattle.model.proofs.Basics.{and-true, both, and-false, and-false-left, by-bool, by-eq, differ, or-left}
 use Rattle.model.proofs.SparingEntries.{multiple-none, multiple-defective}
-use Rattle.model.proofs.SparingLaws.{table-count}
-use Rattle.sparing_copy.specs.Entries.{entriesIn, placed}
+use Rattle.model.proofs.SparingLaws.{table-count, clear-away}
+use Rattle.sparing_copy.specs.Entries.{entriesIn, placed, packetsFit}
+use Rattle.sparing_copy.specs.Slots.{inside, noneInside}
+use Rattle.sparing_copy.proofs.Places.{inside-here}
 use Rattle.sparing_copy.proofs.Entries.{sector-table, length-spares}
 
 -- tests in a row, grouped the other way
@@ -77,9 +79,18 @@ module _ (es : List Entry) (i : ℕ) (h : drop i es ≡ []) where
   unfolding noneDefective
   defective-end = found-end noneDefective refl
 
+  -- and of those in the partition
+  pub inside-end : (s l : ℕ) (a whole : Bool) → a && noneInside s l (drop i es) ≡ whole → a ≡ whole
+  unfolding noneInside
+  inside-end s l = found-end (noneInside s l) refl
+
   pub mapped-end : (g : Geometry) → true ≡ mappedFit g (drop i es)
   unfolding mappedFit
   mapped-end g = sym (ap (mappedFit g) h)
+
+  pub clear-end : (s : ℕ) (ms : List ℕ) → true ≡ originalsClear s ms (drop i es)
+  unfolding originalsClear
+  clear-end s ms = sym (ap (originalsClear s ms) h)
 
 -- one entry is left at most
 pub ascending-end : (es : List Entry) (i : ℕ) → drop (i + 1) es ≡ [] → true ≡ ascending (drop i es)
@@ -103,6 +114,16 @@ module _ (es : List Entry) (i : ℕ) (e : Entry) (h : drop i es ≡ e ∷ drop (
   pub originals-next : (l o : ℕ) → o ≡ e .original → originalFits l o ≡ true → originalsFit l (drop (i + 1) es) ≡ originalsFit l (drop i es)
   unfolding originalsFit
   originals-next l o s q = sym (ap (originalsFit l) h ∙ rw (← s, q))
+
+  -- its packet is one of ms
+  pub clear-off : (s : ℕ) (ms : List ℕ) (r : Bool) → r ≡ originalClear s ms e → r ≡ false → false ≡ originalsClear s ms (drop i es)
+  unfolding originalsClear
+  clear-off s ms r p q = sym (ap (originalsClear s ms) h ∙ rw (← p, q))
+
+  -- it is not
+  pub clear-next : (s : ℕ) (ms : List ℕ) (r : Bool) → r ≡ originalClear s ms e → r ≡ true → originalsClear s ms (drop (i + 1) es) ≡ originalsClear s ms (drop i es)
+  unfolding originalsClear
+  clear-next s ms r p q = sym (ap (originalsClear s ms) h ∙ rw (← p, q))
 
   -- whether a holds and the entries left follow a rule: this one does not, or it is up to the others
   module _ (rule : List Entry → Bool) (a a′ whole : Bool) (w : a && rule (drop i es) ≡ whole) where
@@ -136,12 +157,24 @@ module _ (es : List Entry) (i : ℕ) (e : Entry) (h : drop i es ≡ e ∷ drop (
     unfolding noneDefective isDefective defective
     defective-next q = found-next noneDefective a a′ whole w (rw (← s, ne-eqb o 0xfffffff0 q))
 
+  -- whether a holds and none of the entries left, of which this is mapped to m, is mapped into the partition
+  module _ (s l m : ℕ) (em : m ≡ e .mapped) (a a′ whole : Bool) (w : a && noneInside s l (drop i es) ≡ whole) where
+    -- it is
+    pub inside-found : inside s l m ≡ true → a′ ≡ false → a′ && noneInside s l (drop (i + 1) es) ≡ whole
+    unfolding noneInside
+    inside-found q = found-here (noneInside s l) a a′ whole w (rw (← em, q))
+
+    -- it is not
+    pub inside-next : inside s l m ≡ false → a′ ≡ a → a′ && noneInside s l (drop (i + 1) es) ≡ whole
+    unfolding noneInside
+    inside-next q = found-next (noneInside s l) a a′ whole w (rw (← em, q))
+
   -- the rule for it, its place first
   grouped : (g : Geometry) (m : ℕ) → m ≡ e .mapped → mappedFit g (drop i es) ≡ placed g m && (absent m (mappedOf (drop (i + 1) es)) && mappedFit g (drop (i + 1) es))
   unfolding mappedFit placed
   grouped g m s =
       ap (mappedFit g) h
-      ∙ rw (← s) (sym (and-assoc (outside g m) (apartFrom m (g .tables)) (absent m (mappedOf (drop (i + 1) es)) && mappedFit g (drop (i + 1) es))))
+      ∙ rw (← s) (sym (and-assoc (wholePacket g m) (apartFrom m (g .tables)) (absent m (mappedOf (drop (i + 1) es)) && mappedFit g (drop (i + 1) es))))
 
   -- its mapped start is no spare's
   pub mapped-off : (g : Geometry) (m : ℕ) → m ≡ e .mapped → (r : Bool) → r ≡ placed g m → r ≡ false → false ≡ mappedFit g (drop i es)
@@ -166,55 +199,52 @@ module _ (es : List Entry) (i : ℕ) (e : Entry) (h : drop i es ≡ e ∷ drop (
     unfolding ascending
     ascending-next q = ap ascending k ∙ sym (ap ascending (h ∙ ap (λ (x : List Entry). e ∷ x) k) ∙ rw (← s, ← t, q))
 
--- ---- the mapped starts passed, from the last down
-
--- the entries from i on fit, and the slots of their packets are set
-pub record Passed (g : Geometry) (es : List Entry) (seen : List ℕ) (i : ℕ) : Type 0 where
-  pub fits : mappedFit g (drop i es) ≡ true
-  pub slots : length seen ≡ 256
-  -- a packet whose slot is not set is none of theirs
-  pub unseen : (m : ℕ) → getD seen (m / 32 % 256) 0 ≡ 0 → absent m (mappedOf (drop i es)) ≡ true
-
-module _ (g : Geometry) (es : List Entry) (seen : List ℕ) (i : ℕ) where
-  -- none is passed
-  pub passed-none : drop i es ≡ [] → length seen ≡ 256 → Passed g es seen i
-  unfolding mappedFit mappedOf absent
-  passed-none h l = record { fits = rw h; slots = l; unseen = λ m z. rw h }
-
-  -- those behind the entry before
-  pub passed-behind : 0 < i → Passed g es seen i → Passed g es seen (i - 1 + 1)
-  passed-behind z p = let e : i - 1 + 1 ≡ i = omega arith in rw e p
-
-  -- one more, whose mapped start m may be a spare and is none of theirs
-  module _ (e : Entry) (h : drop i es ≡ e ∷ drop (i + 1) es) (m s : ℕ) (em : m ≡ e .mapped) (t : s ≡ m / 32 % 256) (p : Passed g es seen (i + 1)) where
-    -- a packet whose slot is still not set has another
-    other-slot : (k : ℕ) → getD (set seen s 1) (k / 32 % 256) 0 ≡ 0 → k / 32 % 256 ≡ s → ⊥
-    other-slot k z w =
-        omega (arith, p .slots, ap (λ (j : ℕ). getD (set seen s 1) j 0) (sym w) ∙ z, getD-set-same seen s 1 0 (omega (arith, p .slots)))
-
-    still-unseen : (k : ℕ) → getD (set seen s 1) (k / 32 % 256) 0 ≡ 0 → absent k (mappedOf (drop i es)) ≡ true
-    unfolding mappedOf absent
-    still-unseen k z =
-        ap (λ (x : List Entry). absent k (mappedOf x)) h
-        ∙ rw (← em)
-        (both (ap not (ne-eqb k m (λ w. other-slot k z (ap (λ (j : ℕ). j / 32 % 256) w ∙ sym t))))
-        (p .unseen k (sym (getD-set-other seen s (k / 32 % 256) 1 0 (other-slot k z)) ∙ z)))
-
-    pub passed-next : (r a : Bool) → r ≡ placed g m → r ≡ true → a ≡ absent m (mappedOf (drop (i + 1) es)) → a ≡ true → Passed g es (set seen s 1) i
-    passed-next r a f q u v =
-        record {
-          fits = sym (mapped-next es i e h g m em r a f q u v) ∙ p .fits;
-          slots = length-set seen s 1 ∙ p .slots;
-          unseen = still-unseen;
-        }
-
 -- where entries from a place on do not fit, all do not
 pub mapped-rest : (g : Geometry) (es : List Entry) (i : ℕ) → false ≡ mappedFit g (drop i es) → false ≡ mappedFit g es
 unfolding mappedFit
 mapped-rest g es zero q = q
 mapped-rest g [] (suc i) q = q
 mapped-rest g (e ∷ es) (suc i) q =
-    sym (and-false (outside g (e .mapped)) (and-false (apartFrom (e .mapped) (g .tables)) (and-false (absent (e .mapped) (mappedOf es)) (sym (mapped-rest g es i q)))))
+    sym (and-false (wholePacket g (e .mapped)) (and-false (apartFrom (e .mapped) (g .tables)) (and-false (absent (e .mapped) (mappedOf es)) (sym (mapped-rest g es i q)))))
+
+-- ---- the packet of an entry, against the packets ms
+
+module _ (s : ℕ) (ms : List ℕ) (e : Entry) where
+  -- of one that is not used
+  pub clear-unused : isUsed e ≡ false → true ≡ originalClear s ms e
+  unfolding originalClear
+  clear-unused q = sym (or-left _ (ap not q))
+
+  -- of one that is
+  pub clear-used : isUsed e ≡ true → (m : ℕ) → m ≡ s + e .original → (r : Bool) → r ≡ absent m ms → r ≡ originalClear s ms e
+  unfolding originalClear
+  clear-used q m w r p = rw (q, ← w) p
+
+-- where no entry maps into the partition no place of it is a mapped start
+none-inside : (s l q : ℕ) (es : List Entry) → noneInside s l es ≡ true → q < l → absent (s + q) (mappedOf es) ≡ true
+unfolding noneInside mappedOf absent
+none-inside s l q [] h k = refl
+none-inside s l q (e ∷ es) h k =
+    let p = and-true (not (inside s l (e .mapped))) (noneInside s l es) h in
+    both
+    (ap not (ne-eqb (s + q) (e .mapped) (λ z. differ (ap (inside s l) (sym z) ∙ inside-here s l q k) (not-true _ (p .0)))))
+    (none-inside s l q es (p .1) k)
+
+module _ (g : Geometry) (es : List Entry) where
+  -- the mapped starts do not fit
+  pub packets-off : mappedFit g es ≡ false → false ≡ packetsFit g es
+  unfolding packetsFit
+  packets-off m = fails _ m
+
+  -- they do, and none is in the partition
+  pub packets-apart : originalsFit (g .span) es ≡ true → mappedFit g es ≡ true → noneInside (g .start) (g .span) es ≡ true → true ≡ packetsFit g es
+  unfolding packetsFit
+  packets-apart o m n = holds m (sym (clear-away (g .start) (g .span) (mappedOf es) es o (λ q. none-inside (g .start) (g .span) q es n)))
+
+  -- else the packets of used entries decide
+  pub packets-clear : mappedFit g es ≡ true → (r : Bool) → r ≡ originalsClear (g .start) (mappedOf es) es → r ≡ packetsFit g es
+  unfolding packetsFit
+  packets-clear m r q = holds m q
 
 -- ---- the names of a copy
 
@@ -245,8 +275,8 @@ module _ (g : Geometry) (b : List ℕ) where
 
   module _ (tag : field b 0 2 ≡ 0) (n : ℕ) (count : n ≡ countIn b) where
     -- the rest is the name and the rule over n entries
-    rest : (r : Bool) → r ≡ named b && (leb (56 + 8 * n) (g .size) && (originalsFit (g .span) (entriesIn b n) && (ascending (entriesIn b n) && mappedFit g (entriesIn b n)))) → r ≡ copyFits g b
-    unfolding copyFits entriesFit
+    rest : (r : Bool) → r ≡ named b && (leb (56 + 8 * n) (g .size) && (originalsFit (g .span) (entriesIn b n) && (ascending (entriesIn b n) && packetsFit g (entriesIn b n)))) → r ≡ copyFits g b
+    unfolding copyFits entriesFit packetsFit
     rest r q =
         let es : entriesIn b n ≡ entries (tableIn b) = ap (entriesIn b) count ∙ sector-table b in
         let l : n ≡ length (entries (tableIn b)) = count ∙ sym (table-count b) in
@@ -270,8 +300,8 @@ module _ (g : Geometry) (b : List ℕ) where
       copy-ascending o a = rest false (holds name (holds (le-leb _ _ short) (holds o (fails _ a))))
 
       -- they do
-      pub copy-mapped : originalsFit (g .span) (entriesIn b n) ≡ true → ascending (entriesIn b n) ≡ true → (r : Bool) → r ≡ mappedFit g (entriesIn b n) → r ≡ copyFits g b
-      copy-mapped o a r q = rest r (holds name (holds (le-leb _ _ short) (holds o (holds a q))))
+      pub copy-packets : originalsFit (g .span) (entriesIn b n) ≡ true → ascending (entriesIn b n) ≡ true → (r : Bool) → r ≡ packetsFit g (entriesIn b n) → r ≡ copyFits g b
+      copy-packets o a r q = rest r (holds name (holds (le-leb _ _ short) (holds o (holds a q))))
 
 -- ---- a list of spares
 
@@ -287,6 +317,12 @@ spares-ascend [] = refl
 spares-ascend (m ∷ []) = refl
 spares-ascend (m ∷ k ∷ s) = spares-ascend (k ∷ s)
 
+-- and none has a packet
+spares-clear : (s : ℕ) (ms l : List ℕ) → originalsClear s ms (spareEntries l) ≡ true
+unfolding originalsClear originalClear isUsed isFree isDefective spareEntries none
+spares-clear s ms [] = refl
+spares-clear s ms (m ∷ l) = spares-clear s ms l
+
 -- more than fit the map's size
 pub spares-long : (g : Geometry) (s : List ℕ) → g .size < 56 + 8 * length s → false ≡ entriesFit g (spareEntries s)
 unfolding entriesFit
@@ -297,4 +333,6 @@ pub spares-short : (g : Geometry) (s : List ℕ) (r : Bool) → 56 + 8 * length 
 unfolding entriesFit
 spares-short g s r h q =
     holds (le-leb (56 + 8 * length (spareEntries s)) (g .size) (omega (arith, length-spares s)))
-    (holds (spares-free (g .span) s) (holds (spares-ascend s) q))
+    (holds (spares-free (g .span) s)
+    (holds (spares-ascend s)
+    (q ∙ and-end _ ∙ ap (λ (x : Bool). mappedFit g (spareEntries s) && x) (sym (spares-clear (g .start) (mappedOf (spareEntries s)) s)))))

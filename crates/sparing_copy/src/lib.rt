@@ -1,21 +1,24 @@
-// The sparing table of a disc (document 01, "The sparing table"; 004, table 6; 02, slip 1): whether the bytes of a
+// The sparing table of a disc (document 01, "The sparing table"; 004, table 6; 02, slips 1 and 8): whether the bytes of a
 // sector are one, and whether a list of spares can become one.
 // The layers above count on the equations: each function gives what the definition of its name gives.
 // All functions here are inside the layers: where one has a `requires`, the callers have tested it.
+use address::LogicalAddress;
 use address::MediaBlockAddress;
 use address::PhysicalAddress;
+use address::Span;
 use maps::PACKET;
 use maps::Volume;
 use model::SECTOR;
 ghost use mathlib.Core.Path.{_≡_};
-ghost use mathlib.Core.Bool.{true};
+ghost use mathlib.Core.Bool.{true, false};
 ghost use Prim.Native.Nat.{_+_, _*_, _/_, _%_, _≤_, _<_};
 ghost use lib.ListN.{length, drop};
 ghost use Rattle.maps.specs.Kinds.{absent};
-ghost use Rattle.model.specs.Sparing.{apart, apartFrom, originalFits, originalsFit, mayFollow, ascending, mappedOf, mappedFit, entriesFit, countIn, noneDefective, named, copyFits};
+ghost use Rattle.model.specs.Sparing.{apart, apartFrom, originalFits, originalsFit, mayFollow, ascending, mappedOf, mappedFit, originalClear, originalsClear, entriesFit, countIn, noneDefective, named, copyFits};
 ghost use Rattle.model.specs.Both.{spareEntries};
 ghost use Rattle.sparing_copy.specs.Layout.{geometryIn};
-ghost use Rattle.sparing_copy.specs.Entries.{entryIn, entriesIn, placed};
+ghost use Rattle.sparing_copy.specs.Entries.{entryIn, entriesIn, placed, packetsFit};
+ghost use Rattle.sparing_copy.specs.Slots.{tagOf, mayHold, heldWith, Told, inside, noneInside};
 
 // Where a table's fields start: two bytes of 0, the regid, the number of entries, the sequence, the entries.
 const TAG_AT: usize = 0;
@@ -43,8 +46,19 @@ pub const REGID: [u8; 32] = *b"\0*UDF Sparing Table\0\0\0\0\0\0\0\0\0\0\0\0\0";
 
 const OLDER_REGID: [u8; 32] = *b"\0*OSTA UDF Sparing Table\0\0\0\0\0\0\0\0";
 
-// How many slots tell packets apart: two packets of the same slot are compared.
+// How many slots tell packets apart. A slot holds EMPTY, the tag of the one packet that it was given, or CROWDED after
+// several: packets are compared where that leaves it open.
 const SLOTS: usize = 256;
+
+const EMPTY: u8 = 0;
+
+const CROWDED: u8 = 1;
+
+// The sectors of as many packets as there are slots, and how many tags there are, from that number on: on the largest disc
+// no two packets have both a slot and a tag in common.
+const ROUND: u32 = PACKET * SLOTS as u32;
+
+const TAGS: u32 = 128;
 
 // The original of a free spare, and that of a defective one.
 pub const FREE: u32 = 0xffffffff;
@@ -88,13 +102,12 @@ fn is_apart_from_tables(x: Layout, m: PhysicalAddress) -> bool
     true
 }
 
-// Whether a packet may be a spare: on the disc, outside the partition and every table's packet.
+// Whether a packet may be a spare: whole on the disc, and outside every table's packet.
 fn is_placed(x: Layout, m: PhysicalAddress) -> bool
     requires { ⌜ x .count ≤ 4 ⌝ }
     ensures { λ r. ⌜ r ≡ placed (geometryIn x) (m .0) ⌝ }
 {
-    let span = x.volume.span;
-    if !model::is_outside(x.sectors as usize, span.start, span.length, m) {
+    if !model::is_whole(x.sectors as usize, m) {
         return false;
     }
     is_apart_from_tables(x, m)
@@ -202,27 +215,57 @@ fn slot_of(m: PhysicalAddress) -> usize
     fields::usize_of_u32(m.0 / PACKET) % SLOTS
 }
 
-// Whether none of the entries from `from` to `n` is mapped to `m`. Where `seen` is 0 none is, and they are
-// not looked at.
-fn is_new(b: &[u8], from: usize, n: usize, m: PhysicalAddress, seen: u8) -> bool
+// Its tag.
+fn tag_of(m: PhysicalAddress) -> u8
+    ensures { λ r. ⌜ r ≡ tagOf (m .0) ⌝ }
+{
+    (m.0 / ROUND % TAGS + TAGS) as u8
+}
+
+// Whether a slot that holds this may have been given this packet.
+fn may_hold(held: u8, m: PhysicalAddress) -> bool
+    ensures { λ r. ⌜ r ≡ mayHold held (m .0) ⌝ }
+{
+    if held == CROWDED {
+        return true;
+    }
+    held == tag_of(m)
+}
+
+// What a slot that holds this holds once it is given this packet.
+fn held_with(held: u8, m: PhysicalAddress) -> u8
+    ensures { λ r. ⌜ r ≡ heldWith held (m .0) ⌝ }
+{
+    if held != EMPTY {
+        return CROWDED;
+    }
+    tag_of(m)
+}
+
+// Whether none of the entries from `from` to `n` is mapped to `m`. They are looked at only where its slot, which holds
+// `held`, may have been given it; most slots are empty.
+fn is_new(b: &[u8], from: usize, n: usize, m: PhysicalAddress, held: u8) -> bool
     requires { ⌜ 56 + 8 * n ≤ length (now b) ⌝ }
-    requires { ⌜ (seen ≡ 0 → absent (m .0) (mappedOf (drop from (entriesIn (now b) n))) ≡ true) ⌝ }
+    requires { ⌜ (mayHold held (m .0) ≡ false → absent (m .0) (mappedOf (drop from (entriesIn (now b) n))) ≡ true) ⌝ }
     ensures { λ r. ⌜ r ≡ absent (m .0) (mappedOf (drop from (entriesIn (now (b .entry)) n))) ⌝ }
 {
-    if seen == 0 {
+    if held == EMPTY {
+        return true;
+    }
+    if !may_hold(held, m) {
         return true;
     }
     is_absent(b, from, n, m)
 }
 
 // Whether the mapped starts of `n` entries may be spares, and none stands twice. It looks from the last
-// entry to the first, and compares a mapped start with those after it only where one of them has its slot.
-fn mapped_fit(x: Layout, b: &[u8], n: usize) -> bool
+// entry to the first, and gives each mapped start to its slot once it is found new.
+fn mapped_fit(x: Layout, b: &[u8], n: usize, seen: &mut [u8; SLOTS]) -> bool
     requires { ⌜ x .count ≤ 4 ⌝ }
-    requires { ⌜ 56 + 8 * n ≤ length (now b) ⌝ }
+    requires { ⌜ (56 + 8 * n ≤ length (now b)) × (length (now seen) ≡ 256) ⌝ }
     ensures { λ r. ⌜ r ≡ mappedFit (geometryIn x) (entriesIn (now (b .entry)) n) ⌝ }
+    ensures { λ r. ⌜ (r ≡ true → Told (now (seen .exit)) (entriesIn (now (b .entry)) n)) ⌝ }
 {
-    let mut seen = [0u8; SLOTS];
     let mut i = n;
     while 0 < i {
         i -= 1;
@@ -231,12 +274,91 @@ fn mapped_fit(x: Layout, b: &[u8], n: usize) -> bool
             return false;
         }
         let slot = slot_of(m);
-        if !is_new(b, i + 1, n, m, seen[slot]) {
+        let held = seen[slot];
+        if !is_new(b, i + 1, n, m, held) {
             return false;
         }
-        seen[slot] = 1;
+        seen[slot] = held_with(held, m);
     }
     true
+}
+
+// Whether a packet begins in the partition. The difference wraps: a sector below the partition is far above it.
+fn is_inside(span: Span, m: PhysicalAddress) -> bool
+    ensures { λ r. ⌜ r ≡ inside (span .start) (span .length) (m .0) ⌝ }
+{
+    std::num::wrapping_sub_u32(m.0, span.start) < span.length
+}
+
+// Whether none of `n` entries is mapped into the partition.
+fn none_inside(b: &[u8], n: usize, span: Span) -> bool
+    requires { ⌜ 56 + 8 * n ≤ length (now b) ⌝ }
+    ensures { λ r. ⌜ r ≡ noneInside (span .start) (span .length) (entriesIn (now (b .entry)) n) ⌝ }
+{
+    let mut none = true;
+    let mut i: usize = 0;
+    while i < n {
+        if is_inside(span, mapped_at(b, i)) {
+            none = false;
+        }
+        i += 1;
+    }
+    none
+}
+
+// Whether entry `i` of `n` is not used, or its packet is none that one of them is mapped to. Past 32 bits there is none.
+fn is_clear(b: &[u8], n: usize, s: u32, i: usize, seen: &[u8; SLOTS]) -> bool
+    requires { ⌜ (56 + 8 * n ≤ length (now b)) × (i < n) ⌝ }
+    requires { ⌜ Told (now seen) (entriesIn (now b) n) ⌝ }
+    ensures { λ r. ⌜ r ≡ originalClear s (mappedOf (entriesIn (now (b .entry)) n)) (entryIn (now (b .entry)) i) ⌝ }
+{
+    let original = original_at(b, i);
+    if original == FREE {
+        return true;
+    }
+    if original == DEFECTIVE {
+        return true;
+    }
+    if u32::MAX - s < original {
+        return true;
+    }
+    let place = address::sector_of(s, LogicalAddress(original));
+    let slot = slot_of(place);
+    is_new(b, 0, n, place, seen[slot])
+}
+
+// Whether no packet of a used one of `n` entries is one that an entry is mapped to.
+fn originals_clear(b: &[u8], n: usize, s: u32, seen: &[u8; SLOTS]) -> bool
+    requires { ⌜ 56 + 8 * n ≤ length (now b) ⌝ }
+    requires { ⌜ Told (now seen) (entriesIn (now b) n) ⌝ }
+    ensures { λ r. ⌜ r ≡ originalsClear s (mappedOf (entriesIn (now (b .entry)) n)) (entriesIn (now (b .entry)) n) ⌝ }
+{
+    let mut i: usize = 0;
+    while i < n {
+        if !is_clear(b, n, s, i, seen) {
+            return false;
+        }
+        i += 1;
+    }
+    true
+}
+
+// Whether the mapped starts of `n` entries may be spares, none stands twice, and no packet of a used entry is one of them.
+// The originals fit: where no packet of the partition is mapped theirs are not looked at.
+fn packets_fit(x: Layout, b: &[u8], n: usize) -> bool
+    requires { ⌜ x .count ≤ 4 ⌝ }
+    requires { ⌜ 56 + 8 * n ≤ length (now b) ⌝ }
+    requires { ⌜ originalsFit (x .volume .span .length) (entriesIn (now b) n) ≡ true ⌝ }
+    ensures { λ r. ⌜ r ≡ packetsFit (geometryIn x) (entriesIn (now (b .entry)) n) ⌝ }
+{
+    let mut seen = [EMPTY; SLOTS];
+    if !mapped_fit(x, b, n, &mut seen) {
+        return false;
+    }
+    if none_inside(b, n, x.volume.span) {
+        return true;
+    }
+    originals_clear(b, n, x.volume.span.start, &seen)
 }
 
 // Whether none of `n` entries is a defective spare.
@@ -293,7 +415,7 @@ pub fn copy_fits(x: Layout, b: &[u8]) -> bool
     if !is_ascending(b, n) {
         return false;
     }
-    mapped_fit(x, b, n)
+    packets_fit(x, b, n)
 }
 
 // Whether none of the spares from `from` on is `m`.

@@ -1,25 +1,37 @@
 -- Laws of the record and of the lent table on a rewritable disc, and of where a packet is: what the common tests tell of them. Assumes nothing.
-use Prim.Native.Nat.{ℕ, _+_, _-_, _*_, _%_, _≤_, _<_}
-use mathlib.Core.Bool.{Bool}
-use mathlib.Core.Path.{_≡_, ap, _∙_}
+use Prim.Native.Nat.{ℕ, _+_, _*_, _%_, _≤_, _<_}
+use mathlib.Core.Bool.{Bool, not}
+use mathlib.Core.Path.{_≡_, ap, ap₂, _∙_}
 use mathlib.Core.List.{List}
 use native.Mathlib.Omega.{arith}
 use lib.ListN.{length, take}
+use Rattle.maps.specs.Kinds.{absent}
 use Rattle.model.specs.declared.Record.{Record}
 use Rattle.model.specs.Disc.{Disc}
-use Rattle.model.specs.Sparing.{Geometry, Entry, entries, packetOf, locate}
+use Rattle.model.specs.Sparing.{Geometry, Entry, entries, mappedOf, packetOf, ofSpare, locate}
 use Rattle.model.specs.Examine.{Setting, geometry}
-use Rattle.model.specs.Rewrite.{entriesOn, sequenceOn, countOn, placeOf}
-use Rattle.model.proofs.SparingLaws.{packet-multiple, packet-inside, locate-on, locate-packet}
+use Rattle.model.specs.Rewrite.{entriesOn, sequenceOn, countOn, placeOf, ofSpareOn}
+use Rattle.model.proofs.SparingLaws.{packet-multiple, packet-below, packet-inside, locate-on, locate-packet}
 use Rattle.sparing_current.proofs.Laws.{Common}
 use Rattle.sparing_current.specs.Held.{countHeld, sequenceHeld, entriesLent}
 
 -- ---- the record and the lent table
 
--- where the packet of a block is read, by the entries of the lent table
-pub place-found : (s b : ℕ) (t : List ℕ) (held : Record) {r a : ℕ} → r ≡ countHeld held → a ≡ locate s (entries (take (2 * r) t)) (b - b % 32) → a ≡ locate s (entriesLent t held) (packetOf b)
-unfolding entriesLent packetOf
-place-found s b t held q f = f ∙ ap (λ (n : ℕ). locate s (entries (take (2 * n) t)) (b - b % 32)) q
+-- where the packet of a block, which begins at p, is read, by the entries of the lent table
+pub place-found : (s b : ℕ) (t : List ℕ) (held : Record) {r p a : ℕ} → r ≡ countHeld held → p ≡ packetOf b → a ≡ locate s (entries (take (2 * r) t)) p → a ≡ locate s (entriesLent t held) (packetOf b)
+unfolding entriesLent
+place-found s b t held q w f = f ∙ ap₂ (λ (n k : ℕ). locate s (entries (take (2 * n) t)) k) q w
+
+-- whether it belongs to a spare, by them
+pub spare-found : (s b : ℕ) (t : List ℕ) (held : Record) {r p m : ℕ} {u : Bool} → r ≡ countHeld held → p ≡ packetOf b → m ≡ s + p → u ≡ absent m (mappedOf (entries (take (2 * r) t)))
+    → not u ≡ ofSpare s (entriesLent t held) b
+unfolding entriesLent ofSpare
+spare-found s b t held q w p f =
+    ap not (f ∙ ap₂ (λ (n k : ℕ). absent k (mappedOf (entries (take (2 * n) t)))) q (p ∙ ap (λ (k : ℕ). s + k) w))
+
+-- what is asked of a packet's start
+pub start-asks : (s b : ℕ) {p : ℕ} → p ≡ packetOf b → s + b < 4294967296 → (p % 32 ≡ 0) × (s + p < 4294967296)
+start-asks s b q h = (omega (arith, packet-multiple b), omega (arith, packet-below b))
 
 -- ---- what the common tests tell of them
 
@@ -49,6 +61,11 @@ module _ (e : Setting) (d : Disc) (t : List ℕ) (lent : Bool) (held : Record) (
   pub place-lent : (b : ℕ) → locate (e .start) (entriesLent t held) (packetOf b) ≡ placeOf e d (packetOf b)
   unfolding placeOf
   place-lent b = ap (λ (es : List Entry). locate (e .start) es (packetOf b)) entries-lent
+
+  -- whether a block belongs to a spare
+  pub spare-lent : (b : ℕ) → ofSpare (e .start) (entriesLent t held) b ≡ ofSpareOn e d b
+  unfolding ofSpareOn
+  spare-lent b = ap (λ (es : List Entry). ofSpare (e .start) es b) entries-lent
 
   -- its sectors are on the disc
   pub place-on : (b : ℕ) → b < e .span → placeOf e d (packetOf b) + 32 ≤ length (d .marks)

@@ -18,7 +18,7 @@ ghost use Prim.Native.Nat.{ℕ, _+_, _*_, _^_, _≤_, _<_};
 ghost use lib.ListN.{length, take};
 ghost use Rattle.refusal.specs.declared.Verdict;
 ghost use Rattle.model.specs.Disc.{disc as discOf, sector};
-ghost use Rattle.model.specs.Sparing.{groundOf, countIn, tableAt, packetOf, locate};
+ghost use Rattle.model.specs.Sparing.{groundOf, countIn, tableAt, packetOf, ofSpare, locate};
 ghost use Rattle.model.specs.Examine.{Setting, setting};
 ghost use Rattle.model.specs.Rewrite.{tableOn, sequenceOn, countOn, heldCurrent};
 ghost use Rattle.sparing_copy.specs.Layout.{geometryIn};
@@ -220,6 +220,24 @@ pub fn sequence_held(held: Record) -> u32
     }
 }
 
+// The first block of the packet of block b.
+fn packet_of(b: LogicalAddress) -> LogicalAddress
+    ensures { λ r. ⌜ r .0 ≡ packetOf (b .0) ⌝ }
+{
+    LogicalAddress(b.0 - b.0 % PACKET)
+}
+
+// Whether block b belongs to a spare: an entry of whatever kind maps its packet's own place. Inside the layers: lines 2
+// and 11 have been tested, and b is below L.
+pub fn is_of_spare(table: &[u32], held: Record, s: u32, b: LogicalAddress) -> bool
+    requires { ⌜ (2 * countHeld held ≤ length (now table)) × (s + b .0 < 2 ^ 32) ⌝ }
+    ensures { λ r. ⌜ r ≡ ofSpare s (entriesLent (now (table .entry)) held) (b .0) ⌝ }
+{
+    let n = fields::usize_of_u32(count_held(held));
+    let place = address::sector_of(s, packet_of(b));
+    !sparing_table::is_unmapped(table, n, place)
+}
+
 // The sector at which the packet of block b is read. Inside the layers: lines 2 and 11 have been tested, and
 // b is below L.
 pub fn packet_place(table: &[u32], held: Record, s: u32, b: LogicalAddress) -> PhysicalAddress
@@ -227,6 +245,6 @@ pub fn packet_place(table: &[u32], held: Record, s: u32, b: LogicalAddress) -> P
     ensures { λ r. ⌜ r .0 ≡ locate s (entriesLent (now (table .entry)) held) (packetOf (b .0)) ⌝ }
 {
     let entries = count_held(held);
-    let first = LogicalAddress(b.0 - b.0 % PACKET);
+    let first = packet_of(b);
     sparing_table::find_packet(table, entries, s, first)
 }

@@ -13,7 +13,8 @@ ghost use Prim.Native.Nat.{_+_, _*_, _%_, _^_, _≤_, _<_};
 ghost use lib.ListN.{length, take};
 ghost use Rattle.fields.specs.Bytes.{same};
 ghost use Rattle.fields.specs.Number.{field};
-ghost use Rattle.model.specs.Sparing.{entries, freeOf, countIn, tableIn, locate};
+ghost use Rattle.maps.specs.Kinds.{absent};
+ghost use Rattle.model.specs.Sparing.{entries, freeOf, mappedOf, countIn, tableIn, locate};
 ghost use Rattle.model.specs.Once.{filledFrom};
 ghost use Rattle.sparing_table.specs.Table.{has, above, placeWhere, freeIn};
 
@@ -90,6 +91,22 @@ pub fn find_above(table: &[u32], n: usize, p: LogicalAddress) -> usize
         i += 1;
     }
     n
+}
+
+// Whether none of the first `n` entries of the lent table, of whatever kind, is mapped to `m`.
+pub fn is_unmapped(table: &[u32], n: usize, m: PhysicalAddress) -> bool
+    requires { ⌜ 2 * n ≤ length (now table) ⌝ }
+    ensures { λ r. ⌜ r ≡ absent (m .0) (mappedOf (entries (take (2 * n) (now (table .entry))))) ⌝ }
+{
+    let mut none = true;
+    let mut i: usize = 0;
+    while i < n {
+        if table[2 * i + 1] == m.0 {
+            none = false;
+        }
+        i += 1;
+    }
+    none
 }
 
 // The sector at which the packet that begins at block `p` is read, in a partition that starts at `s`.

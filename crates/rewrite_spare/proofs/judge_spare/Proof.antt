@@ -6,9 +6,9 @@ use Rattle.model.specs.Examine.{Setting, setting}
 use Rattle.model.specs.Rewrite.{packetLent}
 use Rattle.sparing_current.proofs.Laws.{Common, going}
 use Rattle.refusal.proofs.Laws.{stop-go}
-use Rattle.sparing_current.proofs.Held.{sequence-held, room-held, entries-lent}
-use Rattle.sparing_current.proofs.Judging.{span-length, judged-stop}
-use Rattle.sparing_place.proofs.Laws.{table-lent, stops-call, goes-call}
+use Rattle.sparing_current.proofs.Held.{sequence-held, entries-lent}
+use Rattle.sparing_current.proofs.Judging.{span-start, span-length, judged-stop}
+use Rattle.sparing_place.proofs.Laws.{table-lent, stops-call, goes-call, translation-asks}
 use Rattle.sparing_place.proofs.Packets.{packet-lent}
 use Rattle.rewrite_spare.proofs.judge_spare.Statement.{statement}
 use Rattle.rewrite_spare.proofs.judge_spare.Tie as tie
@@ -56,7 +56,9 @@ enum-told-2 c = search needs
 judge-sparing-requires : tie.Need-judge-sparing-requires
 judge-sparing-requires c κs =
     let z = c .before .before .before .before .before .before .before .before .before .before .before in
-    room-held (settingOf z) (discOf z) (z .args .table .now) _ (z .args .held) (told (c .before .before))
+    let k = c .before .before in
+    let j = k .before .before .judge in
+    translation-asks (settingOf z) (discOf z) (z .args .table .now) _ (z .args .held) (j .result .layout) (told k) (j .ensures .layout (k .enum-told2 .given .1))
 
 returns-2 : tie.Need-returns-2
 returns-2 c =
@@ -64,13 +66,15 @@ returns-2 c =
     let h = told (c .before .before .before) in
     let go = c .before .before .before .enum-told2 .given .1 in
     let j = c .before .before .before .before .before .judge .ensures in
-    let span = span-length (settingOf z) (discOf z) (c .before .before .before .before .before .judge .result .layout) (j .layout go) in
+    let x = c .before .before .before .before .before .judge .result .layout in
+    let start = span-start (settingOf z) (discOf z) x (j .layout go) in
+    let span = span-length (settingOf z) (discOf z) x (j .layout go) in
     record {
       judged =
           record {
             verdict =
                 goes-call (settingOf z) (discOf z) (z .args .table .now) _ (z .args .held) _ (packet-lent _ (z .args .packet .now) (c .before .before .before .before .before .before .are-lent .ensures)) (j .verdict) go
-                (c .judge-sparing .ensures (settingOf z) (discOf z) (sym span) (sym (j .copies go)) (sym (entries-lent (settingOf z) (discOf z) (z .args .table .now) _ (z .args .held) h)) (sym (sequence-held (settingOf z) (discOf z) (z .args .table .now) _ (z .args .held) h)));
+                (c .judge-sparing .ensures (settingOf z) (discOf z) (sym start) (sym span) (sym (j .copies go)) (sym (entries-lent (settingOf z) (discOf z) (z .args .table .now) _ (z .args .held) h)) (sym (sequence-held (settingOf z) (discOf z) (z .args .table .now) _ (z .args .held) h)));
             layout = λ _. j .layout go;
             copies = λ _. j .copies go;
           };

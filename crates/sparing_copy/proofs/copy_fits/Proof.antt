@@ -5,7 +5,7 @@ use borrow.Author.Needs.{needs}
 use borrow.Author.Tests.{not-true, not-false}
 use Rattle.fields.specs.Number.{field}
 use Rattle.model.specs.Sparing.{countIn}
-use Rattle.sparing_copy.proofs.Rule.{copy-tag, copy-long, copy-name, copy-originals, copy-ascending, copy-mapped}
+use Rattle.sparing_copy.proofs.Rule.{copy-tag, copy-long, copy-name, copy-originals, copy-ascending, copy-packets}
 use Rattle.sparing_copy.proofs.copy_fits.Statement.{statement}
 use Rattle.sparing_copy.proofs.copy_fits.Tie as tie
 
@@ -70,8 +70,10 @@ returns-5 c =
     let w = n .before .before .before .before in
     copy-ascending _ _ (tagged w) _ (counted w) (omega arith) (sym (n .before .is-named .ensures) ∙ not-false _ (n .if3 .left)) (sym (o .before .originals-fit .ensures) ∙ not-false _ (o .if4 .left)) (sym (c .before .is-ascending .ensures) ∙ not-true _ (c .if5 .taken))
 
-mapped-fit-requires : tie.Need-mapped-fit-requires
-mapped-fit-requires c κs = search needs
+packets-fit-requires : tie.Need-packets-fit-requires
+packets-fit-requires c κs =
+    let o = c .before .before in
+    (search needs, (omega arith, sym (o .before .originals-fit .ensures) ∙ not-false _ (o .if4 .left)))
 
 returns-6 : tie.Need-returns-6
 returns-6 c =
@@ -79,7 +81,7 @@ returns-6 c =
     let o = a .before .before in
     let n = o .before .before in
     let w = n .before .before .before .before in
-    copy-mapped _ _ (tagged w) _ (counted w) (omega arith) (sym (n .before .is-named .ensures) ∙ not-false _ (n .if3 .left)) (sym (o .before .originals-fit .ensures) ∙ not-false _ (o .if4 .left)) (sym (a .before .is-ascending .ensures) ∙ not-false _ (a .if5 .left)) _ (c .mapped-fit .ensures)
+    copy-packets _ _ (tagged w) _ (counted w) (omega arith) (sym (n .before .is-named .ensures) ∙ not-false _ (n .if3 .left)) (sym (o .before .originals-fit .ensures) ∙ not-false _ (o .if4 .left)) (sym (a .before .is-ascending .ensures) ∙ not-false _ (a .if5 .left)) _ (c .packets-fit .ensures)
 
 pub copy-fits-spec : {M : Type 1} → statement M
 copy-fits-spec =
@@ -99,5 +101,5 @@ copy-fits-spec =
     returns-4
     is-ascending-requires
     returns-5
-    mapped-fit-requires
+    packets-fit-requires
     returns-6)

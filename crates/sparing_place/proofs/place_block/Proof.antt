@@ -1,14 +1,10 @@
--- `sparing_place::place_block` meets its contract: each return by the law of its line. Assumes nothing.
-use Prim.Native.Nat.{_<_}
-use mathlib.Core.Path.{_≡_, refl, _∙_}
-use native.Mathlib.Omega.{arith}
+-- `sparing_place::place_block` meets its contract: the common tests, and then the translation. Assumes nothing.
+use mathlib.Core.Path.{refl}
 use borrow.Author.Needs.{needs}
 use Rattle.model.specs.Disc.{Disc, disc}
 use Rattle.model.specs.Examine.{Setting, setting}
 use Rattle.sparing_current.proofs.Laws.{Common, going}
-use Rattle.sparing_current.proofs.Held.{room-held, sum-small}
-use Rattle.sparing_current.proofs.Judging.{span-start, span-length}
-use Rattle.sparing_place.proofs.Laws.{stops-call, goes-call, block-outside, block-inside, placed-stop, place-laid}
+use Rattle.sparing_place.proofs.Laws.{stops-call, goes-call, translation-asks, translated, translated-at, placed-stop, placed-by}
 use Rattle.sparing_place.proofs.place_block.Statement.{statement}
 use Rattle.sparing_place.proofs.place_block.Tie as tie
 
@@ -28,18 +24,6 @@ told c =
     let z = c .before .before .before .before .before .before .before in
     going (settingOf z) (discOf z) (z .args .table .now) (z .args .lent) (z .args .held) refl (c .before .before .judge .ensures .verdict) (c .enum-told .given .1)
 
--- S and L of the volume are those of the call
-spanned : (c : tie.After-enum-told) → let z = c .before .before .before .before .before .before .before in let x = c .before .before .judge .result .layout in (x .volume .span .start ≡ z .args .s) × (x .volume .span .length ≡ z .args .l)
-spanned c =
-    let z = c .before .before .before .before .before .before .before in
-    let x = c .before .before .judge .result .layout in
-    let q = c .before .before .judge .ensures .layout (c .enum-told .given .1) in
-    (span-start (settingOf z) (discOf z) x q, span-length (settingOf z) (discOf z) x q)
-
--- the block is one of the partition
-within : (c : tie.Else1) → let z = c .before .before .before .before .before .before .before .before .before .before .before in z .args .b .0 < z .args .l
-within c = omega (arith, spanned (c .before .before .before .before) .1, c .if1 .left)
-
 judge-requires : tie.Need-judge-requires
 judge-requires c κs = c .before .before .before .before .pre
 
@@ -58,39 +42,28 @@ returns c =
 enum-told : tie.Need-enum-told
 enum-told c = search needs
 
-stopped-requires-2 : tie.Need-stopped-requires-2
-stopped-requires-2 c κs = search needs
+packet-to-physical-requires : tie.Need-packet-to-physical-requires
+packet-to-physical-requires c κs =
+    let z = c .before .before .before .before .before .before .before in
+    let j = c .before .before .judge in
+    translation-asks (settingOf z) (discOf z) (z .args .table .now) _ (z .args .held) (j .result .layout) (told c) (j .ensures .layout (c .enum-told .given .1))
+
+placed-by-requires : tie.Need-placed-by-requires
+placed-by-requires c κs = search needs
 
 returns-2 : tie.Need-returns-2
 returns-2 c =
-    let z = c .before .before .before .before .before .before .before .before .before .before .before .before in
-    placed-stop _ (c .stopped2 .ensures)
-    (goes-call (settingOf z) (discOf z) (z .args .table .now) (z .args .lent) (z .args .held) _ refl (c .before .before .before .before .before .before .before .judge .ensures .verdict) (c .before .before .before .before .before .enum-told .given .1)
-    (block-outside (settingOf z) (z .args .b .0) (omega (arith, spanned (c .before .before .before .before .before) .1, c .before .if1 .taken))))
-
-packet-place-requires : tie.Need-packet-place-requires
-packet-place-requires c κs =
-    let z = c .before .before .before .before .before .before .before .before .before .before .before in
-    let k = c .before .before .before .before in
-    let h = told k in (
-      room-held (settingOf z) (discOf z) (z .args .table .now) _ (z .args .held) h,
-      omega (arith, spanned k .0, sum-small (settingOf z) (discOf z) (z .args .table .now) _ (z .args .held) h (z .args .b .0) (within c)),
-    )
-
-returns-3 : tie.Need-returns-3
-returns-3 c =
-    let z = c .before .before .before .before .before .before .before .before .before .before .before .before in
-    let k = c .before .before .before .before .before in
-    record {
-      verdict =
-          goes-call (settingOf z) (discOf z) (z .args .table .now) (z .args .lent) (z .args .held) _ refl (k .before .before .judge .ensures .verdict) (k .enum-told .given .1)
-          (block-inside (settingOf z) (z .args .b .0) (within (c .before)));
-      place =
-          λ _. c .packet-place .ensures
-          ∙ place-laid (settingOf z) (discOf z) (z .args .table .now) _ (z .args .held) (k .before .before .judge .result .layout) (told k) (k .before .before .judge .ensures .layout (k .enum-told .given .1)) (z .args .b .0);
-    }
+    let k = c .before .before in
+    let z = k .before .before .before .before .before .before .before in
+    let j = k .before .before .judge in
+    let laid = j .ensures .layout (k .enum-told .given .1) in
+    let is = c .before .packet-to-physical .ensures .0 in
+    placed-by _ (c .placed-by .ensures)
+    (goes-call (settingOf z) (discOf z) (z .args .table .now) (z .args .lent) (z .args .held) _ refl (j .ensures .verdict) (k .enum-told .given .1)
+    (translated (settingOf z) (discOf z) (z .args .table .now) _ (z .args .held) (j .result .layout) (told k) laid (z .args .b) is))
+    (translated-at (settingOf z) (discOf z) (z .args .table .now) _ (z .args .held) (j .result .layout) (told k) laid (z .args .b) is)
 
 pub place-block-spec : {M : Type 1} → statement M
 place-block-spec =
     tie.close
-    (tie.spec judge-requires enum-known-verdict stopped-requires returns enum-told stopped-requires-2 returns-2 packet-place-requires returns-3)
+    (tie.spec judge-requires enum-known-verdict stopped-requires returns enum-told packet-to-physical-requires placed-by-requires returns-2)
