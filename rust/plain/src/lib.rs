@@ -3,8 +3,8 @@
 //! It was written from these documents, with the readings of open points in `docs/DECISIONS.md`, and shares no code with the proved layer.
 //! The tests hold the two against each other, and the benchmarks take it as their baseline. Each function is the one of the same name in
 //! `include/tuormik.h`, with slices for pointers and lengths; the CRC goes by tables and has names of its own. "Line n" is line n of 01,
-//! "Why a call is turned down", or number n of 02, which stands where 02 places it among them: 25 directly before 14. Line 18 never occurs
-//! (02, slip 1). A call is turned down by `Err(n)`.
+//! "Why a call is turned down", or number n of 02, which stands where 02 places it among them: 30 directly after 12, 25 directly before 14.
+//! Line 18 never occurs (02, slip 1). A call is turned down by `Err(n)`.
 #![deny(missing_docs)]
 #![allow(clippy::too_many_arguments)]
 
@@ -601,33 +601,59 @@ impl Current<'_> {
     }
 }
 
+/// A set of packets of the disc, by their first sectors.
+struct Packets([u64; MOST_SECTORS / PACKET / 64]);
+
+impl Packets {
+    fn new() -> Packets {
+        Packets([0; MOST_SECTORS / PACKET / 64])
+    }
+
+    /// The word of a packet, and its bit in it.
+    fn place(start: usize) -> (usize, u64) {
+        let packet = start / PACKET;
+        (packet / 64, 1 << (packet % 64))
+    }
+
+    fn has(&self, start: usize) -> bool {
+        let (word, bit) = Packets::place(start);
+        self.0[word] & bit != 0
+    }
+
+    /// Whether the packet was not among them before.
+    fn add(&mut self, start: usize) -> bool {
+        let (word, bit) = Packets::place(start);
+        let is_new = self.0[word] & bit == 0;
+        self.0[word] |= bit;
+        is_new
+    }
+}
+
 /// The copy rule over entries of original and mapped. The originals are packets of the partition and two numbers above them, first that of
 /// defective spares and then that of free ones: used entries, defective and free ones stand in this order where the originals never
-/// descend, and only those two numbers stand more than once.
-fn entries_fit(entries: impl ExactSizeIterator<Item = (u32, u32)>, sectors: usize, span: Span, tables: &Tables) -> bool {
+/// descend, and only those two numbers stand more than once. No original is a packet that an entry maps (02, slip 8).
+fn entries_fit(entries: impl ExactSizeIterator<Item = (u32, u32)> + Clone, sectors: usize, span: Span, tables: &Tables) -> bool {
     if 56 + 8 * entries.len() > tables.size as usize {
         return false;
     }
-    let mut seen = [0u64; MOST_SECTORS / PACKET / 64];
+    let mut mapped_packets = Packets::new();
     let mut lowest = 0;
-    for (original, mapped) in entries {
+    for (original, mapped) in entries.clone() {
         let is_packet = original % PACKET as u32 == 0 && (original as usize) < span.l;
         if original < lowest || !(is_packet || original == DEFECTIVE || original == NONE) {
             return false;
         }
         lowest = if is_packet { original + 1 } else { original };
         let start = mapped as usize;
-        if !start.is_multiple_of(PACKET) || start + PACKET > sectors || !span.is_clear_of(start) {
+        if !start.is_multiple_of(PACKET) || start + PACKET > sectors || tables.sectors().contains(&mapped) {
             return false;
         }
-        let packet = start / PACKET;
-        let bit = 1 << (packet % 64);
-        if seen[packet / 64] & bit != 0 || tables.sectors().contains(&mapped) {
+        if !mapped_packets.add(start) {
             return false;
         }
-        seen[packet / 64] |= bit;
     }
-    true
+    let mut originals = entries.map(|(original, _)| original as usize).take_while(|&original| original < span.l);
+    originals.all(|original| !mapped_packets.has(span.s + original))
 }
 
 /// The bytes of a copy's entries, if the copy at a sector counts.
@@ -707,14 +733,23 @@ impl Spared {
         }
     }
 
-    /// Line 12 of a block.
-    fn need_block(&self, b: u32) -> Answer<()> {
-        need((b as usize) < self.span.l, 12)
+    /// Lines 12 and 30 of a block.
+    fn need_block(&self, table: &[u32], b: u32) -> Answer<()> {
+        need((b as usize) < self.span.l, 12)?;
+        need(!self.is_of_spare(table, b), 30)
     }
 
-    /// Line 12 of a packet start.
-    fn need_packet(&self, b: u32) -> Answer<()> {
-        need((b as usize).is_multiple_of(PACKET) && (b as usize) < self.span.l, 12)
+    /// Lines 12 and 30 of a packet start.
+    fn need_packet(&self, table: &[u32], b: u32) -> Answer<()> {
+        need((b as usize).is_multiple_of(PACKET), 12)?;
+        self.need_block(table, b)
+    }
+
+    /// Whether an entry of any kind maps the packet in which block b of the partition lies.
+    fn is_of_spare(&self, table: &[u32], b: u32) -> bool {
+        let start = self.span.s as u32 + b - b % PACKET as u32;
+        let (entries, _) = table[..self.numbers].as_chunks();
+        entries.iter().fold(false, |any, &[_, mapped]| any | (mapped == start))
     }
 }
 
@@ -820,7 +855,7 @@ pub fn read(disc: &[u8], marks: &[u8], maps: &[u8], s: u32, l: u32, table: &[u32
             }
             (span, Volume::Rewritable { tables, .. }) => {
                 let spared = spared_of(disc, marks, span, tables, table, record)?;
-                spared.need_block(block)?;
+                spared.need_block(table, block)?;
                 spared.place(table, block)
             }
         };
@@ -934,7 +969,7 @@ pub fn save_block(
     let mut call = || -> Answer<bool> {
         let lent = block.len() == SECTOR;
         let spared = examine_rewritable(disc, marks, maps, s, l, table, record, lent)?;
-        spared.need_block(b)?;
+        spared.need_block(table, b)?;
         let at = spared.place(table, b);
         let start = at - b as usize % PACKET;
         let is_other = |i: &usize| *i != at;
@@ -974,7 +1009,7 @@ pub fn save_packet(
     let mut call = || -> Answer<bool> {
         let lent = packet.len() == PACKET_BYTES;
         let spared = examine_rewritable(disc, marks, maps, s, l, table, record, lent)?;
-        spared.need_packet(b)?;
+        spared.need_packet(table, b)?;
         let mut writer = Writer::new(disc, marks, cut);
         writer.write_upward(spared.place(table, b), packet);
         if writer.was_cut() {
@@ -1005,7 +1040,7 @@ pub fn spare_packet(
     let mut call = || -> Answer<bool> {
         let lent = packet.len() == PACKET_BYTES;
         let mut spared = examine_rewritable(disc, marks, maps, s, l, table, record, lent)?;
-        spared.need_packet(b)?;
+        spared.need_packet(table, b)?;
         need(spared.tables.count >= 2, 17)?;
         let (entries, _) = table[..spared.numbers].as_chunks();
         let free = entries.partition_point(|&[original, _]| original != NONE);

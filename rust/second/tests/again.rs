@@ -6,21 +6,21 @@
 
 #[path = "lists/landing.rs"]
 mod landing;
+#[path = "lists/maps.rs"]
+mod maps;
 #[path = "lists/met.rs"]
 mod met;
+#[path = "lists/sparing.rs"]
+mod sparing;
 
 use landing::Landing;
 use met::Met;
+use sparing::{flat, spared, Copies, Copy, Entry, Layout, Name, Parts, Seen, COPIES_DIFFER, FIRST_TABLE, LENT, NO_SPARE, NO_TABLE};
 use std::collections::HashSet;
 use tuormik::{BLANK, DEFECTIVE, MOST_ENTRIES, NONE, PACKET, PACKET_BYTES, RECORDED, SECTOR, UNREADABLE};
 use tuormik_second::layer::{Layer, PLAIN, PROVED};
 
 const CUT: u32 = 255;
-const NO_TABLE: u32 = 8;
-const COPIES_DIFFER: u32 = 10;
-const NO_SPARE: u32 = 19;
-/// The write of a sparing that is its first of a table.
-const FIRST_TABLE: u32 = PACKET as u32 + 1;
 
 // ---- the discs
 
@@ -32,6 +32,11 @@ const PACKETS: [u32; 2] = [0, 32];
 const TABLES: [u32; 4] = [32, 0, 128, 160];
 const SPARES: [u32; 4] = [224, 192, 288, 256];
 
+/// A disc of so many tables.
+fn layout(tables: usize) -> Layout {
+    Layout { sectors: SECTORS as u32, s: S, l: L, tables: TABLES[..tables].to_vec() }
+}
+
 /// All that is lent.
 #[derive(Clone, PartialEq)]
 struct World {
@@ -41,9 +46,6 @@ struct World {
     table: Vec<u32>,
     record: [u32; 5],
 }
-
-/// What the places of a lent table hold that no call fills.
-const LENT: u32 = 0xabcd_abcd;
 
 impl World {
     /// A disc without a copy: both packets and every spare are recorded, each block with the tag of its packet.
@@ -118,67 +120,6 @@ fn tag_of_spare(m: u32) -> Tag {
 
 // ---- the rules, from the words of 01 and 02
 
-#[derive(Clone, Copy, PartialEq, Eq, Hash, Debug)]
-enum Name {
-    Newer,
-    Older,
-}
-
-/// Original and mapped.
-type Entry = (u32, u32);
-
-/// A copy of the table.
-#[derive(Clone, PartialEq, Eq, Hash, Debug)]
-struct Copy {
-    name: Name,
-    suffix: u8,
-    sequence: u32,
-    entries: Vec<Entry>,
-    is_readable: bool,
-}
-
-impl Copy {
-    fn bytes(&self) -> [u8; SECTOR] {
-        let mut sector = [0; SECTOR];
-        let name: &[u8] = match self.name {
-            Name::Newer => b"*UDF Sparing Table",
-            Name::Older => b"*OSTA UDF Sparing Table",
-        };
-        sector[17..][..name.len()].copy_from_slice(name);
-        sector[40..48].fill(self.suffix);
-        sector[48..50].copy_from_slice(&(self.entries.len() as u16).to_le_bytes());
-        sector[52..56].copy_from_slice(&self.sequence.to_le_bytes());
-        for (to, (original, mapped)) in sector[56..].chunks_exact_mut(8).zip(&self.entries) {
-            to[..4].copy_from_slice(&original.to_le_bytes());
-            to[4..].copy_from_slice(&mapped.to_le_bytes());
-        }
-        sector
-    }
-
-    /// The copy in a sector; here every sector of a table has one.
-    fn of(sector: &[u8], mark: u8) -> Copy {
-        let word = |at: usize| u32::from_le_bytes([sector[at], sector[at + 1], sector[at + 2], sector[at + 3]]);
-        let name = if sector[17..22] == *b"*OSTA" { Name::Older } else { Name::Newer };
-        let entries = (0..word(48) as usize).map(|i| (word(56 + 8 * i), word(60 + 8 * i))).collect();
-        Copy { name, suffix: sector[40], sequence: word(52), entries, is_readable: mark == RECORDED }
-    }
-
-    /// Whether it counts, where the mapped starts are as they should be.
-    fn counts(&self) -> bool {
-        let originals: Vec<u32> = self.entries.iter().map(|entry| entry.0).collect();
-        self.is_readable && originals_fit(&originals) && !(self.name == Name::Older && originals.contains(&DEFECTIVE))
-    }
-}
-
-/// Used originals are multiples of 32 below L and strictly ascending; defective entries stand after used and before free ones.
-fn originals_fit(originals: &[u32]) -> bool {
-    let used = originals.iter().take_while(|&&o| o != DEFECTIVE && o != NONE).count();
-    let (used, others) = originals.split_at(used);
-    let defective = others.iter().take_while(|&&o| o == DEFECTIVE).count();
-    let ascend = used.windows(2).all(|pair| pair[0] < pair[1]);
-    used.iter().all(|o| o % PACKET as u32 == 0 && *o < L) && ascend && others[defective..].iter().all(|&o| o == NONE)
-}
-
 /// What may be wrong with a sparing.
 #[derive(Clone, Copy, PartialEq, Debug)]
 enum Slip {
@@ -192,30 +133,23 @@ enum Slip {
     CurrentFirst,
 }
 
-/// The entries after a sparing of packet p, and the spare that it takes: its entry turns defective, the last of them, and the free entry
-/// of lowest index is taken.
-fn spared(entries: &[Entry], p: u32, slip: Slip) -> Option<(Vec<Entry>, u32)> {
-    let mapped = |which: u32| entries.iter().filter(move |entry| entry.0 == which).map(|entry| entry.1).collect::<Vec<u32>>();
-    let (mut defective, mut free) = (mapped(DEFECTIVE), mapped(NONE));
-    let mut used: Vec<Entry> = entries.iter().copied().filter(|entry| entry.0 < L).collect();
+/// The entries after a sparing of packet p with a slip, and the spare that it takes.
+fn misspared(entries: &[Entry], p: u32, slip: Slip) -> Option<(Vec<Entry>, u32)> {
+    let mut parts = Parts::of(entries);
     let taken = match slip {
-        _ if free.is_empty() => return None,
-        Slip::LastFreeTaken => free.pop()?,
-        _ => free.remove(0),
+        _ if parts.free.is_empty() => return None,
+        Slip::LastFreeTaken => parts.free.pop()?,
+        _ => parts.free.remove(0),
     };
-    if let Some(own) = used.iter().position(|entry| entry.0 == p) {
-        match slip {
-            Slip::NewDefectiveFirst => defective.insert(0, used.remove(own).1),
-            Slip::OldSpareFree => free.insert(0, used.remove(own).1),
-            Slip::OldEntryKept => {}
-            _ => defective.push(used.remove(own).1),
-        }
+    let had = if slip == Slip::OldEntryKept { None } else { parts.give_up(p) };
+    match (slip, had) {
+        (_, None) => {}
+        (Slip::NewDefectiveFirst, Some(m)) => parts.defective.insert(0, m),
+        (Slip::OldSpareFree, Some(m)) => parts.free.insert(0, m),
+        (_, Some(m)) => parts.defective.push(m),
     }
-    used.push((p, taken));
-    used.sort_by_key(|entry| entry.0);
-    let marked = |mark: u32, mapped: Vec<u32>| mapped.into_iter().map(move |m| (mark, m));
-    let resorted = used.into_iter().chain(marked(DEFECTIVE, defective)).chain(marked(NONE, free));
-    Some((resorted.collect(), taken))
+    parts.used.push((p, taken));
+    Some((parts.entries(), taken))
 }
 
 /// The power fails at write `at`, counted from 1; the write is old, unreadable or whole.
@@ -234,57 +168,33 @@ impl Cut {
     }
 }
 
-/// The copies in map order.
-#[derive(Clone, PartialEq, Eq, Hash, Debug)]
-struct Copies(Vec<Copy>);
-
 impl Copies {
-    /// The current copies: those of the highest sequence among the ones that count.
-    fn current(&self) -> Vec<usize> {
-        let counting = || (0..self.0.len()).filter(|&i| self.0[i].counts());
-        let highest = counting().map(|i| self.0[i].sequence).max();
-        counting().filter(|&i| Some(self.0[i].sequence) == highest).collect()
-    }
-
-    /// The table that is opened, or the line: current copies must have the same entries, under whatever identifier.
-    fn opened(&self) -> Result<&Copy, u32> {
-        let current = self.current();
-        let first = &self.0[*current.first().ok_or(NO_TABLE)?];
-        let agree = current.iter().all(|&i| self.0[i].entries == first.entries);
-        agree.then_some(first).ok_or(COPIES_DIFFER)
-    }
-
-    /// The copies that a sparing writes, in turn: first those that were not current, each in map order.
-    fn order(&self, slip: Slip) -> Vec<usize> {
-        let current = self.current();
-        let (mut first, mut last): (Vec<usize>, Vec<usize>) = (0..self.0.len()).partition(|i| !current.contains(i));
-        if slip == Slip::CurrentFirst {
-            std::mem::swap(&mut first, &mut last);
-        }
-        [first, last].concat()
+    /// Each with its sector.
+    fn placed(&self) -> impl Iterator<Item = (u32, &Copy)> {
+        self.layout.tables.iter().copied().zip(&self.all)
     }
 
     /// They after a sparing that made this table.
     fn written(&self, entries: &[Entry], sequence: u32, cut: Cut, slip: Slip) -> Copies {
+        let mut order = self.order();
+        if slip == Slip::CurrentFirst {
+            order.reverse();
+        }
         let mut after = self.clone();
-        for (i, place) in self.order(slip).into_iter().enumerate() {
-            let old = &self.0[place];
+        for (i, place) in order.concat().into_iter().enumerate() {
+            let old = &self.all[place];
             match cut.landing(FIRST_TABLE + i as u32) {
                 Landing::Kept => {}
-                Landing::Unreadable => after.0[place].is_readable = false,
+                Landing::Unreadable => after.all[place].is_readable = false,
                 Landing::Done => {
                     let name = if slip == Slip::OlderNameKept { old.name } else { Name::Newer };
                     let suffix = if slip == Slip::SuffixKept { old.suffix } else { 0 };
-                    after.0[place] = Copy { name, suffix, sequence, entries: entries.to_vec(), is_readable: true };
+                    after.all[place] = Copy { name, suffix, sequence, entries: entries.to_vec(), is_readable: true };
                 }
             }
         }
         after
     }
-}
-
-fn flat(entries: &[Entry]) -> Vec<u32> {
-    entries.iter().flat_map(|entry| [entry.0, entry.1]).collect()
 }
 
 // ---- a sparing is held against the rules
@@ -325,15 +235,12 @@ const READING: &str = "reads otherwise";
 
 /// The lent table and the record are those of a table, and what is beyond them is kept.
 fn holds_table(world: &World, table: &Copy, what: &str) -> Result<(), String> {
-    let numbers = flat(&table.entries);
-    let record = [1, table.entries.len() as u32, table.sequence, 0, 0];
-    let is_held = world.table[..numbers.len()] == numbers && world.table[numbers.len()] == LENT && world.record == record;
-    need(is_held, || format!("{what}: {LENT_TABLE} should be {table:?}"))
+    need(table.is_lent(&world.table, &world.record), || format!("{what}: {LENT_TABLE} should be {table:?}"))
 }
 
 /// The table sectors hold these copies, byte by byte.
 fn holds_copies(world: &World, copies: &Copies) -> Result<(), String> {
-    copies.0.iter().zip(TABLES).try_for_each(|(copy, at)| {
+    copies.placed().try_for_each(|(at, copy)| {
         let mark = if copy.is_readable { RECORDED } else { UNREADABLE };
         need(world.marks[at as usize] == mark && world.sector(at) == copy.bytes(), || format!("{TABLE} at sector {at}: {copy:?}"))
     })
@@ -408,7 +315,7 @@ fn holds_blocks(layer: &Layer, world: &World, held: [Tag; 2], between: u32) -> R
 fn spare_and_open(layer: &Layer, world: &mut World, state: &State, call: Call, met: &mut Met) -> Result<State, String> {
     let Call { p, tag, cut } = call;
     let table = state.copies.opened().map_err(|line| format!("the test's own state gives {line}"))?.clone();
-    let Some((entries, spare)) = spared(&table.entries, p, Slip::Right) else {
+    let Some((entries, spare)) = spared(&table.entries, p) else {
         let answer = world.spare(layer, p, &packet(tag), cut);
         need(answer == NO_SPARE, || format!("{ANSWER} {answer} where no entry is free"))?;
         met.note("no spare left for a packet that is spared", table.entries.iter().any(|entry| entry.0 == p));
@@ -417,7 +324,7 @@ fn spare_and_open(layer: &Layer, world: &mut World, state: &State, call: Call, m
         return Ok(state.clone());
     };
     let (before, bytes) = (Saved::of(world, spare), packet(tag));
-    let is_cut = (1..FIRST_TABLE + state.copies.0.len() as u32).contains(&cut.at);
+    let is_cut = (1..FIRST_TABLE + state.copies.all.len() as u32).contains(&cut.at);
     let answer = world.spare(layer, p, &bytes, cut);
     need(answer == if is_cut { CUT } else { 0 }, || format!("{ANSWER} {answer}"))?;
     // done if a new copy is whole: the first is write 33
@@ -454,16 +361,16 @@ fn note(met: &mut Met, state: &State, table: &Copy, call: Call, is_cut: bool, is
     met.note("spared again, cut at the first table, not done", is_again && at == FIRST_TABLE && !is_done);
     met.note("spared again, cut at the first table, done", is_again && at == FIRST_TABLE && is_done);
     met.note("spared again, cut at a later table", is_again && is_cut && at > FIRST_TABLE);
-    let is_older = |copies: &Copies| copies.0.iter().any(|copy| copy.name == Name::Older);
+    let is_older = |copies: &Copies| copies.all.iter().any(|copy| copy.name == Name::Older);
     met.note("an older copy renewed", is_older(&state.copies) && !is_older(after));
     met.note("an older copy beside a newer one after a cut", is_cut && is_done && is_older(after));
     let defective = table.entries.iter().filter(|entry| entry.0 == DEFECTIVE).count();
     met.note("a defective entry kept", is_done && defective > 0);
     met.note("a defective entry added to others", is_done && is_again && defective > 0);
     let current = state.copies.current();
-    let has = |name: Name| current.iter().any(|&i| state.copies.0[i].name == name);
+    let has = |name: Name| current.iter().any(|&i| state.copies.all[i].name == name);
     met.note("current copies of both names", has(Name::Newer) && has(Name::Older));
-    let above = || state.copies.0.iter().filter(|copy| copy.is_readable && copy.sequence > table.sequence);
+    let above = || state.copies.all.iter().filter(|copy| copy.is_readable && copy.sequence > table.sequence);
     met.note(
         "an older copy with the mark above",
         above().any(|copy| copy.name == Name::Older && copy.entries.iter().any(|e| e.0 == DEFECTIVE)),
@@ -493,17 +400,6 @@ struct Lists<'a> {
     met: Met,
 }
 
-/// What matters of a copy that counts: its identifier, its entries, and how many of the others have a lower sequence.
-type Seen = (Name, Vec<Entry>, usize);
-
-impl Copies {
-    fn seen(&self) -> Vec<Option<Seen>> {
-        let counting = || self.0.iter().filter(|copy| copy.counts());
-        let rank = |copy: &Copy| counting().filter(|other| other.sequence < copy.sequence).count();
-        self.0.iter().map(|copy| copy.counts().then(|| (copy.name, copy.entries.clone(), rank(copy)))).collect()
-    }
-}
-
 impl Lists<'_> {
     fn new(layer: &Layer, tables: usize) -> Lists<'_> {
         Lists { layer, cuts: cuts(tables), seen: HashSet::new(), states: 0, calls: 0, met: Met::default() }
@@ -516,7 +412,7 @@ impl Lists<'_> {
         for p in PACKETS {
             for cut in self.cuts.clone() {
                 let call = Call { p, tag: (2 * left + (p / PACKET as u32) as usize) as Tag, cut };
-                let spare = state.copies.opened().ok().and_then(|table| spared(&table.entries, p, Slip::Right)).map(|(_, spare)| spare);
+                let spare = state.copies.opened().ok().and_then(|table| spared(&table.entries, p)).map(|(_, spare)| spare);
                 let saved = spare.map(|spare| Saved::of(world, spare));
                 self.calls += 1;
                 let told = |what: String| format!("{what}: {call:?} after {:?}", state.copies);
@@ -525,7 +421,7 @@ impl Lists<'_> {
                     self.go(world, &after, left - 1)?;
                 }
                 saved.iter().for_each(|saved| saved.put_back(world));
-                state.copies.0.iter().zip(TABLES).for_each(|(copy, at)| world.put_copy(at, copy));
+                state.copies.placed().for_each(|(at, copy)| world.put_copy(at, copy));
                 world.table[..came.record[1] as usize * 2].copy_from_slice(&came.table[..came.record[1] as usize * 2]);
                 world.record = came.record;
             }
@@ -574,7 +470,7 @@ fn mixes(tables: usize, kinds: &[Kind], entries: &[Entry]) -> Vec<Copies> {
     for _ in 0..tables {
         all = all.iter().flat_map(|copies| one.iter().map(move |copy| [&copies[..], std::slice::from_ref(copy)].concat())).collect();
     }
-    all.into_iter().map(Copies).collect()
+    all.into_iter().map(|all| Copies { layout: layout(tables), all }).collect()
 }
 
 /// The table of these originals.
@@ -585,7 +481,7 @@ fn table_of(originals: &[u32]) -> Vec<Entry> {
 /// The disc with these copies is opened as the rules say, and all lists hold on it.
 fn try_start(lists: &mut Lists, tables: usize, copies: Copies, most: usize) -> Result<(), String> {
     let mut world = World::new(tables);
-    copies.0.iter().zip(TABLES).for_each(|(copy, at)| world.put_copy(at, copy));
+    copies.placed().for_each(|(at, copy)| world.put_copy(at, copy));
     let (came, answer) = (world.clone(), world.open(lists.layer));
     match State::of(copies.clone()) {
         Err(line) => {
@@ -678,7 +574,7 @@ fn copy_rule(layer: &Layer) -> Result<[u32; 2], String> {
                 let copy = Copy { name, suffix: 3, sequence: 4, entries: table_of(&originals), is_readable: true };
                 TABLES[..2].iter().for_each(|&at| world.put_copy(at, &copy));
                 world.table[..9].fill(LENT);
-                let (answer, counts) = (world.open(layer), copy.counts());
+                let (answer, counts) = (world.open(layer), copy.counts(&layout(2)));
                 need(answer == if counts { 0 } else { NO_TABLE }, || format!("{OPENING} answers {answer} of {copy:?}"))?;
                 if counts {
                     holds_table(&world, &copy, OPENING)?;
@@ -701,12 +597,13 @@ fn tables_of_all_originals() {
     }
 }
 
-/// The mapped start of a defective entry is one of all mapped starts: distinct, whole, outside the partition and the tables' packets.
+/// The mapped start of a defective entry is one of all mapped starts: distinct, whole, outside the tables' packets; in the partition it is
+/// not the packet of a used entry.
 #[test]
 fn mapped_starts_of_defective_entries() {
     for layer in [&PLAIN, &PROVED] {
         let mut world = World::new(2);
-        let answers = [(288, 0), (128, 0), (224, 8), (289, 8), (0, 8), (32, 8), (S, 8), (S + 32, 8), (320, 8), (NONE, 8), (NONE - 31, 8)];
+        let answers = [(288, 0), (128, 0), (224, 8), (289, 8), (0, 8), (32, 8), (S, 0), (S + 32, 8), (320, 8), (NONE, 8), (NONE - 31, 8)];
         for (mapped, answer) in answers {
             let entries = vec![(32, 224), (DEFECTIVE, mapped), (NONE, 192)];
             let copy = Copy { name: Name::Newer, suffix: 0, sequence: 4, entries, is_readable: true };
@@ -729,15 +626,6 @@ const SLIPS: [Slip; 8] = [
     Slip::CurrentFirst,
 ];
 
-fn table_sectors(maps: &[u8]) -> Vec<usize> {
-    let sectors = maps[48..].chunks_exact(4).take(usize::from(maps[42]));
-    sectors.map(|t| u32::from_le_bytes([t[0], t[1], t[2], t[3]]) as usize).collect()
-}
-
-fn copies_on(disc: &[u8], marks: &[u8], maps: &[u8]) -> Copies {
-    Copies(table_sectors(maps).iter().map(|&at| Copy::of(&disc[SECTOR * at..][..SECTOR], marks[at])).collect())
-}
-
 fn put(disc: &mut [u8], marks: &mut [u8], at: usize, bytes: &[u8], landing: Landing) {
     match landing {
         Landing::Kept => {}
@@ -747,6 +635,10 @@ fn put(disc: &mut [u8], marks: &mut [u8], at: usize, bytes: &[u8], landing: Land
             marks[at] = RECORDED;
         }
     }
+}
+
+fn put_copy(disc: &mut [u8], marks: &mut [u8], at: u32, copy: &Copy) {
+    put(disc, marks, at as usize, &copy.bytes(), if copy.is_readable { Landing::Done } else { Landing::Unreadable });
 }
 
 /// The sparing of the rules above with a slip; whether it is refused is asked of the plain implementation.
@@ -767,14 +659,14 @@ fn spare_with<const SLIP: usize>(
     let (mut d, mut m, mut t, mut r) = (disc.to_vec(), marks.to_vec(), table.to_vec(), record.to_vec());
     let answer = (PLAIN.spare_packet)(&mut d, &mut m, maps, s, l, &mut t, &mut r, b, packet, at, effect);
     let entries: Vec<Entry> = table.chunks_exact(2).take(record[1] as usize).map(|entry| (entry[0], entry[1])).collect();
-    let (0 | CUT, Some((after, spare))) = (answer, spared(&entries, b, SLIPS[SLIP])) else { return answer };
+    let (0 | CUT, Some((after, spare))) = (answer, misspared(&entries, b, SLIPS[SLIP])) else { return answer };
     let cut = Cut { at, effect };
     for (i, block) in packet.chunks_exact(SECTOR).enumerate() {
         put(disc, marks, spare as usize + i, block, cut.landing(i as u32 + 1));
     }
-    let copies = copies_on(disc, marks, maps).written(&after, record[2] + 1, cut, SLIPS[SLIP]);
-    for (copy, at) in copies.0.iter().zip(table_sectors(maps)) {
-        put(disc, marks, at, &copy.bytes(), if copy.is_readable { Landing::Done } else { Landing::Unreadable });
+    let copies = Copies::on(disc, marks, maps, s, l).written(&after, record[2] + 1, cut, SLIPS[SLIP]);
+    for (at, copy) in copies.placed() {
+        put_copy(disc, marks, at, copy);
     }
     if answer == 0 {
         record[2] += 1;
@@ -825,17 +717,16 @@ fn misread(copy: &Copy, reading: Reading, newer_counts: bool) -> Copy {
 
 /// The plain opening of tables that are read wrongly.
 fn open_with<const READING: usize>(disc: &[u8], marks: &[u8], maps: &[u8], s: u32, l: u32, table: &mut [u32], record: &mut [u32]) -> u32 {
-    let copies = copies_on(disc, marks, maps);
+    let copies = Copies::on(disc, marks, maps, s, l);
     let current = copies.current();
-    let has = |name: Name| current.iter().any(|&i| copies.0[i].name == name);
+    let has = |name: Name| current.iter().any(|&i| copies.all[i].name == name);
     if READINGS[READING] == Reading::TenByNames && has(Name::Newer) && has(Name::Older) {
         return COPIES_DIFFER;
     }
     let (mut d, mut m) = (disc.to_vec(), marks.to_vec());
-    let newer_counts = copies.0.iter().any(|copy| copy.name == Name::Newer && copy.counts());
-    for (copy, at) in copies.0.iter().zip(table_sectors(maps)) {
-        let taken = misread(copy, READINGS[READING], newer_counts);
-        put(&mut d, &mut m, at, &taken.bytes(), if taken.is_readable { Landing::Done } else { Landing::Unreadable });
+    let newer_counts = copies.all.iter().any(|copy| copy.name == Name::Newer && copy.counts(&copies.layout));
+    for (at, copy) in copies.placed() {
+        put_copy(&mut d, &mut m, at, &misread(copy, READINGS[READING], newer_counts));
     }
     (PLAIN.open)(&d, &m, maps, s, l, table, record)
 }
@@ -966,7 +857,7 @@ fn a_made_disc_in_a_list() {
             let mut world = World::new(tables);
             assert_eq!((layer.make)(&mut world.disc, &mut world.marks, &world.maps, S, L, &SPARES[..2]), 0);
             let made = Copy { name: Name::Newer, suffix: 0, sequence: 0, entries: table_of(&[NONE, NONE]), is_readable: true };
-            assert_eq!(holds_copies(&world, &Copies(vec![made.clone(); tables])), Ok(()), "{}", layer.name);
+            assert_eq!(holds_copies(&world, &Copies { layout: layout(tables), all: vec![made.clone(); tables] }), Ok(()), "{}", layer.name);
             let spare = |tag: u32| [5, 32, 0, 0, PACKET_BYTES as u32 * tag, PACKET_BYTES as u32];
             let calls = [spare(0), spare(1), [6, 0, 0, 0, 0, 0], spare(2)];
             let pool = [packet(7), packet(8), packet(9)].concat();
@@ -976,7 +867,12 @@ fn a_made_disc_in_a_list() {
             let opened = (layer.run)(disc, marks, maps, S, L, table, record, calls.as_flattened(), &pool, &mut replies);
             assert_eq!((opened, replies), (0, [0, 0, 0, NO_SPARE]), "{}", layer.name);
             let twice = Copy { sequence: 2, entries: vec![(32, 192), (DEFECTIVE, 224)], ..made };
-            assert_eq!(holds_copies(&world, &Copies(vec![twice.clone(); tables])), Ok(()), "{}", layer.name);
+            assert_eq!(
+                holds_copies(&world, &Copies { layout: layout(tables), all: vec![twice.clone(); tables] }),
+                Ok(()),
+                "{}",
+                layer.name
+            );
             assert_eq!(holds_table(&world, &twice, "the list"), Ok(()), "{}", layer.name);
             for b in 0..L {
                 let expected = if b < 32 { vec![0; SECTOR] } else { packet(8)[SECTOR * (b as usize - 32)..][..SECTOR].to_vec() };

@@ -2,12 +2,19 @@
 //!
 //! `TUORMIK_SEED` and `TUORMIK_CASES` choose another seed and number of cases; the program `compare` does the same with progress.
 
+#[path = "lists/maps.rs"]
+mod maps;
+#[path = "lists/wrong.rs"]
+mod wrong;
+
 use tuormik::{BLANK, COMMIT, DEFECTIVE, NONE, PACKET, RECORDED, SECTOR};
 use tuormik_second::compare::tables::{
-    AGAIN, BOTH_NAMES, CUT_AGAIN, HOLDS_DEFECTIVE, KEEPS_DEFECTIVE, OLDER_MARKED, OLDER_NAME, RENEWED, RESERVED_ABOVE,
+    Spare, AGAIN, BEFORE, BOTH_NAMES, CUT_AGAIN, HOLDS_DEFECTIVE, INSIDE_NEWER, INSIDE_OLDER, KEEPS_DEFECTIVE, OF_SPARE, OLDER_MARKED,
+    OLDER_NAME, OUTSIDE_FIRST, RENEWED, RESERVED_ABOVE, SHARED_ABOVE,
 };
 use tuormik_second::compare::{compare_cases, Difference, Tally, FORECAST_TELLS, IN_A_LIST};
 use tuormik_second::layer::{Layer, PLAIN, PROVED};
+use wrong::wrong_layers;
 
 const SEED: u64 = 20_040_182;
 const CASES: u64 = 6_000;
@@ -27,13 +34,13 @@ fn compared() -> Tally {
 /// What each call can answer: lines of 01 and 02, 0 done and 255 cut.
 const ANSWERS: [(&str, &[u32]); 18] = [
     ("open", &[0, 1, 2, 3, 4, 5, 6, 8, 9, 10]),
-    ("read", &[0, 1, 2, 3, 4, 5, 6, 8, 10, 11, 12, 13, 14, 25]),
+    ("read", &[0, 1, 2, 3, 4, 5, 6, 8, 10, 11, 12, 13, 14, 25, 30]),
     ("save_virtual", &[0, 1, 2, 3, 4, 5, 6, 7, 11, 12, 15, 16, 255]),
     ("free_virtual", &[0, 1, 2, 3, 4, 5, 6, 7, 11, 12, 13]),
     ("commit", &[0, 1, 2, 3, 4, 5, 6, 7, 11, 16, 255]),
-    ("save_block", &[0, 1, 2, 3, 4, 5, 6, 7, 8, 10, 11, 12, 14, 25, 255]),
-    ("save_packet", &[0, 1, 2, 3, 4, 5, 6, 7, 8, 10, 11, 12, 255]),
-    ("spare_packet", &[0, 1, 2, 3, 4, 5, 6, 7, 8, 10, 11, 12, 17, 19, 20, 255]),
+    ("save_block", &[0, 1, 2, 3, 4, 5, 6, 7, 8, 10, 11, 12, 14, 25, 30, 255]),
+    ("save_packet", &[0, 1, 2, 3, 4, 5, 6, 7, 8, 10, 11, 12, 30, 255]),
+    ("spare_packet", &[0, 1, 2, 3, 4, 5, 6, 7, 8, 10, 11, 12, 17, 19, 20, 30, 255]),
     (AGAIN, &[0, 17, 19, 20, 255]),
     ("make", &[0, 1, 2, 4, 5, 6, 21]),
     ("fullness", &[0, 1, 2, 3, 4, 5, 6, 7, 11]),
@@ -43,7 +50,7 @@ const ANSWERS: [(&str, &[u32]); 18] = [
     ("write_maps", &[0, 3, 5, 6]),
     ("look_up", &[0, 3, 8, 9, 12, 13]),
     ("run", &[0, 1, 2, 3, 4, 5, 6, 8, 9, 10]),
-    (IN_A_LIST, &[0, 3, 7, 12, 13, 14, 16, 17, 19, 20, 25, 255]),
+    (IN_A_LIST, &[0, 3, 7, 12, 13, 14, 16, 17, 19, 20, 25, 30, 255]),
 ];
 
 #[test]
@@ -62,6 +69,7 @@ fn the_two_agree_and_every_answer_is_met() {
         assert_eq!(tally.count(call, NEVER), 0, "{call} answered {NEVER}, which never occurs");
     }
     tables_are_met(&tally);
+    spares_inside_are_met(&tally);
 }
 
 /// The line that never occurs (02, slip 1).
@@ -79,6 +87,23 @@ fn tables_are_met(tally: &Tally) {
     assert!((1..FIRST_TABLE).any(|at| tally.count(CUT_AGAIN, at) > 0), "no sparing again was cut before its tables");
     for at in FIRST_TABLE..FIRST_TABLE + 4 {
         assert!(tally.count(CUT_AGAIN, at) > 0, "no sparing again was cut at write {at}");
+    }
+}
+
+/// Spares in the partition came up under both identifiers, line 30 of each kind of them, with 12 before it and with each line after it, and
+/// originals that are the packet of a spare in each way.
+fn spares_inside_are_met(tally: &Tally) {
+    for what in [INSIDE_NEWER, INSIDE_OLDER, OUTSIDE_FIRST] {
+        assert!(tally.count(what, 0) > 0, "{what} did not come up");
+    }
+    for spare in [Spare::Used, Spare::Defective, Spare::Free] {
+        assert!(tally.count(OF_SPARE, spare as u32) > 0, "no block of such a spare came up: {}", spare as u32);
+    }
+    for line in [25, 14, 17, 19, 20] {
+        assert!(tally.count(BEFORE, line) > 0, "30 did not come up before {line}");
+    }
+    for spare in [Spare::Used, Spare::Defective, Spare::Free, Spare::Own] {
+        assert!(tally.count(SHARED_ABOVE, spare as u32) > 0, "no original of such a spare came up: {}", spare as u32);
     }
 }
 
@@ -311,8 +336,7 @@ fn tables_in(maps: &[u8], sectors: usize) -> Vec<usize> {
     if maps.len() != 64 {
         return Vec::new();
     }
-    let named = maps[48..].chunks_exact(4).take(usize::from(maps[42]));
-    named.map(|t| u32::from_le_bytes([t[0], t[1], t[2], t[3]]) as usize).filter(|&t| t < sectors).collect()
+    maps::table_sectors(maps).iter().map(|&t| t as usize).filter(|&t| t < sectors).collect()
 }
 
 fn is_marked(copy: &[u8]) -> bool {
@@ -389,4 +413,16 @@ fn other_rules_for_sparing_tables_are_found() {
         ..PLAIN
     };
     is_found(&older_kept, 2_000, "differs first at byte");
+}
+
+// ---- layers that are wrong about spares in the partition
+
+/// The random discs have such spares of every kind, and lists that name their blocks: a layer that goes by another rule is found.
+#[test]
+fn other_rules_for_spares_inside_are_found() {
+    for (call, layer) in wrong_layers() {
+        // an opening is seen by its table too, making by the disc
+        let words = if ["open", "make"].contains(&call) { "then: ".to_string() } else { format!("then: {} answers", layer.name) };
+        is_found(&layer, 3_000, &words);
+    }
 }

@@ -2,9 +2,17 @@
 //!
 //! The images stand in `tests/discs` as their sectors that are not zeros; `tests/discs/README.md` says how each was made.
 
+#[path = "lists/store.rs"]
+mod lists;
+#[path = "lists/reading.rs"]
+mod reading;
+
+use lists::{Call, Kind, Slot, Store, World, CUT, OPEN};
+use reading::holds;
 use tuormik::descriptors::find_volume;
 use tuormik::{calls, marks_by_rule, read_maps, Disc, Error, Held, Maps, Open, Record, Refusal};
-use tuormik::{BLANK, DEFECTIVE, NONE, PACKET, PACKET_BYTES, RECORDED, SECTOR};
+use tuormik::{BLANK, DEFECTIVE, MOST_ENTRIES, NONE, PACKET, PACKET_BYTES, RECORDED, SECTOR};
+use tuormik_second::layer::{Layer, PLAIN, PROVED};
 use tuormik_second::plain;
 
 const HEAD: &[u8] = b"tuormik sectors\n";
@@ -99,6 +107,12 @@ impl Loaded {
         assert_eq!(spared.as_ref().map(|_| ()).map_err(|e| *e), Error::check(answer), "the plain implementation spares it otherwise");
         assert!(self.bytes == bytes && self.marks == marks, "the plain implementation leaves another disc");
         spared
+    }
+
+    /// The disc with a table and a record, which are not opened.
+    fn world(&self) -> World {
+        let Loaded { bytes: disc, marks, maps, start: s, length: l } = self.clone();
+        World { disc, marks, maps, s, l, table: vec![0; MOST_ENTRIES], record: [0; 5] }
     }
 
     fn sector(&self, at: u32) -> &[u8] {
@@ -257,18 +271,35 @@ impl Foreign<'_> {
         let mapped = self.entries.iter().filter(|entry| entry.0 == first).map(|entry| entry.1).next();
         self.loaded.sector(mapped.unwrap_or(self.loaded.start + first) + b % self.packet)
     }
+
+    /// Whether a logical block lies in a packet that an entry has as its mapped location.
+    fn is_of_spare(&self, b: u32) -> bool {
+        let packet = self.loaded.start + b / self.packet * self.packet;
+        self.entries.iter().any(|entry| entry.1 == packet)
+    }
 }
 
-/// Every block of the partition reads as through the foreign reader, by whichever of the tables it goes.
-fn reads_as_foreign(loaded: &mut Loaded) {
-    let as_it_is = loaded.clone();
+const OF_SPARE: Error = Error::Refused(Refusal::BelongsToSpare);
+
+/// Every block of the partition reads as through the foreign reader, by whichever of the tables it goes, and with the plain implementation
+/// too; but for blocks of spares, which give 30. How many these are.
+fn reads_as_foreign(loaded: &mut Loaded) -> usize {
+    let (as_it_is, mut world) = (loaded.clone(), loaded.world());
     let foreign: Vec<Foreign> = (0..usize::from(as_it_is.maps[42])).map(|i| Foreign::new(&as_it_is, i)).collect();
     let open = loaded.open().expect("it opens");
+    world.open(&PLAIN);
+    let mut of_spares = 0;
     for b in 0..as_it_is.length {
-        let block = open.read(b).expect("a block");
-        assert!(foreign.iter().all(|reader| reader.block(b) == block), "block {b} reads otherwise");
+        let read = open.read(b).map(Vec::from);
+        let plain = world.read(&PLAIN, b).or_else(|line| Error::check(line).map(|()| Vec::new()));
+        assert!(plain == read, "the plain implementation reads block {b} otherwise");
+        let of_spare = read == Err(OF_SPARE);
+        let is_alike = |reader: &Foreign| reader.is_of_spare(b) == of_spare && (of_spare || read.as_deref() == Ok(reader.block(b)));
+        assert!(foreign.iter().all(is_alike), "block {b} reads otherwise");
+        of_spares += usize::from(of_spare);
     }
     assert_eq!(open.read(as_it_is.length), Err(Error::Refused(Refusal::NumberOutside)));
+    of_spares
 }
 
 /// The packet of a logical block as it reads.
@@ -300,39 +331,44 @@ fn cdrw_2048_opens() {
     }
     opens_with(&mut loaded, 0, &free_spares((288..544).step_by(32)));
     assert_eq!(descriptor_of(&loaded.open().expect("it opens").read(32).expect("a block"), 32), FILE_SET);
-    reads_as_foreign(&mut loaded);
+    assert_eq!(reads_as_foreign(&mut loaded), 0, "no spare is in the partition");
 }
 
 /// Block 32's packet is spared twice: the first spare turns defective. That reader finds every block after either.
 #[test]
 fn cdrw_2048_is_spared_twice() {
-    let mut loaded = Loaded::new(TAB2);
-    let mut packet = packet_of(&mut loaded, 32);
+    is_spared_twice(Loaded::new(TAB2), 32, 0);
+}
+
+/// The packet of the File Set Descriptor, which begins at a block, is spared twice and then as often as spares are left. So many blocks
+/// belong to spares throughout.
+fn is_spared_twice(mut loaded: Loaded, first: u32, of_spares: usize) {
+    let mut packet = packet_of(&mut loaded, first);
     let rest = free_spares((352..544).step_by(32));
-    let expected = [[&[32, 288, NONE, 320][..], &rest].concat(), [&[32, 320, DEFECTIVE, 288][..], &rest].concat()];
+    let expected = [[&[first, 288, NONE, 320][..], &rest].concat(), [&[first, 320, DEFECTIVE, 288][..], &rest].concat()];
     for (sequence, table) in [1, 2].into_iter().zip(expected) {
         packet[SECTOR..2 * SECTOR].fill(sequence as u8);
-        assert_eq!(loaded.spare(32, &packet), Ok(table.clone()));
+        assert_eq!(loaded.spare(first, &packet), Ok(table.clone()));
         opens_with(&mut loaded, sequence, &table);
         for t in TAB2_TABLES {
             let copy = loaded.sector(t);
             assert_eq!((&copy[..16], &copy[16..40], &copy[40..48]), (&[0; 16][..], &NEWER[..], &[0; 8][..]), "table at {t}");
             assert_eq!((u16_at(copy, 48), u32_at(copy, 52)), (8, sequence), "table at {t}");
         }
-        reads_as_foreign(&mut loaded);
-        assert!(packet_of(&mut loaded, 32) == packet);
-        assert_eq!(descriptor_of(&loaded.open().expect("it opens").read(32).expect("a block"), 32), FILE_SET);
+        assert_eq!(reads_as_foreign(&mut loaded), of_spares);
+        assert!(packet_of(&mut loaded, first) == packet);
+        assert_eq!(descriptor_of(&loaded.open().expect("it opens").read(first).expect("a block"), 32), FILE_SET);
     }
     // the other six go the same way, and then no spare is left
     for spare in (352..544).step_by(32) {
-        let table = loaded.spare(32, &packet).expect("a spare is free");
-        assert_eq!(table[..2], [32, spare]);
+        let table = loaded.spare(first, &packet).expect("a spare is free");
+        assert_eq!(table[..2], [first, spare]);
     }
     opens_with(
         &mut loaded,
         8,
         &[
-            [32, 512],
+            [first, 512],
             [DEFECTIVE, 288],
             [DEFECTIVE, 320],
             [DEFECTIVE, 352],
@@ -343,8 +379,8 @@ fn cdrw_2048_is_spared_twice() {
         ]
         .concat(),
     );
-    reads_as_foreign(&mut loaded);
-    assert_eq!(loaded.spare(32, &packet), Err(Error::Refused(Refusal::NoSpare)));
+    assert_eq!(reads_as_foreign(&mut loaded), of_spares);
+    assert_eq!(loaded.spare(first, &packet), Err(Error::Refused(Refusal::NoSpare)));
 }
 
 /// The second table's packet, sectors 992 to 1,023, is not whole on a disc of 1,000: line 6. On a disc of 1,024 it opens.
@@ -355,7 +391,105 @@ fn cdrw_1000_is_refused_by_its_last_packet() {
     assert_eq!(loaded.open().err(), Some(Error::Refused(Refusal::Misaligned)));
     loaded.fill_up(1024);
     opens_with(&mut loaded, 0, &free_spares((288..384).step_by(32)));
-    reads_as_foreign(&mut loaded);
+    assert_eq!(reads_as_foreign(&mut loaded), 0, "no spare is in the partition");
+}
+
+// ---- lists on a disc with spares outside its partition, and on one with spares in it
+
+/// The cuts of a call of so many writes: none, at its first and last, at the last of the packet and at the first after it.
+fn cuts(writes: u32) -> impl Iterator<Item = (u32, u32)> {
+    let at = [1, 32, 33, writes].into_iter().filter(move |&at| at <= writes);
+    std::iter::once((0, 0)).chain(at.flat_map(|at| [0, 1, 2].map(|effect| (at, effect))))
+}
+
+/// What a call answers and leaves: blocks of spares give 30 in every call, and after it every block reads as the plain store has it.
+fn call_holds(layer: &Layer, world: &mut World, store: &mut Store, call: &Call) {
+    let (opened, replies) = world.run(layer, std::slice::from_ref(call));
+    let of_spare = store.blocks.get(call.number as usize) == Some(&Slot::OfSpare);
+    let (reply, is_cut) = (replies[0], replies[0] == CUT);
+    assert_eq!(opened, 0, "{}", layer.name);
+    match call.kind {
+        Kind::SaveVirtual | Kind::FreeVirtual | Kind::Commit => assert_eq!(reply, 7, "{}: {:?}", layer.name, call.kind),
+        _ if call.number >= world.l => assert_eq!(reply, 12, "{}: {:?} {}", layer.name, call.kind, call.number),
+        _ => assert_eq!(reply == 30, of_spare, "{}: {:?} {}", layer.name, call.kind, call.number),
+    }
+    if reply == 0 || is_cut {
+        store.take(call, is_cut);
+    }
+    if is_cut {
+        world.open(layer);
+        store.take(&OPEN, false);
+    }
+    holds(layer, world, store, 0..store.blocks.len()).unwrap_or_else(|what| panic!("{}: {what}, after {:?}", layer.name, call.kind));
+}
+
+/// Saves and sparings of some packets with cuts, one after the other, by both implementations; they leave the same disc.
+fn lists_hold(loaded: &Loaded, packets: &[u32]) {
+    let worlds = [&PLAIN, &PROVED].map(|layer| {
+        let mut world = loaded.world();
+        world.open(layer);
+        let mut store = Store::of(&world);
+        for (kind, number) in [(Kind::SaveVirtual, 0), (Kind::FreeVirtual, 0), (Kind::Commit, 0), (Kind::SaveBlock, world.l)] {
+            call_holds(layer, &mut world, &mut store, &Call::new(kind, number, vec![1; SECTOR]));
+        }
+        for &p in packets {
+            for (kind, number, length, writes) in [
+                (Kind::SparePacket, p, PACKET_BYTES, 34),
+                (Kind::SaveBlock, p + 3, SECTOR, 32),
+                (Kind::SavePacket, p, PACKET_BYTES, 32),
+                (Kind::SaveBlock, p + 31, SECTOR, 32),
+            ] {
+                for (cut_at, cut_effect) in cuts(writes) {
+                    let bytes = vec![(p + cut_at) as u8; length];
+                    let call = Call { cut_at, cut_effect, ..Call::new(kind, number, bytes) };
+                    call_holds(layer, &mut world, &mut store, &call);
+                }
+            }
+        }
+        world
+    });
+    assert!(worlds[0] == worlds[1], "the two leave different discs");
+}
+
+#[test]
+fn cdrw_2048_in_lists() {
+    lists_hold(&Loaded::new(TAB2), &[0, 32, 1408]);
+}
+
+/// The image of two tables, given another S and L: from its first spare on, so that its eight spares are the first packets of the partition.
+/// What was block b is block b + 256.
+fn with_spares_inside() -> Loaded {
+    let mut loaded = Loaded::new(TAB2);
+    (loaded.start, loaded.length) = (288, 1696);
+    loaded
+}
+
+/// It opens with the table that it has. Blocks 0 to 255 give 30, every other block is its sector; block 288 is the File Set Descriptor.
+#[test]
+fn spares_inside_are_opened() {
+    let mut loaded = with_spares_inside();
+    opens_with(&mut loaded, 0, &free_spares((288..544).step_by(32)));
+    assert_eq!(reads_as_foreign(&mut loaded), 256);
+    let (as_it_is, mut outside) = (loaded.clone(), Loaded::new(TAB2));
+    let (open, outside) = (loaded.open().expect("it opens"), outside.open().expect("it opens"));
+    for b in 0..1696 {
+        match open.read(b) {
+            Ok(block) => assert!(b >= 256 && block == as_it_is.sector(288 + b) && outside.read(b - 256) == Ok(block), "block {b}"),
+            refused => assert!(b < 256 && refused == Err(OF_SPARE), "block {b}"),
+        }
+    }
+    assert_eq!(descriptor_of(&open.read(288).expect("a block"), 32), FILE_SET);
+}
+
+#[test]
+fn spares_inside_are_used_and_turn_defective() {
+    is_spared_twice(with_spares_inside(), 288, 256);
+}
+
+/// Among the packets there are two of spares, the first and the last of them.
+#[test]
+fn spares_inside_in_lists() {
+    lists_hold(&with_spares_inside(), &[0, 224, 256, 288, 1664]);
 }
 
 // ---- what is derived here from an image: no tool made these

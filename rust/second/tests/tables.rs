@@ -1,5 +1,6 @@
-//! Long tables, on which the two implementations must agree: sparing tables with mapped starts far apart, equal ones among them, under both
-//! identifiers and with defective spares, and VATs whose files lie in many extents. The random lists of calls have short tables.
+//! Long tables, on which the two implementations must agree: sparing tables with mapped starts far apart, equal ones and packets of the
+//! partition among them, under both identifiers and with defective spares, and VATs whose files lie in many extents. The random lists of
+//! calls have short tables.
 
 #[path = "lists/met.rs"]
 mod met;
@@ -57,8 +58,24 @@ impl Lent {
         self.entry(copy, i)[..4].copy_from_slice(&original.to_le_bytes());
     }
 
+    /// The first entries of every copy.
+    fn set_entries(&mut self, originals: [u32; 3], mapped: [u32; 3]) {
+        for copy in TABLES {
+            for (i, (original, mapped)) in originals.into_iter().zip(mapped).enumerate() {
+                self.set_original(copy, i, original);
+                self.entry(copy, i)[4..].copy_from_slice(&mapped.to_le_bytes());
+            }
+        }
+    }
+
     fn set_name(&mut self, copy: u32, is_older: bool) {
         self.disc[SECTOR * copy as usize + 17..][..23].copy_from_slice(if is_older { OLDER } else { NEWER });
+    }
+
+    fn read(&self, layer: &Layer, maps: &[u8], b: u32) -> (u32, Vec<u8>) {
+        let mut out = vec![0; SECTOR];
+        let answer = (layer.read)(&self.disc, &self.marks, maps, S, L, &self.table, &self.record, b, &mut out);
+        (answer, out)
     }
 
     /// The originals of the table that was opened.
@@ -84,6 +101,16 @@ fn spares(count: usize, apart: bool) -> Vec<u32> {
     order[..count].iter().map(|p| ((FIRST_SPARE + p) * PACKET) as u32).collect()
 }
 
+/// A block of each packet of the partition reads alike; which of them belong to a spare.
+fn of_spares(proved: &Lent, plain: &Lent, maps: &[u8], within: u32, what: &str) -> Vec<bool> {
+    let is_of_spare = |p: u32| {
+        let (answer, bytes) = proved.read(&PROVED, maps, p + within);
+        assert!((answer, bytes) == plain.read(&PLAIN, maps, p + within), "{what}: block {}", p + within);
+        answer == 30
+    };
+    (0..L).step_by(PACKET).map(is_of_spare).collect()
+}
+
 #[test]
 fn long_sparing_tables_are_read_alike() {
     let mut draw = Draw(20_040_182);
@@ -93,11 +120,18 @@ fn long_sparing_tables_are_read_alike() {
     for case in 0..80 {
         let count = [1, 2, 16, 64, 100, 248, 249][draw.below(7)];
         let mut lent = Lent { disc: vec![0; SECTOR * SECTORS], marks: vec![0; SECTORS], table: vec![7; MOST_ENTRIES], record: [9; 5] };
-        let made = (PLAIN.make)(&mut lent.disc, &mut lent.marks, &maps, S, L, &spares(count, draw.below(2) == 0));
+        let mut spares = spares(count, draw.below(2) == 0);
+        // some of them in the partition
+        let inside: Vec<u32> = (S..S + L).step_by(PACKET).filter(|_| draw.below(5) == 0).collect();
+        inside.iter().for_each(|&start| spares[draw.below(count)] = start);
+        let made = (PLAIN.make)(&mut lent.disc, &mut lent.marks, &maps, S, L, &spares);
         assert_eq!(made, 0, "case {case}");
         let mut other = lent.clone();
-        // packets that are spared, then defective spares, then free ones; each copy with an identifier of its own
-        let used: Vec<u32> = (0..L).step_by(PACKET).filter(|_| draw.below(3) == 0).take(count).collect();
+        // packets that are spared, seldom one that is a spare, then defective spares, then free ones; each copy with an identifier of its own
+        let is_spare = |p: u32| spares.contains(&(S + p));
+        let used = (0..L).step_by(PACKET).filter(|&p| draw.below(3) == 0 && (!is_spare(p) || draw.below(4) == 0));
+        let used: Vec<u32> = used.take(count).collect();
+        seen.note("an original that is a spare", used.iter().any(|&p| is_spare(p)));
         let defective = [0, 0, 1, count / 2, count - used.len()][draw.below(5)].min(count - used.len());
         let originals = used.iter().copied().chain(std::iter::repeat_n(DEFECTIVE, defective));
         for copy in TABLES {
@@ -141,6 +175,9 @@ fn long_sparing_tables_are_read_alike() {
             continue;
         }
         seen.note("an opening with defective spares", lent.originals().any(|original| original == DEFECTIVE));
+        let within = draw.below(PACKET) as u32;
+        let of_spare = of_spares(&lent, &other, &maps, within, &format!("case {case}"));
+        seen.note("blocks of spares and others", of_spare.contains(&true) && of_spare.contains(&false));
         for b in [0, 7, 0, 7] {
             let packet = vec![b as u8 + 1; PACKET_BYTES];
             let (b, cut) = ((b * PACKET) as u32, draw.below(40) as u32);
@@ -156,10 +193,43 @@ fn long_sparing_tables_are_read_alike() {
             seen.note("a packet spared again, cut before the tables", answer == 255 && is_spared && cut <= 32);
             seen.note("a packet spared again, cut at the tables", answer == 255 && is_spared && cut > 32);
             seen.note("a packet spared already, no spare left", answer == 19 && is_spared);
+            seen.note("a packet of a spare", answer == 30);
+            if answer == 0 {
+                assert_eq!(of_spares(&lent, &other, &maps, within, &format!("case {case}")), of_spare, "case {case}: sparing {b}");
+            }
         }
     }
     seen.all();
     assert!(met[0] > 10 && met[8] > 0 && met[10] > 0, "answers of opening: {met:?}");
+}
+
+/// Spares that are 256 or 512 packets behind one of the partition are not taken for it: three of them in any order, one used.
+#[test]
+fn spares_far_behind_the_partition() {
+    let mut maps = vec![0; 64];
+    assert_eq!((PLAIN.write_maps)(1, 0, SECTOR as u32, &TABLES, &mut maps), 0);
+    let mut lent = Lent { disc: vec![0; SECTOR * SECTORS], marks: vec![0; SECTORS], table: vec![7; MOST_ENTRIES], record: [9; 5] };
+    let starts: Vec<u32> = [0, 32].into_iter().flat_map(|p| [0, 256, 512].map(|far| S + p + far * PACKET as u32)).collect();
+    assert_eq!((PLAIN.make)(&mut lent.disc, &mut lent.marks, &maps, S, L, &starts[..3]), 0);
+    let mut opened = [0; 2];
+    for number in 0..starts.len().pow(3) {
+        let mapped = [1, 6, 36].map(|weight| starts[number / weight % 6]);
+        let are_distinct = (1..3).all(|i| !mapped[..i].contains(&mapped[i]));
+        for original in [0, 32] {
+            lent.set_entries([original, NONE, NONE], mapped);
+            let counts = are_distinct && !mapped.contains(&(S + original));
+            for layer in [&PLAIN, &PROVED] {
+                assert_eq!(lent.open(layer, &maps), if counts { 0 } else { 8 }, "{}: {original}, {mapped:?}", layer.name);
+                for p in [0, 32].into_iter().filter(|_| counts) {
+                    let is_of_spare = lent.read(layer, &maps, p + 7).0 == 30;
+                    assert_eq!(is_of_spare, mapped.contains(&(S + p)), "{}: {p}, {mapped:?}", layer.name);
+                }
+            }
+            opened[usize::from(counts)] += 1;
+        }
+    }
+    // of the six one is on the original
+    assert_eq!(opened, [2 * (216 - 60), 2 * 60]);
 }
 
 // ---- VATs in many extents

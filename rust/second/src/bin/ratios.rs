@@ -275,29 +275,37 @@ fn measure_forecast(sectors: usize, rows: &mut Rows) -> Result<(), String> {
     rows.add("forecast of up to 4,095 new blocks and a commit", measure(&mut world, forecast, |_| ()))
 }
 
-/// The spares of a rewritable disc: how many there are, how many of them are used and defective, and what its rows are called by.
+/// The spares of a rewritable disc, behind its tables: how many there are, how many of them are used and defective, whether the partition
+/// begins with them or after them, and what its rows are called by.
 struct Spares {
     all: u32,
     used: u32,
     defective: u32,
+    are_inside: bool,
     called: &'static str,
 }
 
-const SPARES: Spares = Spares { all: 64, used: 30, defective: 0, called: "" };
+const SPARES: Spares = Spares { all: 64, used: 30, defective: 0, are_inside: false, called: "" };
 /// As many as a table of 2,048 bytes holds.
-const MOST_SPARES: Spares = Spares { all: 249, used: 120, defective: 8, called: ", 249 entries" };
+const MOST_SPARES: Spares = Spares { all: 249, used: 120, defective: 8, are_inside: false, called: ", 249 entries" };
+const MOST_INSIDE: Spares = Spares { are_inside: true, called: ", 249 entries, spares inside", ..MOST_SPARES };
 
 const TABLES: [u32; 2] = [0, 32];
 
 impl Spares {
-    /// The sectors before the partition: the packets of the tables and of the spares.
+    /// The sectors before the partition: the packets of the tables, and of the spares where these are outside.
     fn start(&self) -> u32 {
-        PACKET as u32 * (TABLES.len() as u32 + self.all)
+        PACKET as u32 * (TABLES.len() as u32 + if self.are_inside { 0 } else { self.all })
+    }
+
+    /// The first block that belongs to no spare.
+    fn first(&self) -> u32 {
+        PACKET as u32 * if self.are_inside { self.all } else { 0 }
     }
 
     /// The first block of the packet that is measured, which is not spared: the one after the next.
     fn unspared(&self) -> u32 {
-        PACKET as u32 * (self.used + 1)
+        self.first() + PACKET as u32 * (self.used + 1)
     }
 
     /// Whether a disc of so many sectors has room for them and for the packets that are measured.
@@ -325,7 +333,8 @@ fn rewritable(sectors: usize, spared: &Spares) -> Result<World, String> {
     let mut answers = vec![plain::make(disc, marks, maps, *s, *l, &spares), plain::open(disc, marks, maps, *s, *l, table, record)];
     let packet = vec![0x33; PACKET_BYTES];
     for i in (0..spared.used).chain(0..spared.defective) {
-        answers.push(plain::spare_packet(disc, marks, maps, *s, *l, table, record, PACKET as u32 * i, &packet, 0, 0));
+        let b = spared.first() + PACKET as u32 * i;
+        answers.push(plain::spare_packet(disc, marks, maps, *s, *l, table, record, b, &packet, 0, 0));
     }
     match answers.iter().find(|answer| **answer != 0) {
         Some(answer) => Err(format!("a rewritable disc of {sectors} sectors is not made: {answer}")),
@@ -337,22 +346,39 @@ fn measure_rewritable(sectors: usize, spared: &Spares, rows: &mut Rows) -> Resul
     if !spared.fit(sectors) {
         return Ok(());
     }
-    let nothing = |_: &mut World| ();
     let mut world = rewritable(sectors, spared)?;
-    let (b, called) = (spared.unspared(), spared.called);
-    let (table, record) = (world.table.clone(), world.record);
-    let copies: Vec<Vec<u8>> = TABLES.iter().map(|&t| world.disc[SECTOR * t as usize..][..SECTOR].to_vec()).collect();
+    measure_blocks(&mut world, spared, rows)?;
+    measure_packets(&mut world, spared, rows)
+}
+
+/// Where spares are in the partition, the calls on blocks tell what that takes.
+fn measure_inside(sectors: usize, rows: &mut Rows) -> Result<(), String> {
+    if !MOST_INSIDE.fit(sectors) {
+        return Ok(());
+    }
+    measure_blocks(&mut rewritable(sectors, &MOST_INSIDE)?, &MOST_INSIDE, rows)
+}
+
+fn measure_blocks(world: &mut World, spared: &Spares, rows: &mut Rows) -> Result<(), String> {
+    let nothing = |_: &mut World| ();
+    let (first, b, called) = (spared.first(), spared.unspared(), spared.called);
     let block = [0x44; SECTOR];
-    let packet = vec![0x55; PACKET_BYTES];
-    rows.add(&format!("open, rewritable{called}"), measure(&mut world, open, nothing))?;
-    rows.add(&format!("read, rewritable{called}"), measure(&mut world, |y, w| read(y, w, 33), nothing))?;
+    rows.add(&format!("open, rewritable{called}"), measure(world, open, nothing))?;
+    rows.add(&format!("read, rewritable{called}"), measure(world, |y, w| read(y, w, first + 33), nothing))?;
     let save = |y: &Layer, w: &mut World| {
         (y.save_block)(&mut w.disc, &mut w.marks, &w.maps, w.s, w.l, &w.table, &mut w.record, b + 8, &block, 0, 0)
     };
-    rows.add(&format!("save_block{called}"), measure(&mut world, save, nothing))?;
+    rows.add(&format!("save_block{called}"), measure(world, save, nothing))
+}
+
+fn measure_packets(world: &mut World, spared: &Spares, rows: &mut Rows) -> Result<(), String> {
+    let (b, called) = (spared.unspared(), spared.called);
+    let (table, record) = (world.table.clone(), world.record);
+    let copies: Vec<Vec<u8>> = TABLES.iter().map(|&t| world.disc[SECTOR * t as usize..][..SECTOR].to_vec()).collect();
+    let packet = vec![0x55; PACKET_BYTES];
     let save =
         |y: &Layer, w: &mut World| (y.save_packet)(&mut w.disc, &mut w.marks, &w.maps, w.s, w.l, &w.table, &mut w.record, b, &packet, 0, 0);
-    rows.add(&format!("save_packet{called}"), measure(&mut world, save, nothing))?;
+    rows.add(&format!("save_packet{called}"), measure(world, save, |_| ()))?;
     let spare = |y: &Layer, w: &mut World, b: u32| {
         (y.spare_packet)(&mut w.disc, &mut w.marks, &w.maps, w.s, w.l, &mut w.table, &mut w.record, b, &packet, 0, 0)
     };
@@ -363,10 +389,10 @@ fn measure_rewritable(sectors: usize, spared: &Spares, rows: &mut Rows) -> Resul
         w.table.copy_from_slice(&table);
         w.record = record;
     };
-    rows.add(&format!("spare_packet{called}"), measure(&mut world, |y, w| spare(y, w, b), undo))?;
+    rows.add(&format!("spare_packet{called}"), measure(world, |y, w| spare(y, w, b), undo))?;
     // the packet in the middle of those that are spared
-    let again = PACKET as u32 * (spared.used / 2);
-    rows.add(&format!("spare_packet, spared already{called}"), measure(&mut world, |y, w| spare(y, w, again), undo))
+    let again = spared.first() + PACKET as u32 * (spared.used / 2);
+    rows.add(&format!("spare_packet, spared already{called}"), measure(world, |y, w| spare(y, w, again), undo))
 }
 
 /// On a disc so small that nothing else counts: a block to save whose tag is right, so that its CRC is tested.
@@ -493,6 +519,7 @@ fn run(sizes: &[usize]) -> Result<(), String> {
         measure_once(sectors, &mut rows)?;
         measure_rewritable(sectors, &SPARES, &mut rows)?;
         measure_rewritable(sectors, &MOST_SPARES, &mut rows)?;
+        measure_inside(sectors, &mut rows)?;
     }
     let (crc, crcs) = (measure_crc()?, measure_all_crcs()?);
     print_tables(sizes, &rows, crc);

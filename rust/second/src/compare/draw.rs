@@ -154,6 +154,7 @@ impl Drawer {
     fn packet_number(&self, random: &mut Random, world: &World) -> u32 {
         match random.below(12) {
             0 => random.odd_number(world.l),
+            1 => random.below(world.l),
             _ => random.below(world.l.div_ceil(PACKET as u32)) * PACKET as u32,
         }
     }
@@ -458,7 +459,7 @@ impl Drawer {
             1 if !self.spares.is_empty() => random.pick(&self.spares) as usize + random.below(32) as usize,
             _ => (world.s + random.below(world.l)) as usize,
         };
-        match random.below(9) {
+        match random.below(11) {
             0 | 1 => self.queue.push_back(Step::Mark { sector: somewhere, mark: random.below(3) as u8 }),
             2 => {
                 let at =
@@ -467,6 +468,8 @@ impl Drawer {
             }
             3 => self.queue.push_back(Step::CopySector { from: table, to: random.pick(&self.tables) as usize }),
             4 => self.unrecorded_packet(random, world),
+            5 => self.queue.push_back(Step::PutCopy { sector: table, copy: original_on_spare(random, world, Copy::of(held)) }),
+            6 => self.last_sequence(random, world),
             _ => {
                 let mut copy = Copy::of(held);
                 self.forge(random, world, &mut copy);
@@ -503,6 +506,18 @@ impl Drawer {
         self.queue.push_back(Step::Call(Call::Read { number: first + random.pick(&others) as u32 }));
         let block = self.block(random, world);
         self.queue.push_back(Step::Call(Call::SaveBlock { b: first + within, block, fail: fail(random, 32) }));
+    }
+
+    /// The last sequence in every table, and a packet spared.
+    fn last_sequence(&mut self, random: &mut Random, world: &World) {
+        let mut copy = Copy::of(world.sector(random.pick(&self.tables) as usize));
+        copy.sequence = u32::MAX;
+        for &t in &self.tables {
+            self.queue.push_back(Step::PutCopy { sector: t as usize, copy: copy.clone() });
+        }
+        self.queue.push_back(Step::Call(Call::Open));
+        let b = self.packet_number(random, world);
+        self.queue.push_back(Step::Call(Call::SparePacket { b, packet: packet(random), fail: self.sparing_fail(random) }));
     }
 
     fn forge(&self, random: &mut Random, world: &World, copy: &mut Copy) {
@@ -651,14 +666,19 @@ fn name(random: &mut Random) -> Name {
     random.pick(&[Name::Newer, Name::Older])
 }
 
-/// Some packets spared and some spares defective, in their order.
+/// Some packets spared and some spares defective, in their order. The packets of spares in the partition are mostly passed by.
 fn some_spared(random: &mut Random, world: &World, copy: &mut Copy) {
     let packets = world.l / PACKET as u32;
     let defective = random.pick(&[0, 0, 1, 1, 2]);
+    let mapped: Vec<u32> = copy.entries.iter().map(|entry| entry.1).collect();
+    let takes_any = random.once_in(8);
     let mut from = 0;
     let mut left = defective;
     for entry in &mut copy.entries {
         from += random.below(3);
+        while !takes_any && from < packets && mapped.contains(&(world.s + from * PACKET as u32)) {
+            from += 1;
+        }
         entry.0 = if from < packets {
             from * PACKET as u32
         } else if left > 0 {
@@ -669,6 +689,20 @@ fn some_spared(random: &mut Random, world: &World, copy: &mut Copy) {
         };
         from += 1;
     }
+}
+
+/// A copy above the one that it is made of, with some packets spared; in one entry the original is the packet of a spare, its own or that of
+/// any other entry.
+fn original_on_spare(random: &mut Random, world: &World, mut copy: Copy) -> Copy {
+    some_spared(random, world, &mut copy);
+    let inside: Vec<u32> = copy.entries.iter().map(|entry| entry.1.wrapping_sub(world.s)).filter(|&packet| packet < world.l).collect();
+    if !inside.is_empty() {
+        let i = random.below(copy.entries.len() as u32) as usize;
+        copy.entries[i].0 = random.pick(&inside);
+        copy.entries.sort_by_key(|entry| entry.0);
+    }
+    copy.sequence = copy.sequence.saturating_add(random.between(1, 2));
+    copy
 }
 
 fn packet(random: &mut Random) -> Bytes {
@@ -741,19 +775,28 @@ fn once(random: &mut Random) -> Drawer {
     }
 }
 
-/// A rewritable volume: the partition's packets in a row, and before and after them tables and spares in any order.
+/// In any order.
+fn shuffled(random: &mut Random, mut places: Vec<u32>) -> Vec<u32> {
+    for i in (1..places.len()).rev() {
+        places.swap(i, random.below(i as u32 + 1) as usize);
+    }
+    places
+}
+
+/// A rewritable volume: the partition's packets in a row, and before and after them tables and spares in any order. At times some of the
+/// partition's packets are spares too, or all of them.
 fn rewritable(random: &mut Random) -> Drawer {
-    let packets = random.between(1, 3);
+    let inside = if random.once_in(3) { random.between(1, 2) } else { 0 };
+    let packets = inside + if inside > 0 && random.once_in(8) { 0 } else { random.between(1, 3) };
     let count = random.pick(&[1usize, 2, 2, 2, 3, 4]);
     let spares = random.pick(&[0usize, 1, 2, 3, 3, 4]);
     let others = (count + spares) as u32 + random.below(2);
     let before = random.below(others + 1);
-    let mut places: Vec<u32> = (0..others).map(|i| PACKET as u32 * if i < before { i } else { i + packets }).collect();
-    for i in (1..places.len()).rev() {
-        places.swap(i, random.below(i as u32 + 1) as usize);
-    }
+    let places = (0..others).map(|i| PACKET as u32 * if i < before { i } else { i + packets }).collect();
+    let places = shuffled(random, places);
+    let own = shuffled(random, (before..before + packets).map(|i| PACKET as u32 * i).collect());
     let tables = places[..count].to_vec();
-    let spares = places[count..count + spares].to_vec();
+    let spares = shuffled(random, [&places[count..count + spares], &own[..inside as usize]].concat());
     let size = match random.below(3) {
         0 => 56 + 8 * spares.len() as u32,
         1 => 56 + 8 * spares.len() as u32 + random.below(30),
