@@ -1,8 +1,8 @@
 /*
- * A rewritable disc in memory: made with two sparing tables and two spares, saved to and spared; then the power is cut in a sparing and
- * in a save, the disc is opened after each, and the packet that the save hurt is saved whole again. The spared packet is spared a second
- * time, its first spare turns defective, and no spare is left. At last a sector that was never recorded is told from one that cannot be
- * read.
+ * A rewritable disc in memory: made with two sparing tables and two spares, one of them inside the partition, where its blocks can be
+ * neither read nor saved; saved to and spared; then the power is cut in a sparing and in a save, the disc is opened after each, and the
+ * packet that the save hurt is saved whole again. The spared packet is spared a second time, its first spare turns defective, and no spare
+ * is left. At last a sector that was never recorded is told from one that cannot be read.
  *
  *     cc -std=c99 -Iinclude examples/c/rewritable.c target/staticlib/libcapi.a -o rewritable && ./rewritable
  */
@@ -11,8 +11,8 @@
 #include <stdio.h>
 #include <string.h>
 
-/* packets of 32 sectors: two tables, two spares, and the partition of three packets */
-enum { FIRST_TABLE = 0, SECOND_TABLE = 32, FIRST_SPARE = 64, SECOND_SPARE = 96, S = 128, L = 96, SECTORS = S + L };
+/* packets of 32 sectors: two tables, a spare, and the partition of four packets, the last of which, blocks 96 to 127, is a spare too */
+enum { FIRST_TABLE = 0, SECOND_TABLE = 32, FIRST_SPARE = 64, S = 96, L = 128, SECTORS = S + L, OF_SPARE = 96, SECOND_SPARE = S + OF_SPARE };
 
 /* what is lent to the calls */
 static uint8_t disc[SECTORS * TUORMIK_SECTOR];
@@ -73,6 +73,19 @@ static const uint8_t *packet_of(const char *text) {
     return packet;
 }
 
+/* Whether the blocks of the spare inside the partition are refused: they are whether it is free or used, and L is the number of blocks. */
+static int spare_is_refused(void) {
+    uint8_t block[TUORMIK_SECTOR];
+    return
+        is("read block 100", tuormik_read(DISC, HELD, 100, TUORMIK_LENT_BLOCK(block)), TUORMIK_BELONGS_TO_SPARE) &&
+        is("save block 100", save(100, "snow", TUORMIK_NO_CUT), TUORMIK_BELONGS_TO_SPARE) &&
+        is("save packet 96", tuormik_save_packet(DISC, HELD, OF_SPARE, TUORMIK_LENT_PACKET(packet_of("snow")), TUORMIK_NO_CUT),
+           TUORMIK_BELONGS_TO_SPARE) &&
+        is("spare packet 96", tuormik_spare_packet(DISC, HELD, OF_SPARE, TUORMIK_LENT_PACKET(packet_of("snow")), TUORMIK_NO_CUT),
+           TUORMIK_BELONGS_TO_SPARE) &&
+        is("read block 128", tuormik_read(DISC, HELD, L, TUORMIK_LENT_BLOCK(block)), TUORMIK_NUMBER_OUTSIDE);
+}
+
 int main(void) {
     static const uint32_t tables[] = {FIRST_TABLE, SECOND_TABLE};
     static const uint32_t spares[] = {FIRST_SPARE, SECOND_SPARE};
@@ -81,6 +94,7 @@ int main(void) {
         is("write_maps", tuormik_write_maps(TUORMIK_REWRITABLE, 0, TUORMIK_SECTOR, tables, 2, maps, sizeof maps), TUORMIK_DONE) &&
         is("make", tuormik_make(DISC, spares, 2), TUORMIK_DONE) &&
         is("open", tuormik_open(DISC, HELD), TUORMIK_DONE) &&
+        spare_is_refused() &&
         is("save block 5", save(5, "12 May: snow to the lower hut", TUORMIK_NO_CUT), TUORMIK_DONE) &&
         is("save packet 32", tuormik_save_packet(DISC, HELD, 32, TUORMIK_LENT_PACKET(packet_of("plovers")), TUORMIK_NO_CUT), TUORMIK_DONE) &&
 
@@ -104,7 +118,7 @@ int main(void) {
         is("save packet 0", tuormik_save_packet(DISC, HELD, 0, TUORMIK_LENT_PACKET(packet_of("dunlins")), TUORMIK_NO_CUT), TUORMIK_DONE) &&
         reads(5, "dunlins") &&
 
-        /* the spare has worn out too: the packet goes to the other one, and is found there after an opening */
+        /* the spare has worn out too: the packet goes to the one inside the partition, and is found there after an opening */
         is("spare packet 32 again",
            tuormik_spare_packet(DISC, HELD, 32, TUORMIK_LENT_PACKET(packet_of("ringed plovers")), TUORMIK_NO_CUT), TUORMIK_DONE) &&
         has_entry(0, 32, SECOND_SPARE) && has_entry(1, TUORMIK_DEFECTIVE, FIRST_SPARE) &&
@@ -112,6 +126,7 @@ int main(void) {
         has_entry(0, 32, SECOND_SPARE) && has_entry(1, TUORMIK_DEFECTIVE, FIRST_SPARE) &&
         reads(32, "ringed plovers") && reads(63, "ringed plovers") &&
         reads(5, "dunlins") &&
+        spare_is_refused() &&
 
         /* a defective spare is not free: no packet is spared any more, also not the one that has a spare */
         is("spare packet 0", tuormik_spare_packet(DISC, HELD, 0, TUORMIK_LENT_PACKET(packet_of("dunlins")), TUORMIK_NO_CUT),

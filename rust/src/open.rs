@@ -55,6 +55,26 @@ impl<'a> Disc<'a> {
 
     /// Makes a disc: an empty VAT in a blank write-once partition; packets of zeros, spares that begin at the named sectors, and tables
     /// of sequence 0, with the identifier of UDF 1.50, on a rewritable one.
+    ///
+    /// A spare may be inside the partition (document 02, slip 8). Its blocks are then not the user's: reading, saving and sparing them is
+    /// refused as [`BelongsToSpare`](crate::Refusal::BelongsToSpare), always, whether the spare is used, defective or free. The number of
+    /// blocks stays L.
+    ///
+    /// ```
+    /// # use tuormik::{write_maps, Disc, Error, Maps, Refusal};
+    /// # let maps = write_maps(&Maps::Rewritable { partition: 0, table_bytes: 2048, tables: vec![0, 32] })?;
+    /// # let (mut bytes, mut marks) = (vec![0; 2048 * 160], vec![0; 160]);
+    /// let mut disc = Disc { bytes: &mut bytes, marks: &mut marks, maps: &maps, start: 64, length: 96 };
+    /// disc.make(&[96])?;
+    /// let mut open = disc.open()?;
+    /// // blocks 32 to 63 are sectors 96 to 127; there are 96 blocks
+    /// assert_eq!(open.read(32), Err(Error::Refused(Refusal::BelongsToSpare)));
+    /// assert_eq!(open.read(96), Err(Error::Refused(Refusal::NumberOutside)));
+    /// open.spare_packet(0, &[1; 65_536])?;
+    /// assert_eq!(open.read(0)?, [1; 2048]);
+    /// assert_eq!(open.read(32), Err(Error::Refused(Refusal::BelongsToSpare)));
+    /// # Ok::<(), Error>(())
+    /// ```
     pub fn make(&mut self, spares: &[u32]) -> Result<(), Error> {
         let (start, length) = (self.start, self.length);
         Error::check(calls::make(self.bytes, self.marks, self.maps, start, length, spares))
@@ -259,7 +279,8 @@ impl<'a> OpenRef<'a> {
     }
 
     /// The entries of the VAT, or original and mapped by turns of the sparing table: first its packets that are spared, each by its first
-    /// block, then defective spares ([`DEFECTIVE`](crate::DEFECTIVE)), then free ones ([`NONE`](crate::NONE)).
+    /// block, then defective spares ([`DEFECTIVE`](crate::DEFECTIVE)), then free ones ([`NONE`](crate::NONE)). A mapped packet inside the
+    /// partition belongs to its spare whichever of these it is.
     pub fn table(&self) -> &[u32] {
         self.found.entries()
     }
@@ -269,8 +290,9 @@ impl<'a> OpenRef<'a> {
         self.disc
     }
 
-    /// Reads a block: a virtual one of a write-once disc, a logical one of a rewritable disc. One whose sector was never recorded is
-    /// refused as [`BlankSector`](crate::Refusal::BlankSector), one whose sector cannot be read as
+    /// Reads a block: a virtual one of a write-once disc, a logical one of a rewritable disc. One that belongs to a spare inside the
+    /// partition is refused as [`BelongsToSpare`](crate::Refusal::BelongsToSpare), whatever its sector; one whose sector was never recorded
+    /// as [`BlankSector`](crate::Refusal::BlankSector), one whose sector cannot be read as
     /// [`UnreadableSector`](crate::Refusal::UnreadableSector).
     pub fn read(&self, number: u32) -> Result<[u8; SECTOR], Error> {
         self.found.read(self.disc, number)
@@ -317,7 +339,8 @@ impl<'a> Open<'a> {
     }
 
     /// The entries of the VAT, or original and mapped by turns of the sparing table: first its packets that are spared, each by its first
-    /// block, then defective spares ([`DEFECTIVE`](crate::DEFECTIVE)), then free ones ([`NONE`](crate::NONE)).
+    /// block, then defective spares ([`DEFECTIVE`](crate::DEFECTIVE)), then free ones ([`NONE`](crate::NONE)). A mapped packet inside the
+    /// partition belongs to its spare whichever of these it is.
     pub fn table(&self) -> &[u32] {
         self.found.entries()
     }
@@ -355,8 +378,9 @@ impl<'a> Open<'a> {
         answer
     }
 
-    /// Reads a block: a virtual one of a write-once disc, a logical one of a rewritable disc. One whose sector was never recorded is
-    /// refused as [`BlankSector`](crate::Refusal::BlankSector), one whose sector cannot be read as
+    /// Reads a block: a virtual one of a write-once disc, a logical one of a rewritable disc. One that belongs to a spare inside the
+    /// partition is refused as [`BelongsToSpare`](crate::Refusal::BelongsToSpare), whatever its sector; one whose sector was never recorded
+    /// as [`BlankSector`](crate::Refusal::BlankSector), one whose sector cannot be read as
     /// [`UnreadableSector`](crate::Refusal::UnreadableSector).
     pub fn read(&self, number: u32) -> Result<[u8; SECTOR], Error> {
         self.need_power()?;
@@ -458,9 +482,10 @@ impl<'a> Open<'a> {
         self.settle(number, record)
     }
 
-    /// Saves a logical block of a rewritable disc. The others of its packet are written with it: the first of them that is not recorded
-    /// is why it is refused, as [`BlankSector`](crate::Refusal::BlankSector) or as
-    /// [`UnreadableSector`](crate::Refusal::UnreadableSector). The block's own sector may be either.
+    /// Saves a logical block of a rewritable disc, but for one that [belongs to a spare](crate::Refusal::BelongsToSpare). The others of its
+    /// packet are written with it: the first of them that is not recorded is why it is refused, as
+    /// [`BlankSector`](crate::Refusal::BlankSector) or as [`UnreadableSector`](crate::Refusal::UnreadableSector). The block's own sector may
+    /// be either.
     pub fn save_block(&mut self, b: u32, block: &[u8]) -> Result<(), Error> {
         self.save_block_cut(b, block, Cut::NONE)
     }
@@ -486,7 +511,7 @@ impl<'a> Open<'a> {
         self.settle(number, record)
     }
 
-    /// Saves the packet that begins at a logical block.
+    /// Saves the packet that begins at a logical block, but for one that [belongs to a spare](crate::Refusal::BelongsToSpare).
     pub fn save_packet(&mut self, b: u32, packet: &[u8]) -> Result<(), Error> {
         self.save_packet_cut(b, packet, Cut::NONE)
     }
@@ -513,8 +538,9 @@ impl<'a> Open<'a> {
     }
 
     /// Spares the packet that begins at a logical block: its bytes go to the free spare of lowest index. A packet that is spared already
-    /// can be spared again: its old spare turns defective ([`DEFECTIVE`](crate::DEFECTIVE)), the last of those that are. Every copy of the
-    /// table is written with the identifier of UDF 1.50, whichever it had.
+    /// can be spared again: its old spare turns defective ([`DEFECTIVE`](crate::DEFECTIVE)), the last of those that are. One that
+    /// [belongs to a spare](crate::Refusal::BelongsToSpare) itself is not spared. Every copy of the table is written with the identifier of
+    /// UDF 1.50, whichever it had.
     ///
     /// ```
     /// # use tuormik::{write_maps, Disc, Error, Maps, Refusal, DEFECTIVE, NONE};

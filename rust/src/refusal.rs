@@ -1,12 +1,12 @@
 //! Why a call is turned down: the lines of document 01, "Why a call is turned down", but for 18, which never occurs (document 02, slip
-//! 1), and the one that slip 5 adds, with their words.
+//! 1), and those that slips 5 and 8 add, with their words.
 
 use std::fmt;
 
 /// A line of document 01 or 02 by which a call is turned down.
 ///
 /// The variants stand in checking order: of the lines that apply, a call is turned down by the first. That is not the order of the
-/// numbers: 25 (document 02, slip 5) stands directly before 14.
+/// numbers: 30 (document 02, slip 8) stands directly after 12, and 25 (slip 5) directly before 14.
 #[derive(Clone, Copy, Debug, PartialEq, Eq)]
 pub enum Refusal {
     /// The lent disc has no shape of a disc.
@@ -33,6 +33,9 @@ pub enum Refusal {
     StaleRecord,
     /// There is no such block or packet.
     NumberOutside,
+    /// The packet, or the one of the block, is a spare inside the partition, whether used, defective or free. Reading, saving and sparing
+    /// on a rewritable disc have this line; the blocks to which it applies are the same after every call but making.
+    BelongsToSpare,
     /// The block is unused.
     UnusedEntry,
     /// The first sector to be read that is not recorded is blank: it was never recorded. Reading and saving a logical block have this
@@ -57,7 +60,7 @@ pub enum Refusal {
 use Refusal::*;
 
 /// Each line with its number and its words, in the order of the variants, which is that of checking: a line does not stand at its number.
-const LINES: [(Refusal, u32, &str); 21] = [
+const LINES: [(Refusal, u32, &str); 22] = [
     (DiscShape, 1, "Disc bytes are not 2,048 times the marks, sectors exceed the limit or are none, or a mark exceeds 2."),
     (SpanOutside, 2, "L is 0 or S + L exceeds the sectors."),
     (LentLength, 3, "The lent table has under 4,096 entries, or block, packet or written map bytes have the wrong length."),
@@ -80,6 +83,7 @@ const LINES: [(Refusal, u32, &str); 21] = [
          current table, sequence included.",
     ),
     (NumberOutside, 12, "v is N or more (save: above N, or 4,096), b is L or more, or a packet start is not a multiple of 32 below L."),
+    (BelongsToSpare, 30, "The block or packet belongs to a spare."),
     (UnusedEntry, 13, "The entry to be read or freed is unused."),
     (
         BlankSector,
@@ -110,7 +114,7 @@ impl Refusal {
         LINES.iter().find(|line| line.1 == number).map(|line| line.0)
     }
 
-    /// The line in words: those of document 01, but of 25 and 14, which document 02, slip 5, tells apart.
+    /// The line in words: those of document 01, but of 30, which are those of document 02, and of 25 and 14, which its slip 5 tells apart.
     pub fn words(self) -> &'static str {
         LINES[self as usize].2
     }
@@ -180,7 +184,7 @@ mod tests {
     use super::*;
 
     /// The numbers in checking order, as documents 01 and 02 give it.
-    const NUMBERS: [u32; 21] = [1, 2, 3, 4, 5, 6, 7, 8, 9, 10, 11, 12, 13, 25, 14, 15, 16, 17, 19, 20, 21];
+    const NUMBERS: [u32; 22] = [1, 2, 3, 4, 5, 6, 7, 8, 9, 10, 11, 12, 30, 13, 25, 14, 15, 16, 17, 19, 20, 21];
 
     #[test]
     fn lines_have_their_numbers_in_checking_order() {
@@ -198,7 +202,13 @@ mod tests {
         }
         assert_eq!(Refusal::from_number(25), Some(BlankSector));
         assert_eq!(Refusal::from_number(14), Some(UnreadableSector));
+        assert_eq!(Refusal::from_number(30), Some(BelongsToSpare));
         assert_eq!(Refusal::from_number(18), None);
+    }
+
+    #[test]
+    fn a_spares_block_has_the_words_of_02() {
+        assert_eq!(BelongsToSpare.to_string(), "The block or packet belongs to a spare. (02, line 30)");
     }
 
     /// Who is told that a sector was never recorded does not clean the disc.

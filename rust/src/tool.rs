@@ -141,10 +141,10 @@ const ENTRIES: [Entry; 16] = [
 
 Opens the disc of each image and tells its kind, how many blocks are used, and of these unreadable or blank (never recorded), how many more
 fit and how full it is, then in the letters of document 01 S, L, N, NWA, the last VAT ICB, how many sectors were passed over, and what they
-are; of a rewritable disc R, the sequence, the spares that are used, defective and free, and by which identifier its sparing tables are
-read: the newer one (UDF 1.50) or the older one (CD UDF 1.82). On a write-once disc 0 passed over says that the last sector of the partition
-that is not blank is a VAT ICB; once an opening has told 0, later ones tell at most the number of sector writes begun since the last whole
-VAT ICB, wherever the power failed.
+are; of a rewritable disc how many blocks belong to spares inside the partition, R, the sequence, the spares that are used, defective and
+free, and by which identifier its sparing tables are read: the newer one (UDF 1.50) or the older one (CD UDF 1.82). On a write-once disc 0
+passed over says that the last sector of the partition that is not blank is a VAT ICB; once an opening has told 0, later ones tell at most
+the number of sector writes begun since the last whole VAT ICB, wherever the power failed.
   --json               a JSON list with an object an image, its numbers without commas
 ",
         run: info::info,
@@ -156,7 +156,8 @@ VAT ICB, wherever the power failed.
 
 Opens the disc of each image and reads every block that is used. A line an image says that it is clean, or what is wrong: it does not open;
 opening passed over sectors above the last commit; blocks that are used cannot be read (they are unreadable), or were never recorded (they
-are blank); a copy of the sparing table is not current. The last line counts them. The status is 1 where one is not clean.
+are blank); a copy of the sparing table is not current. That blocks belong to spares inside the partition is no fault: they are not read,
+and counted apart. The last line counts the images. The status is 1 where one is not clean.
 ",
         run: verify::verify,
     },
@@ -167,7 +168,8 @@ are blank); a copy of the sparing table is not current. The last line counts the
 
 Lists the blocks. Write-once: a line for each virtual block, with its logical block, its sector and its state: recorded, unreadable, blank
 (its sector was never recorded) or unused. Rewritable: a line for each packet that is spared or has an unreadable or a blank sector, with
-the count of each, and one for each spare that is defective or free.
+the count of each, one for each packet that is of a spare, and one for each spare that is defective or free. Packets in place, and spares in
+the partition, are counted.
   --all                a line for every packet
 ",
         run: commands::list,
@@ -179,7 +181,7 @@ the count of each, and one for each spare that is defective or free.
 
 Reads COUNT blocks (1) from NUMBER on: virtual blocks of a write-once disc, logical ones of a rewritable disc. Their bytes go to FILE or to
 the standard output. The message about a block whose sector was never recorded (blank) differs from that about one whose sector cannot be
-read (unreadable).
+read (unreadable). A block that belongs to a spare inside the partition is not read; the message names the spare.
   --at ICB             as the commit left them whose VAT ICB is at this logical block ('tuormik history' lists them)
   --output FILE, -o    where the bytes go
   --hex                as text, sixteen bytes a line
@@ -209,7 +211,8 @@ foreseen.
 Saves the bytes of each FILE ('-': the standard input), one after the other, as blocks from NUMBER on; the last block of each is filled up
 with zeros. On a write-once disc NUMBER may be 'new', which adds blocks, and a commit follows; without it what was saved is not found
 again. Several blocks and their commit are forecast there, as by 'fit', before anything is written: the first line tells what they take.
-Where they do not all fit, none is saved, and the message tells how many would fit.
+Where they do not all fit, none is saved, and the message tells how many would fit. On a rewritable disc a block that belongs to a spare
+inside the partition is not saved, nor is any other with it.
   --no-commit          no commit after the saves
   --packet             whole packets of a rewritable disc, all 32 blocks of each replaced: FILE has 65,536 bytes for each
   --force              commits also where a sector that was passed over may be a newer VAT
@@ -242,8 +245,9 @@ Opens a write-once disc and commits the table that was found: the disc then ends
         help: "tuormik spare IMAGE NUMBER [FILE] [--zeros]
 
 Spares the packet that begins at logical block NUMBER of a rewritable disc: it goes to the free spare that stands first in the sparing
-table. A packet that is spared already goes to another spare, and its old one turns defective: it is not used again. Its bytes are those of
-FILE (65,536), or those that are read from the disc. Every copy of the sparing table is written with the newer identifier, that of UDF 1.50.
+table. A packet that is spared already goes to another spare, and its old one turns defective: it is not used again. A packet that is itself
+a spare inside the partition is not spared. The packet's bytes are those of FILE (65,536), or those that are read from the disc. Every copy
+of the sparing table is written with the newer identifier, that of UDF 1.50.
   --zeros              blocks that cannot be read (unreadable) or were never recorded (blank) become zeros
 ",
         run: commands::spare,
@@ -264,7 +268,8 @@ they make no file system.
   --write-once         a write-once disc
   --tables T,..        sparing tables of a rewritable disc, at these sectors
   --table-bytes N      the bytes of each table (2,048)
-  --spares M,..        packets to which others can be spared, by their first sectors
+  --spares M,..        packets to which others can be spared, by their first sectors; the blocks of those inside the partition can be
+                       neither read nor saved, and the command tells how many blocks are left
   --start S            the partition's first sector
   --length L           its number of sectors
   --partition N        the partition number (0)
@@ -281,8 +286,8 @@ they make no file system.
         help: "tuormik export IMAGE FOLDER [--at ICB]
 
 Writes each block as a file into FOLDER, which must be empty or not there yet, and a list, list.csv, with each block's number, its logical
-block, its sector, its state and its file. Blocks that are unused, unreadable or blank (never recorded) are listed and skipped. The list is
-written last: an export that was stopped leaves none.
+block, its sector, its state and its file. Blocks that are unused, unreadable, blank (never recorded) or of a spare are listed and skipped.
+The list is written last: an export that was stopped leaves none.
   --at ICB             as the commit left them whose VAT ICB is at this logical block ('tuormik history' lists them)
 ",
         run: export::export,
@@ -293,9 +298,10 @@ written last: an export that was stopped leaves none.
         help: "tuormik diff A B
 
 Holds the blocks of two images against each other, by their numbers, and tells which differ, appeared (in B alone) or went (in A alone),
-which are blank (never recorded) in one of them, and which cannot be read. Blocks that are blank in both are alike. A and B are images, or
-IMAGE@ICB for the disc as the commit left it whose VAT ICB is at that logical block. The status is 0 where all are alike and 1 where not. A
-volume given by hand is that of both; --marks does not go with two images.
+which are blank (never recorded) or of a spare in one of them, and which cannot be read. Blocks that are blank in both are alike; those of a
+spare in both are counted apart, and are no difference. A and B are images, or IMAGE@ICB for the disc as the commit left it whose VAT ICB is
+at that logical block. The status is 0 where nothing differs and 1 where something does. A volume given by hand is that of both; --marks
+does not go with two images.
 ",
         run: diff::diff,
     },
@@ -326,8 +332,8 @@ before.
         help: "tuormik map IMAGE PICTURE
 
 Draws the sectors of the disc, row by row: blank (never recorded), recorded, live (a block of the current table), unreadable, VAT ICBs,
-sparing tables, spares that are used, defective or free, and a line around the partition. Where the disc is turned down it is drawn from its
-marks alone. PICTURE ends in .svg or .ppm.
+sparing tables, spares that are used, defective or free, also those inside the partition, and a line around the partition. Where the disc is
+turned down it is drawn from its marks alone. PICTURE ends in .svg or .ppm.
 ",
         run: commands::map,
     },

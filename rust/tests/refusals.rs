@@ -6,8 +6,9 @@ mod folder;
 use folder::Folder;
 
 const SECTOR: usize = 2048;
-/// The original of a defective spare.
+/// The originals of a defective spare and of a free one.
 const DEFECTIVE: [u8; 4] = 0xffff_fff0_u32.to_le_bytes();
+const FREE: [u8; 4] = u32::MAX.to_le_bytes();
 
 /// A folder with a rewritable disc of 640 sectors: partition at 288, 64 sectors, three tables, two spares.
 fn rewritable(name: &str) -> Folder {
@@ -47,7 +48,7 @@ fn a_message_has_the_sentence_first_and_then_the_line() {
 fn discs_that_cannot_be_made() {
     let folder = Folder::new("refusal-make");
     let make = |rest: &[&'static str]| [&["make", "e.img"], rest].concat();
-    let cases: [(u32, Vec<&str>, &str); 13] = [
+    let cases: [(u32, Vec<&str>, &str); 16] = [
         (1, make(&["--sectors", "0", "--write-once"]), "a disc has 1 to 1,048,576 sectors, not 0"),
         (1, make(&["--sectors", "1,048,577", "--write-once"]), "a disc has 1 to 1,048,576 sectors, not 1,048,577"),
         (2, make(&["--sectors", "100", "--write-once"]), "the partition has no sectors: L is 0"),
@@ -68,8 +69,23 @@ fn discs_that_cannot_be_made() {
         ),
         (
             6,
-            make(&["--sectors", "640", "--tables", "0", "--length", "64", "--spares", "320"]),
-            "the packet of the spare at sector 320, sectors 320 to 351, lies in the partition, sectors 288 to 351",
+            make(&["--sectors", "640", "--tables", "0,320", "--length", "64", "--spares", "288"]),
+            "the packet of the sparing table at sector 320, sectors 320 to 351, lies in the partition, sectors 288 to 351",
+        ),
+        (
+            6,
+            make(&["--sectors", "650", "--tables", "0", "--length", "64", "--spares", "320,640"]),
+            "the packet of the spare at sector 640, sectors 640 to 671, is not whole on the disc, which has 650 sectors",
+        ),
+        (
+            6,
+            make(&["--sectors", "640", "--tables", "0", "--length", "64", "--spares", "300"]),
+            "the spare at sector 300 is not at a multiple of 32",
+        ),
+        (
+            6,
+            make(&["--sectors", "640", "--tables", "0", "--length", "64", "--spares", "320,288,320"]),
+            "the spare at sector 320 is named twice",
         ),
         (
             6,
@@ -294,6 +310,49 @@ fn sparings() {
     refuse(&folder, 17, &[(&["spare", "g.img", "0"], sentence)]);
 }
 
+/// Blocks and packets of a spare inside the partition (document 02, slip 8): 30 stands after 12 and before all that follows it.
+#[test]
+fn what_belongs_to_a_spare() {
+    let folder = rewritable("refusal-of-spare");
+    // blocks 32 to 63 are sectors 320 to 351; all spares are free, then one is used, then it is defective
+    folder.does(&["make", "e.img", "--sectors", "640", "--tables", "0,32", "--spares", "320,96", "--length", "96"]);
+    for which in ["a free spare", "the spare of blocks 64 to 95", "a defective spare"] {
+        let sentence = |b: u32| format!("block {b} belongs to a spare: its packet, blocks 32 to 63, is {which}, in sectors 320 to 351");
+        let [first, other, last] = [32, 40, 63].map(sentence);
+        let cases: [(&[&str], &str); 9] = [
+            (&["read", "e.img", "32"], &first),
+            (&["read", "e.img", "40"], &other),
+            (&["read", "e.img", "31", "2"], &first),
+            (&["save", "e.img", "63", "text"], &last),
+            (&["save", "e.img", "32", "packet", "--packet"], &first),
+            (&["save", "e.img", "31", "text", "text"], &first),
+            (&["spare", "e.img", "32"], &first),
+            (&["spare", "e.img", "32", "--zeros"], &first),
+            (&["spare", "e.img", "32", "packet"], &first),
+        ];
+        refuse(&folder, 30, &cases);
+        // 12 and 3 are asked first
+        refuse(&folder, 12, &[(&["spare", "e.img", "33"], "no packet begins at block 33: its packet is blocks 32 to 63")]);
+        refuse(&folder, 12, &[(&["read", "e.img", "96"], "block 96 does not exist: the disc has 96 blocks, 0 to 95")]);
+        refuse(&folder, 3, &[(&["spare", "e.img", "32", "text"], "a packet has 65,536 bytes, and 7 are given")]);
+        if which != "a defective spare" {
+            folder.does(&["spare", "e.img", "64"]);
+        }
+    }
+    // 19 stands after it; so do 17, and 25 and 14 of its sectors
+    refuse(&folder, 19, &[(&["spare", "e.img", "64"], "no spare is free: the disc has 2, 1 used and 1 defective")]);
+    folder.does(&["make", "f.img", "--sectors", "640", "--tables", "0", "--spares", "320", "--length", "64"]);
+    folder.write("f.img.marks", b"tuormik marks\nrecorded 0 640\nblank 321 1\nunreadable 330 1\n");
+    for words in [&["spare", "f.img", "32"][..], &["read", "f.img", "33"], &["read", "f.img", "42"], &["save", "f.img", "40", "text"]] {
+        folder.refuses(30, words);
+    }
+    // the words of the line stand below the case's own
+    let (_, _, err) = folder.run(&["read", "e.img", "40"]);
+    assert!(err.ends_with("\nturned down: The block or packet belongs to a spare. (02, line 30)\n"), "{err}");
+    // a spare outside the partition has no blocks
+    folder.does(&["read", "d.img", "63"]);
+}
+
 /// A packet that is spared already is spared again until no spare is free; a defective spare is none (document 02, slip 1).
 #[test]
 fn no_spare_is_left() {
@@ -391,6 +450,39 @@ fn what_a_rewritable_disc_has_instead_of_a_table() {
     folder.write("m", b"tuormik marks\nrecorded 0 640\nunreadable 0 1\nunreadable 32 1\nunreadable 64 1\n");
     let sentence = "no copy of the sparing table can be used: each of sectors 0, 32 and 64 is unreadable";
     refuse(&folder, 8, &[(&["info", "d.img", "--marks", "m"], sentence)]);
+}
+
+/// An original that is the packet of a spare (document 02, slip 8): a copy with it does not count, whichever entry maps that packet.
+#[test]
+fn an_original_that_is_a_spare() {
+    let folder = rewritable("refusal-original");
+    std::fs::remove_file(folder.path("d.img.marks")).expect("a marks file");
+    let put = |entries: [([u8; 4], u32); 2]| {
+        let bytes = entries.map(|(original, mapped)| [original, mapped.to_le_bytes()].concat()).concat();
+        for table in [0, 32, 64] {
+            patch(&folder, "d.img", table, 56, &bytes);
+        }
+    };
+    // blocks 0 to 31 are sectors 288 to 319, and blocks 32 to 63 sectors 320 to 351
+    let [first, second] = [0u32, 32].map(u32::to_le_bytes);
+    for (entries, original) in [
+        ([(first, 288), (FREE, 96)], 0),
+        ([(first, 96), (second, 288)], 0),
+        ([(first, 320), (second, 96)], 32),
+        ([(second, 96), (DEFECTIVE, 320)], 32),
+        ([(second, 96), (FREE, 320)], 32),
+    ] {
+        put(entries);
+        let sentence = format!(
+            "no copy of the sparing table can be used: each of sectors 0, 32 and 64 has a table that spares the packet of block {original}, \
+             which is a spare itself"
+        );
+        refuse(&folder, 8, &[(&["info", "d.img"], &sentence)]);
+    }
+    for entries in [[(first, 320), (FREE, 96)], [(first, 96), (FREE, 320)], [(second, 96), (DEFECTIVE, 288)], [(FREE, 288), (FREE, 320)]] {
+        put(entries);
+        folder.does(&["info", "d.img"]);
+    }
 }
 
 /// The CRC of polynomial 0x1021, start 0, high bit first.

@@ -228,6 +228,162 @@ fn copies_that_do_not_count() {
     }
 }
 
+/// A rewritable disc with spares inside its partition (document 02, slip 8): blocks 32 to 63 and 96 to 127 are of one each, and the spare
+/// between them stands outside.
+fn with_spares_inside() -> Memory {
+    let maps = Maps::Rewritable { partition: 1, table_bytes: 2048, tables: vec![0, 32] };
+    Memory::new(224, 96, 128, &maps, &[128, 64, 192])
+}
+
+/// The answers of every call that names a block or a packet: reading, saving a block, saving a packet, sparing.
+fn answers(open: &mut Open, b: u32) -> [Result<(), Error>; 4] {
+    let (block, packet) = ([9; SECTOR], [9; PACKET_BYTES]);
+    [open.read(b).map(drop), open.save_block(b, &block), open.save_packet(b, &packet), open.spare_packet(b, &packet)]
+}
+
+/// The blocks of a spare are refused by every call, whether their spare is free, used or defective, and nothing changes.
+#[test]
+fn spares_inside_the_partition() {
+    let [of_spare, outside] = [refused(Refusal::BelongsToSpare), refused(Refusal::NumberOutside)];
+    let mut memory = with_spares_inside();
+    let mut open = memory.disc().open().expect("it opens");
+    let tables = [
+        [NONE, 128, NONE, 64, NONE, 192],
+        [64, 128, NONE, 64, NONE, 192],
+        [64, 64, DEFECTIVE, 128, NONE, 192],
+        [64, 192, DEFECTIVE, 128, DEFECTIVE, 64],
+    ];
+    for (with, table) in (0..).zip(tables) {
+        if with > 0 {
+            assert_eq!(open.spare_packet(64, &[with; PACKET_BYTES]), Ok(()));
+        }
+        assert_eq!(open.table(), table);
+        let before = (open.disc().bytes.to_vec(), open.disc().marks.to_vec(), open.record());
+        for b in 0..128 {
+            let is_of_spare = (32..64).contains(&b) || b >= 96;
+            assert_eq!(open.read(b).err(), is_of_spare.then_some(of_spare), "{b}");
+            if is_of_spare {
+                let packet = if b % 32 == 0 { of_spare } else { outside };
+                assert_eq!(answers(&mut open, b), [Err(of_spare), Err(of_spare), Err(packet), Err(packet)], "{b}");
+            }
+        }
+        // the number of blocks stays L
+        for b in [128, 160, NONE - 31] {
+            assert_eq!(answers(&mut open, b), [Err(outside); 4], "{b}");
+        }
+        assert_eq!((open.disc().bytes.to_vec(), open.disc().marks.to_vec(), open.record()), before);
+        assert_eq!((open.read(64), open.read(95)), (Ok([with; SECTOR]), Ok([with; SECTOR])));
+        assert_eq!((open.read(0), open.read(31)), (Ok([0; SECTOR]), Ok([0; SECTOR])));
+        assert_eq!(open.open_again(), Ok(()));
+    }
+    // a save goes to the spare inside, and to no other block
+    assert_eq!(open.save_block(70, &[5; SECTOR]), Ok(()));
+    assert_eq!(open.disc().bytes[SECTOR * 198..SECTOR * 199], [5; SECTOR]);
+    assert_eq!((open.read(70), open.read(102)), (Ok([5; SECTOR]), Err(of_spare)));
+}
+
+/// 30 stands after 12 and before all that comes after it, 17 and the marks of its sectors too.
+#[test]
+fn a_spare_is_told_before_what_comes_after_it() {
+    let of_spare = Err(refused(Refusal::BelongsToSpare));
+    let maps = Maps::Rewritable { partition: 1, table_bytes: 2048, tables: vec![0] };
+    let mut memory = Memory::new(160, 64, 96, &maps, &[96]);
+    memory.marks[96..100].copy_from_slice(&[BLANK, UNREADABLE, BLANK, UNREADABLE]);
+    let mut open = memory.disc().open().expect("it opens");
+    assert_eq!(answers(&mut open, 32), [of_spare; 4]);
+    for b in 33..64 {
+        assert_eq!([open.read(b).map(drop), open.save_block(b, &[9; SECTOR])], [of_spare; 2]);
+    }
+    assert_eq!(open.spare_packet(0, &[9; PACKET_BYTES]), Err(refused(Refusal::OneTable)));
+    // what is lent, and whether the record goes with the disc, is asked before
+    assert_eq!([open.save_block(32, &[]), open.save_packet(32, &[]), open.spare_packet(32, &[])], [Err(refused(Refusal::LentLength)); 3]);
+    let stale = Record { held: Held::Rewritable { entries: 1, sequence: 9 }, passed_over: 0 };
+    let mut open = Open::resume(memory.disc(), &[NONE, 96], stale);
+    assert_eq!(answers(&mut open, 32), [Err(refused(Refusal::StaleRecord)); 4]);
+}
+
+/// Lists of calls, cut too: the same blocks are of a spare after each.
+#[test]
+fn spares_inside_over_a_list_of_calls() {
+    let of_spare = Err(refused(Refusal::BelongsToSpare));
+    let (one, two) = ([1; PACKET_BYTES], [2; PACKET_BYTES]);
+    for at in [1, 32, 33, 34] {
+        for effect in [Effect::Old, Effect::Unreadable, Effect::Whole] {
+            let mut memory = with_spares_inside();
+            let spare = |b, packet, cut| Call::SparePacket { b, packet, cut };
+            let calls = [
+                spare(0, &one, Cut::NONE),
+                spare(32, &one, Cut::NONE),
+                Call::SaveBlock { b: 40, block: &[3; SECTOR], cut: Cut::NONE },
+                Call::SavePacket { b: 96, packet: &two, cut: Cut::at(1, Effect::Whole) },
+                spare(0, &two, Cut::at(at, effect)),
+                Call::Open,
+                spare(32, &one, Cut::at(1, Effect::Unreadable)),
+                Call::SaveBlock { b: 100, block: &[3; SECTOR], cut: Cut::NONE },
+            ];
+            let ran = memory.disc().run(&calls).expect("it opens");
+            assert_eq!(ran.replies, [Ok(()), of_spare, of_spare, of_spare, Err(Error::Cut), Ok(()), of_spare, of_spare]);
+            let is_done = at > 33 || (at, effect) == (33, Effect::Whole);
+            let open = memory.disc().open().expect("it opens");
+            assert_eq!(
+                (open.read(0), open.read(31)),
+                if is_done { (Ok([2; SECTOR]), Ok([2; SECTOR])) } else { (Ok([1; SECTOR]), Ok([1; SECTOR])) }
+            );
+            for b in 0..128 {
+                let is_of_spare = (32..64).contains(&b) || b >= 96;
+                assert_eq!(open.read(b).map(drop), if is_of_spare { of_spare } else { Ok(()) }, "{b}");
+            }
+        }
+    }
+}
+
+/// An original may not be the packet of a spare, of any entry; a spare may be any packet of the partition, also all of them.
+#[test]
+fn originals_and_spares_inside() {
+    let mut memory = with_spares_inside();
+    let mut opens = |entries: [[u32; 2]; 3]| {
+        for table in [0, 32] {
+            let at = SECTOR * table + 56;
+            for (to, number) in memory.bytes[at..at + 24].chunks_exact_mut(4).zip(entries.iter().flatten()) {
+                to.copy_from_slice(&number.to_le_bytes());
+            }
+        }
+        let opened = memory.disc().open().map(|open| open.table().to_vec());
+        opened.map(|table| assert_eq!(table, entries.concat()))
+    };
+    let none = Err(refused(Refusal::NoTable));
+    // blocks 0, 32, 64 and 96 are sectors 96, 128, 160 and 192
+    for (entries, answer) in [
+        ([[0, 128], [DEFECTIVE, 160], [NONE, 192]], Ok(())),
+        ([[0, 128], [32, 64], [NONE, 192]], none),
+        ([[0, 96], [NONE, 128], [NONE, 64]], none),
+        ([[0, 64], [DEFECTIVE, 96], [NONE, 128]], none),
+        ([[0, 64], [DEFECTIVE, 128], [NONE, 96]], none),
+        ([[0, 64], [32, 192], [64, 96]], none),
+        ([[0, 64], [32, 192], [64, 128]], none),
+        ([[0, 160], [32, 192], [NONE, 64]], Ok(())),
+        ([[DEFECTIVE, 96], [DEFECTIVE, 128], [NONE, 160]], Ok(())),
+        // distinct, multiples of 32, on the disc, and no table's packet
+        ([[0, 128], [NONE, 128], [NONE, 64]], none),
+        ([[0, 144], [NONE, 64], [NONE, 192]], none),
+        ([[0, 224], [NONE, 64], [NONE, 192]], none),
+        ([[0, 32], [NONE, 64], [NONE, 192]], none),
+    ] {
+        assert_eq!(opens(entries), answer, "{entries:?}");
+    }
+    let maps = Maps::Rewritable { partition: 1, table_bytes: 2048, tables: vec![0, 32] };
+    let mut memory = Memory::new(160, 64, 96, &maps, &[64, 96, 128]);
+    let open = memory.disc().open().expect("it opens");
+    assert!((0..96).all(|b| open.read(b) == Err(refused(Refusal::BelongsToSpare))));
+    assert_eq!(open.read(96), Err(refused(Refusal::NumberOutside)));
+    for spares in [&[64, 64][..], &[80], &[32], &[160], &[128, 96, 128]] {
+        assert_eq!(memory.disc().make(spares), Err(refused(Refusal::Misaligned)), "{spares:?}");
+    }
+    // a table does not stand in the partition
+    memory.maps = write_maps(&Maps::Rewritable { partition: 1, table_bytes: 2048, tables: vec![0, 64] }).expect("a map list");
+    assert_eq!(memory.disc().make(&[]), Err(refused(Refusal::Misaligned)));
+}
+
 /// What a list would come to is told without changing the disc, and is what carrying it out comes to (document 02, slip 9).
 #[test]
 fn a_forecast() {
@@ -390,7 +546,8 @@ fn words_of_refusals() {
     assert_eq!(Error::check(21), Err(refused(Refusal::NotBlank)));
     assert_eq!(Error::check(25), Err(refused(Refusal::BlankSector)));
     assert_eq!(Error::check(14), Err(refused(Refusal::UnreadableSector)));
-    for unknown in [18, 22, 24, 26] {
+    assert_eq!(Error::check(30), Err(refused(Refusal::BelongsToSpare)));
+    for unknown in [18, 22, 24, 26, 29, 31] {
         assert_eq!(Error::check(unknown), Err(Error::Unknown(unknown)));
     }
     assert_eq!(Error::check(255), Err(Error::Cut));

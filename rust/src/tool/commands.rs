@@ -8,9 +8,9 @@ use super::passed::{need_force, Passed};
 use super::picture::Picture;
 use super::progress::{Progress, Waiting};
 use super::refused::{self, Asked};
-use super::states::{Counts, SpareState, View};
+use super::states::{Counts, SpareState, State, View};
 use super::summary::mark_words;
-use super::words::{counted, grouped, number};
+use super::words::{are, counted, grouped, number};
 use super::{Done, Failure};
 use std::io::{Read, Write};
 use std::path::{Path, PathBuf};
@@ -85,21 +85,29 @@ fn list_once(open: View, out: &mut dyn Write) -> Done {
 
 fn list_packets(open: View, all: bool, out: &mut dyn Write) -> Done {
     writeln!(out, "  blocks                 sectors")?;
-    let mut plain = 0;
+    let (mut plain, mut of_spares) = (0, 0);
     for b in (0..open.count()).step_by(PACKET) {
-        let is_spared = open.spared_to(b).is_some();
+        let (is_spared, is_of_spare) = (open.spared_to(b).is_some(), open.spare_of(b).is_some());
         let at = open.packet_place(b);
         let marks = &open.disc.marks[at..at + PACKET];
-        if !is_spared && !all && marks.iter().all(|&m| m == RECORDED) {
+        if !is_spared && !is_of_spare && !all && marks.iter().all(|&m| m == RECORDED) {
             plain += 1;
             continue;
         }
-        let spared = if is_spared { "spared, " } else { "" };
+        of_spares += usize::from(is_of_spare);
+        let state = match (is_of_spare, is_spared) {
+            (true, _) => State::OfSpare.to_string(),
+            (_, true) => format!("spared, {}", mark_words(marks)),
+            _ => mark_words(marks),
+        };
         let (first, last) = (grouped(b), grouped(b as usize + PACKET - 1));
-        writeln!(out, "{first:>8} to {last:<8}  {:>8} to {:<8}  {spared}{}", grouped(at), grouped(at + PACKET - 1), mark_words(marks))?;
+        writeln!(out, "{first:>8} to {last:<8}  {:>8} to {:<8}  {state}", grouped(at), grouped(at + PACKET - 1))?;
     }
     if plain > 0 {
         writeln!(out, "{} in place, recorded", counted(plain, "packet"))?;
+    }
+    if of_spares > 0 {
+        writeln!(out, "{} in the partition, whose blocks are neither read nor saved", counted(of_spares, "spare"))?;
     }
     for spare in open.spares() {
         let words = match spare.state {
@@ -389,8 +397,10 @@ fn read_packet(open: &Open, b: u32, zeros: bool) -> Result<Vec<u8>, Failure> {
         match open.read(b.saturating_add(i)) {
             Ok(block) => packet.extend_from_slice(&block),
             Err(Error::Refused(Refusal::BlankSector | Refusal::UnreadableSector)) if zeros => packet.extend_from_slice(&[0; SECTOR]),
-            // that a number is outside, or that the disc is write-once, the sparing itself says
-            Err(Error::Refused(Refusal::NumberOutside | Refusal::UnusedEntry)) => packet.extend_from_slice(&[0; SECTOR]),
+            // that a number is outside or of a spare, or that the disc is write-once, the sparing itself says
+            Err(Error::Refused(Refusal::NumberOutside | Refusal::BelongsToSpare | Refusal::UnusedEntry)) => {
+                packet.extend_from_slice(&[0; SECTOR])
+            }
             Err(error) => return Err(refused::by_call(open, Asked::Read(b.saturating_add(i)), error)),
         }
     }
@@ -429,10 +439,23 @@ pub fn make(args: &mut Args, out: &mut dyn Write) -> Done {
     let is_described = !args.has("--no-descriptors") && describe(&mut image, partition);
     store(&mut image)?;
     writeln!(out, "made {}: {}, S {}, L {}", path.display(), counted(sectors as usize, "sector"), grouped(start), grouped(length))?;
+    if let Some(words) = left_words(&image)? {
+        writeln!(out, "{words}")?;
+    }
     if !is_described {
         writeln!(out, "it has no descriptors: give S, L and the kind to the other commands by hand")?;
     }
     Ok(())
+}
+
+/// How many blocks are left of a disc with spares in its partition.
+fn left_words(image: &Image) -> Result<Option<String>, Failure> {
+    let open = commits::open(image)?;
+    let view = View::from(&open);
+    let blocks: Counts = view.blocks().collect();
+    let spares = counted(blocks.of_spare / PACKET, "spare");
+    let words = || format!("{spares} in the partition: of its {} {} left", counted(view.count() as usize, "block"), are(blocks.used()));
+    Ok((blocks.of_spare > 0).then(words))
 }
 
 /// Puts descriptors into sectors that making left alone, and says whether they found room.

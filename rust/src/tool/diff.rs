@@ -23,16 +23,29 @@ enum Change {
     BlankInB,
     /// not to be read in one of them
     Unknown,
+    /// of a spare, and so no block to be read or saved
+    OfSpareInBoth,
+    OfSpareInA,
+    OfSpareInB,
+}
+
+impl Change {
+    /// Whether nothing becomes of the block.
+    fn is_none(self) -> bool {
+        matches!(self, Change::Alike | Change::OfSpareInBoth)
+    }
 }
 
 /// The changes that are told, with the words of one block and of several, and of a count.
-const TOLD: [(Change, &str, &str, &str); 6] = [
+const TOLD: [(Change, &str, &str, &str); 8] = [
     (Change::Differs, "differs", "differ", "different"),
     (Change::Appeared, "appeared", "appeared", "appeared"),
     (Change::Went, "went", "went", "went"),
     (Change::BlankInA, "is blank in A: it was never recorded there", "are blank in A: they were never recorded there", "blank in A"),
     (Change::BlankInB, "is blank in B: it was never recorded there", "are blank in B: they were never recorded there", "blank in B"),
     (Change::Unknown, "cannot be compared: it cannot be read", "cannot be compared: they cannot be read", "not to be compared"),
+    (Change::OfSpareInA, "is of a spare in A", "are of a spare in A", "of spares in A"),
+    (Change::OfSpareInB, "is of a spare in B", "are of a spare in B", "of spares in B"),
 ];
 
 /// What a block is.
@@ -40,6 +53,7 @@ enum Content {
     None,
     Blank,
     Unreadable,
+    OfSpare,
     Bytes(Box<[u8; SECTOR]>),
 }
 
@@ -69,7 +83,7 @@ pub fn diff(args: &mut Args, out: &mut dyn Write) -> Done {
     }
     let changes = changes(&a, &b)?;
     tell(&changes, out)?;
-    Failure::told(u8::from(changes.iter().any(|&change| change != Change::Alike)))
+    Failure::told(u8::from(changes.iter().any(|&change| !change.is_none())))
 }
 
 fn content(open: &OpenRef, number: u32) -> Result<Content, Failure> {
@@ -77,6 +91,7 @@ fn content(open: &OpenRef, number: u32) -> Result<Content, Failure> {
         Some(State::Recorded) => Content::Bytes(Box::new(commits::read(open, number)?)),
         Some(State::Unreadable) => Content::Unreadable,
         Some(State::Blank) => Content::Blank,
+        Some(State::OfSpare) => Content::OfSpare,
         Some(State::Unused) | None => Content::None,
     })
 }
@@ -88,6 +103,9 @@ fn changes(a: &OpenRef, b: &OpenRef) -> Result<Vec<Change>, Failure> {
         progress.tell(number as usize, count as usize);
         Ok(match (content(a, number)?, content(b, number)?) {
             (Content::None, Content::None) | (Content::Blank, Content::Blank) => Change::Alike,
+            (Content::OfSpare, Content::OfSpare) => Change::OfSpareInBoth,
+            (Content::OfSpare, _) => Change::OfSpareInA,
+            (_, Content::OfSpare) => Change::OfSpareInB,
             (Content::None, _) => Change::Appeared,
             (_, Content::None) => Change::Went,
             (Content::Unreadable, _) | (_, Content::Unreadable) => Change::Unknown,
@@ -111,7 +129,7 @@ fn tell(changes: &[Change], out: &mut dyn Write) -> Done {
         first += run.len();
     }
     let count = |change| changes.iter().filter(|&&c| c == change).count();
-    let mut counts = vec![(count(Change::Alike), "alike")];
+    let mut counts = vec![(count(Change::Alike), "alike"), (count(Change::OfSpareInBoth), "of spares in both")];
     counts.extend(TOLD.iter().map(|(change, _, _, words)| (count(*change), *words)));
     match changes.len() {
         0 => writeln!(out, "neither disc has blocks")?,

@@ -39,7 +39,12 @@ pub fn export(args: &mut Args, out: &mut dyn Write) -> Done {
     // the list comes last: a tool that was stopped leaves none
     image.write_output(&folder.join(LIST), list.as_bytes())?;
     let counts: Counts = view.blocks().collect();
-    let skipped = parts(&[(counts.unused, "unused"), (counts.unreadable, "unreadable"), (counts.blank, "blank (never recorded)")]);
+    let skipped = parts(&[
+        (counts.unused, "unused"),
+        (counts.unreadable, "unreadable"),
+        (counts.blank, "blank (never recorded)"),
+        (counts.of_spare, "of spares"),
+    ]);
     let also = if skipped.is_empty() { String::new() } else { format!("; skipped: {skipped}") };
     let read = grouped(counts.recorded);
     writeln!(out, "exported {read} of {} to {}{also}; {LIST} lists all", counted(count, "block"), folder.display())?;

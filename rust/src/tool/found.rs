@@ -125,22 +125,30 @@ pub fn misaligned(disc: DiscRef, tables: &[u32], table_bytes: u32, spares: &[u32
     if !disc.length.is_multiple_of(PACKET as u32) {
         return format!("the partition has {}, which is not a multiple of 32", counted(disc.length as usize, "sector"));
     }
-    let table = misplaced_table(tables).or_else(|| tables.iter().find_map(|&t| outside(disc, "sparing table", t)));
+    let misplaced = |&t: &u32| not_whole(disc, TABLE, t).or_else(|| in_partition(disc, t));
+    let table = misplaced_table(tables).or_else(|| tables.iter().find_map(misplaced));
     table.unwrap_or_else(|| misplaced_spare(disc, tables, table_bytes, spares))
 }
 
-/// Why the packet of a table or of a spare cannot be there.
-fn outside(disc: DiscRef, what: &str, at: u32) -> Option<String> {
-    let (first, end) = (at as usize, at as usize + PACKET);
-    let packet = format!("the packet of the {what} at sector {}, {},", grouped(at), from_to(first, end - 1, "sector"));
-    let (start, length) = (disc.start as usize, disc.length as usize);
-    if end > disc.marks.len() {
-        Some(format!("{packet} is not whole on the disc, which has {}", counted(disc.marks.len(), "sector")))
-    } else if first < start + length && start < end {
-        Some(format!("{packet} lies in the partition, {}", from_to(start, start + length - 1, "sector")))
-    } else {
-        None
-    }
+const TABLE: &str = "sparing table";
+
+/// The packet of a table or of a spare, in words.
+fn packet_of(what: &str, at: u32) -> String {
+    format!("the packet of the {what} at sector {}, {},", grouped(at), from_to(at as usize, at as usize + PACKET - 1, "sector"))
+}
+
+/// That the packet of a table or of a spare is not whole on the disc, if it is not.
+fn not_whole(disc: DiscRef, what: &str, at: u32) -> Option<String> {
+    let sectors = disc.marks.len();
+    (at as usize + PACKET > sectors)
+        .then(|| format!("{} is not whole on the disc, which has {}", packet_of(what, at), counted(sectors, "sector")))
+}
+
+/// That the packet of a table lies in the partition, if it does; a spare may.
+fn in_partition(disc: DiscRef, at: u32) -> Option<String> {
+    let (start, end) = (disc.start as usize, disc.start as usize + disc.length as usize);
+    ((at as usize) < end && start < at as usize + PACKET)
+        .then(|| format!("{} lies in the partition, {}", packet_of(TABLE, at), from_to(start, end - 1, "sector")))
 }
 
 fn misplaced_spare(disc: DiscRef, tables: &[u32], table_bytes: u32, spares: &[u32]) -> String {
@@ -157,7 +165,7 @@ fn misplaced_spare(disc: DiscRef, tables: &[u32], table_bytes: u32, spares: &[u3
         if !spare.is_multiple_of(PACKET as u32) {
             return not_a_multiple("the spare at sector", spare);
         }
-        if let Some(words) = outside(disc, "spare", spare) {
+        if let Some(words) = not_whole(disc, "spare", spare) {
             return words;
         }
         if tables.contains(&spare) {
@@ -211,6 +219,18 @@ pub fn no_copy(disc: DiscRef, tables: &[u32], table_bytes: u32) -> String {
     format!("no copy of the sparing table can be used: {}", words.join("; "))
 }
 
+/// The entries that a table says it has: original and mapped of each.
+fn entries_of(table: &[u8]) -> Vec<[u64; 2]> {
+    let count = number_at(table, COUNT_AT, 2) as usize;
+    (0..count).map(|i| [0, 4].map(|at| number_at(table, ENTRIES_AT + ENTRY * i + at, 4))).collect()
+}
+
+/// An original that is the packet of a spare of the same table, which no copy may have.
+fn spared_spare(disc: DiscRef, entries: &[[u64; 2]]) -> Option<u64> {
+    let is_spare = |original: u64| entries.iter().any(|&[_, mapped]| mapped == u64::from(disc.start) + original);
+    entries.iter().map(|&[original, _]| original).find(|&original| original < u64::from(disc.length) && is_spare(original))
+}
+
 /// What is to be said of the sector of a table that does not count.
 fn copy_words(disc: DiscRef, at: u32, table_bytes: u32) -> String {
     let mark = disc.marks.get(at as usize).copied().unwrap_or(BLANK);
@@ -218,9 +238,9 @@ fn copy_words(disc: DiscRef, at: u32, table_bytes: u32) -> String {
         return format!("is {}", mark_name(mark));
     }
     let bytes = sector(disc, at as usize);
-    let count = number_at(bytes, COUNT_AT, 2) as usize;
-    let needed = ENTRIES_AT + ENTRY * count;
-    let has_defective = || (0..count).any(|i| number_at(bytes, ENTRIES_AT + ENTRY * i, 4) == u64::from(DEFECTIVE));
+    let entries = entries_of(bytes);
+    let needed = ENTRIES_AT + ENTRY * entries.len();
+    let has_defective = || entries.iter().any(|&[original, _]| original == u64::from(DEFECTIVE));
     match table_name(disc, at).as_str() {
         NEWER_NAME | OLDER_NAME if needed > table_bytes as usize => {
             format!("has a table of {}, and the map list gives it {}", counted(needed, "byte"), grouped(table_bytes))
@@ -229,7 +249,10 @@ fn copy_words(disc: DiscRef, at: u32, table_bytes: u32) -> String {
             "has a table with a defective spare (0xfffffff0) and the older identifier, {OLDER_NAME}, where only the newer one, \
              {NEWER_NAME}, has that mark"
         ),
-        NEWER_NAME | OLDER_NAME => "has a table that breaks the rule for a copy".to_string(),
+        NEWER_NAME | OLDER_NAME => match spared_spare(disc, &entries) {
+            Some(original) => format!("has a table that spares the packet of block {}, which is a spare itself", grouped(original)),
+            None => "has a table that breaks the rule for a copy".to_string(),
+        },
         "" => "has no identifier".to_string(),
         other => format!("has the identifier {other}"),
     }

@@ -1,7 +1,7 @@
 //! Refusals in words: for each line of documents 01 and 02 that a command can meet, a sentence with the case's own numbers.
 
 use super::room::commit_sectors;
-use super::states::{Block, Counts, SpareCounts, View};
+use super::states::{Block, Counts, SpareCounts, SpareState, View};
 use super::words::{are, counted, from_to, grouped};
 use super::{found, Failure};
 use tuormik::{read_maps, DiscRef, Error, Held, Maps, Refusal, BLANK, MOST_ENTRIES, MOST_SECTORS, PACKET, PACKET_BYTES, SECTOR};
@@ -180,6 +180,7 @@ fn of_call(open: View, asked: Asked, why: Refusal) -> String {
         Refusal::LentLength => lent_words(asked),
         Refusal::OtherKind => for_the_other_kind(&asked.words(), open.is_write_once()),
         Refusal::NumberOutside => outside_words(open, asked),
+        Refusal::BelongsToSpare => of_spare_words(open, number),
         Refusal::UnusedEntry => format!("block {} is unused: the disc's table has no sector for it", grouped(number)),
         Refusal::BlankSector | Refusal::UnreadableSector => not_recorded_words(open, asked),
         Refusal::PassesAsIcb => {
@@ -226,6 +227,22 @@ fn outside_words(open: View, asked: Asked) -> String {
 
 fn packet_words(first: u32) -> String {
     from_to(first as usize, first as usize + PACKET - 1, "block")
+}
+
+/// Line 30: the spare to which a block's packet belongs.
+fn of_spare_words(open: View, number: u32) -> String {
+    let belongs = format!("block {} belongs to a spare", grouped(number));
+    let first = number - number % PACKET as u32;
+    let Some(spare) = open.spare_of(first) else {
+        return belongs;
+    };
+    let which = match spare.state {
+        SpareState::Used => format!("the spare of {}", packet_words(spare.original)),
+        SpareState::Defective => "a defective spare".to_string(),
+        SpareState::Free => "a free spare".to_string(),
+    };
+    let sectors = from_to(spare.sector, spare.sector + PACKET - 1, "sector");
+    format!("{belongs}: its packet, {}, is {which}, in {sectors}", packet_words(first))
 }
 
 /// Lines 25 and 14: the first block to be read that is not recorded, for a save another of its packet.

@@ -25,13 +25,15 @@ impl<'a> From<&'a OpenRef<'_>> for View<'a> {
     }
 }
 
-/// The state of a block. A blank one was never recorded, and so is not unreadable (document 02, slip 5).
+/// The state of a block. A blank one was never recorded, and so is not unreadable (document 02, slip 5). One of a spare that is inside the
+/// partition is neither read nor saved, whatever its sector's mark (slip 8).
 #[derive(Clone, Copy, Debug, PartialEq, Eq)]
 pub enum State {
     Recorded,
     Unreadable,
     Blank,
     Unused,
+    OfSpare,
 }
 
 impl State {
@@ -52,6 +54,7 @@ impl fmt::Display for State {
             State::Unreadable => mark_name(UNREADABLE),
             State::Blank => mark_name(BLANK),
             State::Unused => "unused",
+            State::OfSpare => "of a spare",
         })
     }
 }
@@ -60,7 +63,7 @@ impl fmt::Display for State {
 #[derive(Clone, Copy, Debug, PartialEq, Eq)]
 pub struct Block {
     pub number: u32,
-    /// Its logical block and its sector; none where its entry is unused.
+    /// Its logical block and its sector, which is the spare's where the block is of one; none where its entry is unused.
     pub place: Option<(u32, usize)>,
     pub state: State,
 }
@@ -85,15 +88,16 @@ pub struct Counts {
     pub unreadable: usize,
     pub blank: usize,
     pub unused: usize,
+    pub of_spare: usize,
 }
 
 impl Counts {
-    /// Those that have a sector.
+    /// Those that have a sector of their own.
     pub fn used(self) -> usize {
         self.recorded + self.unreadable + self.blank
     }
 
-    /// Those that have a sector which is not recorded, in words; empty where there are none.
+    /// Those that have a sector of their own which is not recorded, in words; empty where there are none.
     pub fn not_recorded(self) -> String {
         parts(&[(self.unreadable, "unreadable"), (self.blank, "blank (never recorded)")])
     }
@@ -108,6 +112,7 @@ impl FromIterator<Block> for Counts {
                 State::Unreadable => &mut counts.unreadable,
                 State::Blank => &mut counts.blank,
                 State::Unused => &mut counts.unused,
+                State::OfSpare => &mut counts.of_spare,
             } += 1;
         }
         counts
@@ -126,7 +131,7 @@ pub enum SpareState {
 #[derive(Clone, Copy, Debug, PartialEq, Eq)]
 pub struct Spare {
     /// The first block of the packet that is spared to it, if it is used.
-    original: u32,
+    pub original: u32,
     /// Its first sector.
     pub sector: usize,
     pub state: SpareState,
@@ -201,9 +206,19 @@ impl<'a> View<'a> {
         self.spares().find(|spare| spare.state == SpareState::Used && spare.original == original).map(|spare| spare.sector)
     }
 
+    /// The first sector of a packet of a rewritable disc by its number, where it is not spared.
+    fn own_place(self, original: u32) -> usize {
+        self.disc.start as usize + original as usize
+    }
+
     /// Where a packet of a rewritable disc is.
     pub fn packet_place(self, original: u32) -> usize {
-        self.spared_to(original).unwrap_or(self.disc.start as usize + original as usize)
+        self.spared_to(original).unwrap_or(self.own_place(original))
+    }
+
+    /// The spare inside the partition to which a packet of a rewritable disc belongs.
+    pub fn spare_of(self, original: u32) -> Option<Spare> {
+        self.spares().find(|spare| spare.sector == self.own_place(original))
     }
 
     /// The blocks of the packet that begins at a logical block.
@@ -216,14 +231,16 @@ impl<'a> View<'a> {
         if number >= self.count() {
             return None;
         }
-        let place = if self.is_write_once() {
+        let (place, is_of_spare) = if self.is_write_once() {
             let entry = *self.table.get(number as usize)?;
-            (entry != NONE).then(|| (entry, self.disc.start as usize + entry as usize))
+            ((entry != NONE).then(|| (entry, self.disc.start as usize + entry as usize)), false)
         } else {
             let within = number % PACKET as u32;
-            Some((number, self.packet_place(number - within) + within as usize))
+            let first = number - within;
+            (Some((number, self.packet_place(first) + within as usize)), self.spare_of(first).is_some())
         };
         let state = match place {
+            _ if is_of_spare => State::OfSpare,
             Some((_, sector)) => State::of_mark(self.disc.marks.get(sector).copied().unwrap_or(BLANK)),
             None => State::Unused,
         };

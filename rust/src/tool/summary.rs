@@ -217,11 +217,7 @@ impl Opened {
                 ("fullness", format!("{}.{} %", per_mille / 10, per_mille % 10)),
             ],
             Opened::Rewritable { blocks, spares, tables, .. } => {
-                let Counts { recorded, unreadable, blank, .. } = *blocks;
-                let mut lines = vec![
-                    ("blocks", format!("{} readable, {} unreadable, {} blank", grouped(recorded), grouped(unreadable), grouped(blank))),
-                    ("spares", spares.to_string()),
-                ];
+                let mut lines = vec![("blocks", logical_words(*blocks)), ("spares", spares.to_string())];
                 lines.extend(tables.stale_words().map(|words| ("warning", words)));
                 lines
             }
@@ -270,6 +266,7 @@ impl Opened {
             Opened::Rewritable { blocks, spares, sequence, tables } => {
                 let mut parts = Vec::from(blocks_json(*blocks));
                 parts.extend([
+                    ("blocks_of_spares", Json::number(blocks.of_spare)),
                     ("r", Json::number(spares.all())),
                     ("spares_used", Json::number(spares.used)),
                     ("spares_defective", Json::number(spares.defective)),
@@ -313,7 +310,8 @@ impl Opened {
             Opened::Rewritable { blocks, spares, .. } => {
                 let also = if spares.defective > 0 { format!(", {} defective", grouped(spares.defective)) } else { String::new() };
                 let used = format!("{} of {} used{also}", grouped(spares.used), counted(spares.all(), "spare"));
-                format!("rewritable, {}, {used}", counted(blocks.used(), "block"))
+                let also = if blocks.of_spare > 0 { format!(" and {} of spares", grouped(blocks.of_spare)) } else { String::new() };
+                format!("rewritable, {}{also}, {used}", counted(blocks.used(), "block"))
             }
         }
     }
@@ -329,7 +327,16 @@ fn blocks_words(blocks: Counts) -> String {
     }
 }
 
-/// The blocks that have a sector, by their states.
+/// The blocks of a rewritable disc.
+fn logical_words(Counts { recorded, unreadable, blank, of_spare, .. }: Counts) -> String {
+    let words = format!("{} readable, {} unreadable, {} blank", grouped(recorded), grouped(unreadable), grouped(blank));
+    match of_spare {
+        0 => words,
+        n => format!("{words}; {} more belong to spares", grouped(n)),
+    }
+}
+
+/// The blocks that have a sector of their own, by their states.
 fn blocks_json(blocks: Counts) -> [(&'static str, Json); 3] {
     [
         ("blocks_readable", Json::number(blocks.recorded)),
