@@ -44,6 +44,7 @@ ClearOriginals =
 
 -- ---- "Mapped packets there are to be accepted", "The copy rule changes by this much, table packets still stay outside"
 
+-- what is asked of mapped packets and originals, and of the packets of tables
 pub record CopyRule : Type 0 where
   -- where every mapped packet is outside the partition the rule is what it was: nothing else is asked of originals
   pub asBefore :
@@ -132,7 +133,7 @@ SameThroughout =
     → writeOnce e ≡ false → Follows e d t cs
     → (v : ℕ) → ofSpareOn e (final e (afterOpening e d t) cs .disc) v ≡ ofSpareOn e d v
 
--- what is claimed of a list that does not end in a cut, and of any block v
+-- what is claimed of a list of calls, and of any block v
 pub record GivesThirty (e : Setting) (d : Disc) (t : List ℕ) (cs : List Call) (v : ℕ) : Type 0 where
   -- one that belongs to a spare gives 30 in reading, saving and sparing, which are not cut, whatever cut they are given
   pub reads : ofSpareOn e d v ≡ true → v < e .span → (out : List ℕ) → length out ≡ 2048 → shownAfter e d t cs v out ≡ turned BelongsToSpare
@@ -151,6 +152,7 @@ pub record GivesThirty (e : Setting) (d : Disc) (t : List ℕ) (cs : List Call) 
   pub othersPacket : ofSpareOn e d v ≡ false → (x : List ℕ) (c : Cut) → answerAfter e d t cs (savePacket v x c) ≢ refused BelongsToSpare
   pub othersSpare : ofSpareOn e d v ≡ false → (x : List ℕ) (c : Cut) → answerAfter e d t cs (sparePacket v x c) ≢ refused BelongsToSpare
 
+-- so it is after every list that does not end in a cut
 unfoldable pub ThirtyThroughout : Type 0
 ThirtyThroughout =
     (e : Setting) (d : Disc) (t : List ℕ) (cs : List Call)

@@ -234,7 +234,8 @@ pub fn is_of_spare(table: &[u32], held: Record, s: u32, b: LogicalAddress) -> bo
     ensures { λ r. ⌜ r ≡ ofSpare s (entriesLent (now (table .entry)) held) (b .0) ⌝ }
 {
     let n = fields::usize_of_u32(count_held(held));
-    let place = address::sector_of(s, packet_of(b));
+    let first = packet_of(b);
+    let place = address::sector_of(s, first);
     !sparing_table::is_unmapped(table, n, place)
 }
 

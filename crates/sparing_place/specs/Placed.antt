@@ -19,11 +19,12 @@ pub record PlacedAs (v : Verdict) (p : ℕ) (r : Placed) : Type 0 where
   pub verdict : r .verdict ≡ v
   pub place : r .verdict ≡ Go → r .first .0 ≡ p
 
--- the verdict of a translation, and its sector
+-- the verdict of a translation
 unfoldable pub verdictOf : ToPhysical → Verdict
 verdictOf (ToPhysical.At p) = Go
 verdictOf (ToPhysical.Refused why) = Stop why
 
+-- its sector, 0 where there is none
 unfoldable pub sectorIn : ToPhysical → ℕ
 sectorIn (ToPhysical.At p) = p .0
 sectorIn (ToPhysical.Refused why) = 0
