@@ -9,12 +9,7 @@ const SECTOR: usize = 2048;
 /// A folder with a rewritable disc of 640 sectors: partition at 288, 128 sectors, three tables, and three spares, the first of them blocks
 /// 32 to 63 and the last blocks 96 to 127. Block 5 has `a block`.
 fn inside(name: &str) -> Folder {
-    let folder = Folder::new(name);
-    folder.does(&["make", "d.img", "--sectors", "640", "--tables", "0,32,64", "--spares", "320,96,384", "--length", "128"]);
-    folder.write("text", b"a block");
-    folder.write("packet", &[b'p'; 65_536]);
-    folder.does(&["save", "d.img", "5", "text"]);
-    folder
+    Folder::with_spares(name, "320,96,384", "128", "5")
 }
 
 /// Blocks of two spares, by the first of each, are refused by each call, and no file changes.

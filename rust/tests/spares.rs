@@ -15,12 +15,7 @@ const DEFECTIVE: [u8; 4] = 0xffff_fff0_u32.to_le_bytes();
 
 /// A folder with a rewritable disc of 640 sectors: partition at 288, 64 sectors, three tables, three spares; block 40 has `a block`.
 fn rewritable(name: &str) -> Folder {
-    let folder = Folder::new(name);
-    folder.does(&["make", "d.img", "--sectors", "640", "--tables", "0,32,64", "--spares", "96,128,160", "--length", "64"]);
-    folder.write("text", b"a block");
-    folder.write("packet", &[b'p'; 65_536]);
-    folder.does(&["save", "d.img", "40", "text"]);
-    folder
+    Folder::with_spares(name, "96,128,160", "64", "40")
 }
 
 /// Writes bytes into sparing tables of d.img, as another writer would: all its sectors are then recorded.

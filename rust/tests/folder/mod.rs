@@ -24,6 +24,17 @@ impl Folder {
         folder
     }
 
+    /// A folder with a rewritable disc `d.img` of 640 sectors, whose partition is at 288 and has so many, with three tables and these
+    /// spares. A block of it has `a block`, which is in the file `text`; the file `packet` has the bytes of a packet.
+    pub fn with_spares(name: &str, spares: &str, length: &str, block: &str) -> Folder {
+        let folder = Folder::new(name);
+        folder.does(&["make", "d.img", "--sectors", "640", "--tables", "0,32,64", "--spares", spares, "--length", length]);
+        folder.write("text", b"a block");
+        folder.write("packet", &[b'p'; 65_536]);
+        folder.does(&["save", "d.img", block, "text"]);
+        folder
+    }
+
     pub fn command(&self, words: &[&str]) -> Command {
         let mut command = Command::new(env!("CARGO_BIN_EXE_tuormik"));
         command.args(words).current_dir(&self.0).stdin(Stdio::null()).stdout(Stdio::piped()).stderr(Stdio::piped());
