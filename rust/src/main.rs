@@ -5,5 +5,5 @@ mod tool;
 use std::process::ExitCode;
 
 fn main() -> ExitCode {
-    ExitCode::from(tool::run(std::env::args_os().skip(1)))
+    ExitCode::from(tool::main())
 }

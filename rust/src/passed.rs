@@ -1,6 +1,6 @@
 //! What an opening passed over, where it may be a VAT.
 
-use crate::{Held, Record, RECORDED, SECTOR};
+use crate::{Held, Record, RECORDED, SECTOR, UNREADABLE};
 
 const FILE_ENTRY: [u8; 2] = 261u16.to_le_bytes();
 const EXTENDED_FILE_ENTRY: [u8; 2] = 266u16.to_le_bytes();
@@ -8,9 +8,10 @@ const FILE_TYPE_AT: usize = 27;
 /// The file type of a VAT, as CD UDF and UDF 1.50 have it, and as UDF 2.00 and later do.
 const VAT_FILE_TYPES: [u8; 2] = [0, 248];
 
-/// The logical blocks between the last VAT ICB and NWA that hold a File Entry of file type 0, as the ICB of a VAT is, or one as later
-/// versions of UDF have it: an Extended File Entry, or file type 248. Each may be a newer VAT that breaks a rule of document 01, and with
-/// it blocks that the table found does not name. A commit would end the disc with that older table, and on a CD-R it cannot be undone.
+/// The logical blocks between the last VAT ICB and NWA that may be a newer VAT. Each holds a File Entry of file type 0, as the ICB of a VAT
+/// is, or one as later versions of UDF have it, an Extended File Entry or file type 248, and breaks a rule of document 01; or it is
+/// unreadable, and may be anything. With it there may be blocks that the table found does not name. A commit would end the disc with that
+/// older table, and on a CD-R it cannot be undone.
 pub fn possible_icbs(bytes: &[u8], marks: &[u8], start: u32, record: Record) -> Vec<u32> {
     let Held::WriteOnce { next, last, .. } = record.held else {
         return Vec::new();
@@ -18,7 +19,11 @@ pub fn possible_icbs(bytes: &[u8], marks: &[u8], start: u32, record: Record) -> 
     let is_possible = |&block: &u32| {
         let at = start as usize + block as usize;
         let sector = bytes.get(SECTOR * at..).and_then(|rest| rest.get(..SECTOR));
-        marks.get(at) == Some(&RECORDED) && sector.is_some_and(may_be_icb)
+        match marks.get(at) {
+            Some(&RECORDED) => sector.is_some_and(may_be_icb),
+            Some(&UNREADABLE) => true,
+            _ => false,
+        }
     };
     (last.saturating_add(1)..next).filter(is_possible).collect()
 }
@@ -30,10 +35,10 @@ fn may_be_icb(sector: &[u8]) -> bool {
 #[cfg(test)]
 mod tests {
     use super::*;
-    use crate::{BLANK, UNREADABLE};
+    use crate::BLANK;
 
     #[test]
-    fn file_entries_of_type_0_are_named() {
+    fn file_entries_of_type_0_and_unreadable_blocks_are_named() {
         let mut bytes = vec![0; 9 * SECTOR];
         for at in [1, 3, 4, 5, 6, 8] {
             bytes[SECTOR * at..][..2].copy_from_slice(&FILE_ENTRY);
@@ -41,11 +46,11 @@ mod tests {
         bytes[SECTOR * 4 + FILE_TYPE_AT] = 5;
         let marks = [1, 1, 1, 1, 1, UNREADABLE, RECORDED, RECORDED, BLANK];
         let record = Record { held: Held::WriteOnce { entries: 0, next: 7, last: 1 }, passed_over: 5 };
-        assert_eq!(possible_icbs(&bytes, &marks, 1, record), [2, 5]);
+        assert_eq!(possible_icbs(&bytes, &marks, 1, record), [2, 4, 5]);
         // as UDF 2.01 has them
         bytes[SECTOR * 7..][..2].copy_from_slice(&EXTENDED_FILE_ENTRY);
         bytes[SECTOR * 7 + FILE_TYPE_AT] = 248;
-        assert_eq!(possible_icbs(&bytes, &marks, 1, record), [2, 5, 6]);
+        assert_eq!(possible_icbs(&bytes, &marks, 1, record), [2, 4, 5, 6]);
         assert_eq!(possible_icbs(&bytes, &marks, u32::MAX, record), []);
         let record = Record { held: Held::Rewritable { entries: 0, sequence: 0 }, passed_over: 0 };
         assert_eq!(possible_icbs(&bytes, &marks, 1, record), []);

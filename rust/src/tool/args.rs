@@ -1,39 +1,18 @@
-//! The words of a command line.
+//! The words of a command line, as its command takes them.
 
-use super::media::{layout, Layout, START};
-use super::{refused, words, Failure};
-use std::ffi::OsString;
+use super::entry::{nearest, Entry, SHORT};
+use super::{words, Failure, ENTRIES};
+use std::ffi::{OsStr, OsString};
 use std::path::{Path, PathBuf};
-use tuormik::descriptors::{find_volume, Volume};
-use tuormik::{write_maps, Cut, Effect, Maps};
+use tuormik::{Cut, Effect};
 
 /// A command's words: those in their places, and the options.
 #[derive(Default)]
 pub struct Args {
     words: Vec<OsString>,
     next: usize,
-    options: Vec<(String, Option<OsString>)>,
+    options: Vec<(&'static str, Vec<OsString>)>,
 }
-
-/// Options that take no value.
-pub const FLAGS: [&str; 10] =
-    ["--help", "--hex", "--json", "--no-commit", "--packet", "--all", "--write-once", "--zeros", "--force", "--no-descriptors"];
-/// Options that take one.
-pub const VALUES: [&str; 13] = [
-    "--marks",
-    "--start",
-    "--length",
-    "--maps",
-    "--tables",
-    "--table-bytes",
-    "--partition",
-    "--spares",
-    "--sectors",
-    "--cut",
-    "--output",
-    "--at",
-    "--media",
-];
 
 /// What becomes of a write at which the power fails, with its words.
 pub const EFFECTS: [(Effect, &str); 3] = [(Effect::Old, "old"), (Effect::Unreadable, "unreadable"), (Effect::Whole, "whole")];
@@ -42,57 +21,80 @@ fn usage(words: String) -> Failure {
     Failure::Usage(words)
 }
 
+/// Why an option is not taken.
+fn no_option(entry: &Entry, name: &str) -> Failure {
+    let is_elsewhere = ENTRIES.iter().any(|other| other.taken().any(|choice| choice.name == name));
+    if is_elsewhere {
+        return usage(format!("{} has no option {name}", entry.name));
+    }
+    let near = nearest(name, entry.taken().map(|choice| choice.name)).map_or(String::new(), |near| format!("; the nearest is {near}"));
+    usage(format!("there is no option {name}{near}"))
+}
+
 impl Args {
-    pub fn new(words: impl Iterator<Item = OsString>) -> Result<Args, Failure> {
+    /// Takes the words that stand after a command's name apart.
+    pub fn new(entry: &'static Entry, words: impl IntoIterator<Item = OsString>) -> Result<Args, Failure> {
         let mut args = Args::default();
-        let mut words = words;
-        let mut only_words = false;
+        let mut words = words.into_iter();
         while let Some(word) = words.next() {
             let name = word.to_string_lossy().into_owned();
-            if only_words || !name.starts_with('-') || name == "-" {
+            if name == "--" {
+                args.words.extend(words.by_ref());
+            } else if !name.starts_with('-') || name == "-" {
                 args.words.push(word);
-            } else if name == "--" {
-                only_words = true;
-            } else if name == "-h" || FLAGS.contains(&name.as_str()) {
-                args.options.push((if name == "-h" { "--help".into() } else { name }, None));
-            } else if let Some((option, value)) = name.split_once('=').filter(|(option, _)| VALUES.contains(option)) {
-                args.options.push((option.to_string(), Some(value.into())));
-            } else if name == "-o" || VALUES.contains(&name.as_str()) {
-                let value = words.next().ok_or_else(|| usage(format!("{name} needs a value")))?;
-                args.options.push((if name == "-o" { "--output".into() } else { name }, Some(value)));
             } else {
-                return Err(usage(format!("there is no option {name}")));
+                args.take(entry, &name, &mut words)?;
             }
         }
         Ok(args)
     }
 
-    pub fn has(&self, flag: &str) -> bool {
-        self.options.iter().any(|(name, _)| name == flag)
-    }
-
-    fn value(&self, option: &str) -> Option<&OsString> {
-        self.options.iter().rev().find(|(name, _)| name == option).and_then(|(_, value)| value.as_ref())
-    }
-
-    pub fn path(&self, option: &str) -> Option<&Path> {
-        self.value(option).map(Path::new)
-    }
-
-    /// The options given must be among those that a command knows.
-    pub fn only(&self, known: &[&str]) -> Result<(), Failure> {
-        match self.options.iter().find(|(name, _)| name != "--help" && !known.contains(&name.as_str())) {
-            Some((name, _)) => Err(usage(format!("this command has no option {name}"))),
-            None => Ok(()),
+    /// Takes an option with its values, of which one may stand behind an equals sign.
+    fn take(&mut self, entry: &'static Entry, name: &str, words: &mut impl Iterator<Item = OsString>) -> Result<(), Failure> {
+        let (name, first) = name.split_once('=').map_or((name, None), |(name, value)| (name, Some(OsString::from(value))));
+        let name = SHORT.iter().find(|(short, _)| *short == name).map_or(name, |(_, long)| long);
+        if name == "--help" {
+            self.options.push(("--help", Vec::new()));
+            return Ok(());
+        }
+        let choice = entry.taken().find(|choice| choice.name == name).ok_or_else(|| no_option(entry, name))?;
+        if first.is_some() && choice.values.len() != 1 {
+            return Err(usage(format!("{name} does not take a value behind an equals sign")));
+        }
+        let values: Vec<OsString> = first.into_iter().chain(words).take(choice.values.len()).collect();
+        match choice.values.get(values.len()) {
+            Some(missing) => Err(usage(format!("{name} needs {missing}"))),
+            None => {
+                self.options.push((choice.name, values));
+                Ok(())
+            }
         }
     }
 
-    pub fn number(&self, option: &str) -> Result<Option<u32>, Failure> {
+    pub fn has(&self, option: &str) -> bool {
+        self.options.iter().any(|(name, _)| *name == option)
+    }
+
+    /// The values of an option, each time that it was given.
+    pub fn all(&self, option: &'static str) -> impl Iterator<Item = &[OsString]> {
+        self.options.iter().filter(move |(name, _)| *name == option).map(|(_, values)| &values[..])
+    }
+
+    /// The value of an option; one that is given twice has the last.
+    pub fn value(&self, option: &'static str) -> Option<&OsStr> {
+        self.all(option).last().and_then(|values| values.first()).map(OsString::as_os_str)
+    }
+
+    pub fn path(&self, option: &'static str) -> Option<&Path> {
+        self.value(option).map(Path::new)
+    }
+
+    pub fn number(&self, option: &'static str) -> Result<Option<u32>, Failure> {
         self.value(option).map(|word| number(&word.to_string_lossy(), option)).transpose()
     }
 
     /// Numbers with commas between them.
-    pub fn numbers(&self, option: &str) -> Result<Option<Vec<u32>>, Failure> {
+    pub fn numbers(&self, option: &'static str) -> Result<Option<Vec<u32>>, Failure> {
         let Some(words) = self.value(option) else {
             return Ok(None);
         };
@@ -108,11 +110,17 @@ impl Args {
     }
 
     pub fn next_path(&mut self, what: &str) -> Result<PathBuf, Failure> {
-        self.next_word().map(PathBuf::from).ok_or_else(|| usage(format!("{what} is missing")))
+        self.next_word().map(PathBuf::from).ok_or_else(|| missing(what))
+    }
+
+    /// A path, and all that follow it.
+    pub fn next_paths(&mut self, what: &str) -> Result<Vec<PathBuf>, Failure> {
+        let first = self.next_path(what)?;
+        Ok(std::iter::once(first).chain(std::iter::from_fn(|| self.next_word().map(PathBuf::from))).collect())
     }
 
     pub fn next_number(&mut self, what: &str) -> Result<u32, Failure> {
-        let word = self.next_word().ok_or_else(|| usage(format!("{what} is missing")))?;
+        let word = self.next_word().ok_or_else(|| missing(what))?;
         number(&word.to_string_lossy(), what)
     }
 
@@ -134,65 +142,14 @@ impl Args {
         let (effect, _) = effect.ok_or_else(|| usage(format!("--cut {word}: a write becomes old, unreadable or whole")))?;
         Ok(Cut::at(number(at, "--cut")?, *effect))
     }
-
-    /// The map list that the options give: a file, or the kind.
-    fn maps(&self) -> Result<Option<Vec<u8>>, Failure> {
-        if let Some(path) = self.path("--maps") {
-            return std::fs::read(path).map(Some).map_err(|e| Failure::file(path, &e));
-        }
-        match (self.has("--write-once"), self.numbers("--tables")?) {
-            (true, Some(_)) => Err(usage("--write-once and --tables are of different kinds".into())),
-            (false, None) => Ok(None),
-            (_, tables) => self.maps_of(tables).map(Some),
-        }
-    }
-
-    /// The map list of a rewritable volume with tables, or of a write-once one.
-    fn maps_of(&self, tables: Option<Vec<u32>>) -> Result<Vec<u8>, Failure> {
-        let partition = self.number("--partition")?.unwrap_or(0);
-        let partition =
-            u16::try_from(partition).map_err(|_| usage(format!("--partition {} is above 65,535", words::grouped(partition))))?;
-        let table_bytes = self.number("--table-bytes")?.unwrap_or(2048);
-        let maps = match tables {
-            Some(tables) => Maps::Rewritable { partition, table_bytes, tables },
-            None => Maps::WriteOnce { partition },
-        };
-        write_maps(&maps).map_err(|error| refused::by_maps(&maps, error))
-    }
-
-    /// Where everything is on a disc to be made, with its map list: as the medium has it, or as the options give it.
-    pub fn layout(&self) -> Result<(Layout, Vec<u8>), Failure> {
-        let sectors = self.number("--sectors")?;
-        if let Some(medium) = self.value("--media") {
-            let own = ["--write-once", "--tables", "--table-bytes", "--start", "--length", "--spares", "--maps"];
-            if let Some(option) = own.iter().find(|option| self.has(option)) {
-                return Err(usage(format!("--media gives a disc all but its number of sectors, so {option} does not go with it")));
-            }
-            let layout = layout(&medium.to_string_lossy(), sectors)?;
-            let maps = self.maps_of(layout.tables.clone())?;
-            return Ok((layout, maps));
-        }
-        let sectors = sectors.ok_or_else(|| usage("how many sectors? --sectors N, or --media cdr or cdrw".into()))?;
-        let start = self.number("--start")?.unwrap_or(START);
-        let length = self.number("--length")?.unwrap_or(sectors.saturating_sub(start));
-        let (tables, spares) = (self.numbers("--tables")?, self.numbers("--spares")?.unwrap_or_default());
-        let maps = self.maps()?.ok_or_else(|| usage("which kind? --write-once, --tables T,.., --maps FILE or --media".into()))?;
-        Ok((Layout { sectors, start, length, tables, spares }, maps))
-    }
-
-    /// The volume: what the options give, and for the rest what the image's descriptors tell.
-    pub fn volume(&self, image: &[u8]) -> Result<Volume, Failure> {
-        let (maps, start, length) = (self.maps()?, self.number("--start")?, self.number("--length")?);
-        if let (Some(maps), Some(start), Some(length)) = (&maps, start, length) {
-            return Ok(Volume { maps: maps.clone(), start, length });
-        }
-        let found = find_volume(image).map_err(|why| {
-            usage(format!("{why}; give the volume by hand: --start S --length L and --write-once, --tables T,.. or --maps FILE"))
-        })?;
-        Ok(Volume { maps: maps.unwrap_or(found.maps), start: start.unwrap_or(found.start), length: length.unwrap_or(found.length) })
-    }
 }
 
-fn number(word: &str, what: &str) -> Result<u32, Failure> {
+/// That a word of the command line is not there.
+pub fn missing(what: &str) -> Failure {
+    usage(format!("{what} is missing"))
+}
+
+/// A number of a command line.
+pub fn number(word: &str, what: &str) -> Result<u32, Failure> {
     words::number(word).ok_or_else(|| usage(format!("{what}: {word} is no number from 0 to 4,294,967,295")))
 }

@@ -1,12 +1,14 @@
 //! A disc opened, as it is now or as a commit of the past left it, and the chain of its commits.
 
+use super::output::Outputs;
+use super::passed::Passed;
 use super::progress::{Progress, Waiting};
 use super::refused::{self, Asked};
 use super::states::{Block, View};
 use super::words::{counted, grouped, joined};
 use super::Failure;
 use tuormik::image::Image;
-use tuormik::{read_maps, DiscRef, Error, Held, Maps, Open, OpenRef, Record, Refusal, SECTOR};
+use tuormik::{read_maps, Cut, DiscRef, Error, Held, Maps, Open, OpenRef, Record, Refusal, SECTOR};
 
 /// Opens a disc; a line tells of an opening that takes longer than a second.
 fn open_patiently(disc: DiscRef<'_>) -> Result<OpenRef<'_>, Error> {
@@ -20,24 +22,47 @@ pub fn open(image: &Image) -> Result<OpenRef<'_>, Failure> {
     open_patiently(disc).map_err(|error| refused::by_opening(disc, error))
 }
 
-/// Opens it to write it.
-pub fn open_to_write(image: &mut Image) -> Result<Open<'_>, Failure> {
+/// Opens it and says what was passed over.
+pub fn open_and_tell<'a>(image: &'a Image, out: &mut Outputs) -> Result<OpenRef<'a>, Failure> {
     let open = open(image)?;
+    Passed::new((&open).into(), image.file_sectors()).warn(out);
+    Ok(open)
+}
+
+/// Opens it to write it, and says what was passed over. Where a newer VAT may be among that, only who insists goes on.
+pub fn open_to_write<'a>(image: &'a mut Image, is_forced: bool, out: &mut Outputs) -> Result<Open<'a>, Failure> {
+    let open = open(image)?;
+    Passed::new((&open).into(), image.file_sectors()).need_force(is_forced, out)?;
     let (table, record) = (open.table().to_vec(), open.record());
     Ok(Open::resume(image.disc(), &table, record))
 }
 
+/// Commits, and says what the disc has come to.
+pub fn commit_and_tell(open: &mut Open, cut: Cut) -> Result<String, Failure> {
+    open.commit_cut(cut).map_err(|error| refused::by_call(&*open, Asked::Commit, error))?;
+    Ok(match open.record().held {
+        Held::WriteOnce { entries, next, last } => {
+            format!("committed: N {}, NWA {}, last ICB {}", grouped(entries), grouped(next), grouped(last))
+        }
+        _ => String::new(),
+    })
+}
+
 /// Opens a disc as the commit left it whose VAT ICB is at a logical block, or as it is where none is named.
-pub fn open_at(image: &Image, icb: Option<u32>) -> Result<OpenRef<'_>, Failure> {
+pub fn open_at<'a>(image: &'a Image, icb: Option<u32>, out: &mut Outputs) -> Result<OpenRef<'a>, Failure> {
     let Some(icb) = icb else {
-        return open(image);
+        return open_and_tell(image, out);
     };
     let found = chain(image)?;
     if !found.iter().any(|commit| commit.icb == icb) {
         return Err(no_commit(&found, icb));
     }
-    // all above the ICB is out of the partition, so the ICB is its last sector
-    let disc = DiscRef { length: icb + 1, ..image.to_read() };
+    open_as_of(image, icb)
+}
+
+/// Opens a disc as of the commit whose VAT ICB is at a logical block: all above it is out of the partition, so it is its last sector.
+pub fn open_as_of(image: &Image, icb: u32) -> Result<OpenRef<'_>, Failure> {
+    let disc = DiscRef { length: icb.saturating_add(1), ..image.to_read() };
     open_patiently(disc).map_err(|error| refused::by_opening(disc, error))
 }
 
@@ -47,7 +72,7 @@ fn no_commit(found: &[Commit], icb: u32) -> Failure {
     if found.len() > MOST {
         places.push(format!("{} more", grouped(found.len() - MOST)));
     }
-    Failure::Usage(format!(
+    Failure::File(format!(
         "no commit has its VAT ICB at block {}: the disc has {}, at {}",
         grouped(icb),
         counted(found.len(), "commit"),

@@ -1,11 +1,12 @@
 //! The power cut at every sector write of a commit, of a sparing, and of a second sparing of the same packet, on discs in memory.
 
 use super::args::{Args, EFFECTS};
+use super::entry::Entry;
+use super::output::Outputs;
 use super::refused::{self, Asked};
 use super::room::commit_sectors;
 use super::words::grouped;
 use super::{Done, Failure};
-use std::io::Write;
 use tuormik::{write_maps, Cut, Disc, Effect, Error, Maps, Open, BLANK, DEFECTIVE, NONE, PACKET, SECTOR};
 
 /// A disc in memory.
@@ -36,7 +37,7 @@ impl Memory {
 
     /// What a disc here is turned down by has no words of its own: each is made to be opened.
     fn open(&mut self) -> Result<Open<'_>, Failure> {
-        self.disc().open().map_err(|error| Failure::Usage(error.to_string()))
+        self.disc().open().map_err(|error| Failure::File(error.to_string()))
     }
 }
 
@@ -50,23 +51,38 @@ fn block(v: u32, version: u32) -> [u8; SECTOR] {
     bytes
 }
 
-pub fn demo(args: &mut Args, out: &mut dyn Write) -> Done {
-    args.only(&[])?;
+pub const ENTRY: Entry = Entry {
+    name: "demo",
+    line: "the power cut at every write of a commit and of two sparings",
+    usage: &[""],
+    about: "\
+Makes discs in memory, cuts the power at every sector write of a commit, of a sparing, and of a second sparing of the same packet in \
+turn, with each effect, opens the disc again and reads every block. Writes that came to the same are told in one line. Of the \
+write-once disc it tells how many sectors opening passed over, and how many sector writes were begun since the last whole VAT ICB; of \
+the rewritable one where the packet is. A sparing is done exactly if a new copy of the sparing table is whole.
+",
+    choices: &[],
+    takes_volume: false,
+    writes: None,
+    run: demo,
+};
+
+fn demo(args: &mut Args, out: &mut Outputs) -> Done {
     args.end()?;
     let committed = commit_demo(out)?;
-    writeln!(out)?;
+    out.line("");
     let spared = sparing_demo(out)?;
-    writeln!(out)?;
+    out.line("");
     let spared_again = second_sparing_demo(out)?;
-    writeln!(out)?;
+    out.line("");
     let all = [committed, spared, spared_again];
     if let Some(words) = all.iter().find_map(Came::fault) {
-        return Err(Failure::Usage(words.into()));
+        return Err(Failure::File(words.into()));
     }
     let cuts: usize = all.iter().map(|came| came.cuts).sum();
-    writeln!(out, "{} cuts. Every block was found again after every cut.", grouped(cuts))?;
-    writeln!(out, "A sparing was done exactly if a new copy of the sparing table was whole.")?;
-    writeln!(out, "No opening passed over more sectors than writes were begun since the last whole VAT ICB.")?;
+    out.line(format_args!("{} cuts. Every block was found again after every cut.", grouped(cuts)));
+    out.line(format_args!("A sparing was done exactly if a new copy of the sparing table was whole."));
+    out.line(format_args!("No opening passed over more sectors than writes were begun since the last whole VAT ICB."));
     Ok(())
 }
 
@@ -133,7 +149,7 @@ fn every_cut(mut call: impl FnMut(Cut) -> Result<(Result<(), Error>, Found), Fai
 
 /// Tells the cuts, writes that came to the same in one line, and whether each came to the version that it has to: 2 where the deciding
 /// write is whole, 1 before.
-fn tell(out: &mut dyn Write, call: &str, all: &[Tried], deciding: u32) -> Result<Came, Failure> {
+fn tell(out: &mut Outputs, call: &str, all: &[Tried], deciding: u32) -> Came {
     let decided = |tried: &Tried| tried.cut.is_none_or(|(cut, _)| is_whole(deciding, cut));
     let are_found = all.iter().all(|tried| tried.found.version == Some(if decided(tried) { 2 } else { 1 }));
     let is_bounded = all.iter().all(|tried| tried.found.passed_over <= tried.found.begun);
@@ -149,14 +165,14 @@ fn tell(out: &mut dyn Write, call: &str, all: &[Tried], deciding: u32) -> Result
             } else {
                 format!("the power fails at each of writes {first} to {last}, which becomes {becomes}")
             };
-            writeln!(out, "  {what:<72} opened: {}", tried.found.words)?;
+            out.line(format_args!("  {what:<72} opened: {}", tried.found.words));
         }
         first = last + 1;
     }
     for tried in done {
-        writeln!(out, "  {:<72} opened: {}", format!("no cut: the {call} was done"), tried.found.words)?;
+        out.line(format_args!("  {:<72} opened: {}", format!("no cut: the {call} was done"), tried.found.words));
     }
-    Ok(Came { are_found, is_bounded, cuts: cuts.len() })
+    Came { are_found, is_bounded, cuts: cuts.len() }
 }
 
 /// What an answer other than done and cut is.
@@ -172,7 +188,7 @@ fn version_of(open: &Open, blocks: std::ops::Range<u32>) -> Option<u32> {
     [2, 1].into_iter().find(|&version| blocks.clone().all(|v| open.read(v).is_ok_and(|bytes| bytes == block(v, version))))
 }
 
-fn commit_demo(out: &mut dyn Write) -> Result<Came, Failure> {
+fn commit_demo(out: &mut Outputs) -> Result<Came, Failure> {
     const COUNT: u32 = 600;
     let mut memory = Memory::new(1600, 32, 1500, &Maps::WriteOnce { partition: 0 })?;
     memory.make(&[])?;
@@ -213,11 +229,8 @@ fn commit_demo(out: &mut dyn Write) -> Result<Came, Failure> {
         };
         Ok((answer, Found { version, passed_over, begun, words }))
     })?;
-    writeln!(
-        out,
-        "A write-once disc: {COUNT} blocks saved and committed. Then each is saved again, and the commit of these, {writes} writes, is cut."
-    )?;
-    tell(out, "commit", &all, writes)
+    out.line(format_args!("A write-once disc: {COUNT} blocks saved and committed. Then each is saved again, and the commit of these, {writes} writes, is cut."));
+    Ok(tell(out, "commit", &all, writes))
 }
 
 fn packet(b: u32, version: u32) -> Vec<u8> {
@@ -302,18 +315,17 @@ fn spare_with_cuts(memory: &Memory, places: [Place; 2]) -> Result<Vec<Tried>, Fa
 /// A table of the new sequence is whole from the write after the packet's on.
 const TABLE_WRITE: u32 = PACKET as u32 + 1;
 
-fn sparing_demo(out: &mut dyn Write) -> Result<Came, Failure> {
+fn sparing_demo(out: &mut Outputs) -> Result<Came, Failure> {
     let all = spare_with_cuts(&rewritable()?, [Place::Own, Place::FirstSpare])?;
     let writes = all.len() / EFFECTS.len();
-    writeln!(
-        out,
+    out.line(format_args!(
         "A rewritable disc: {LENGTH} blocks, three sparing tables, two spares. The packet of block {SPARED} is spared, and the sparing, \
          {writes} writes, is cut."
-    )?;
-    tell(out, "sparing", &all, TABLE_WRITE)
+    ));
+    Ok(tell(out, "sparing", &all, TABLE_WRITE))
 }
 
-fn second_sparing_demo(out: &mut dyn Write) -> Result<Came, Failure> {
+fn second_sparing_demo(out: &mut Outputs) -> Result<Came, Failure> {
     let mut memory = rewritable()?;
     let mut open = memory.open()?;
     let bytes = packet(SPARED, 1);
@@ -322,11 +334,10 @@ fn second_sparing_demo(out: &mut dyn Write) -> Result<Came, Failure> {
     let _ = open.close();
     let all = spare_with_cuts(&memory, [Place::FirstSpare, Place::SecondSpare])?;
     let writes = all.len() / EFFECTS.len();
-    writeln!(
-        out,
+    out.line(format_args!(
         "The same disc, and the packet of block {SPARED} is spared already. It is spared again, and this sparing, {writes} writes, is cut."
-    )?;
-    tell(out, "second sparing", &all, TABLE_WRITE)
+    ));
+    Ok(tell(out, "second sparing", &all, TABLE_WRITE))
 }
 
 #[cfg(test)]
@@ -341,7 +352,7 @@ mod tests {
             found: Found { version: Some(version), passed_over, begun, words: String::new() },
         };
         let all: Vec<Tried> = cuts.zip(found).map(tried).collect();
-        let Ok(came) = tell(&mut Vec::new(), "commit", &all, 1) else { panic!("nothing is written to a file") };
+        let came = tell(&mut Outputs::new(Vec::new(), Vec::new()), "commit", &all, 1);
         assert_eq!(came.cuts, 3);
         came.fault()
     }

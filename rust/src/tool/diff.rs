@@ -1,13 +1,14 @@
 //! Two discs held against each other, block by block.
 
-use super::args::Args;
-use super::commands::{known, load};
+use super::args::{missing, Args};
+use super::entry::Entry;
+use super::images::load;
+use super::output::Outputs;
 use super::progress::Progress;
 use super::states::{State, View};
 use super::words::{counted, from_to, number, parts};
 use super::{commits, Done, Failure};
 use std::ffi::OsString;
-use std::io::Write;
 use std::path::PathBuf;
 use tuormik::{OpenRef, SECTOR};
 
@@ -68,21 +69,37 @@ fn split(word: OsString) -> (PathBuf, Option<u32>) {
     }
 }
 
-pub fn diff(args: &mut Args, out: &mut dyn Write) -> Done {
-    known(args, &[])?;
+pub const ENTRY: Entry = Entry {
+    name: "diff",
+    line: "which blocks of two discs differ",
+    usage: &["A B"],
+    about: "\
+Holds the blocks of two images against each other, by their numbers, and tells which differ, appeared (in B alone) or went (in A \
+alone), which are blank (never recorded) or of a spare in one of them, and which cannot be read. Blocks that are blank in both are \
+alike; those of a spare in both are counted apart, and are no difference. A and B are images, or IMAGE@ICB for the disc as the commit \
+left it whose VAT ICB is at that logical block. The status is 0 where nothing differs and 1 where something does. A volume given by \
+hand is that of both; --marks does not go with two images.
+",
+    choices: &[],
+    takes_volume: true,
+    writes: None,
+    run: diff,
+};
+
+fn diff(args: &mut Args, out: &mut Outputs) -> Done {
     if args.has("--marks") {
         return Err(Failure::Usage("--marks goes with one image, and these are two".into()));
     }
-    let mut word = |what: &str| args.next_word().ok_or_else(|| Failure::Usage(format!("{what} is missing")));
+    let mut word = |what: &str| args.next_word().ok_or_else(|| missing(what));
     let ((first, first_at), (second, second_at)) = (split(word("A")?), split(word("B")?));
     args.end()?;
     let (a, b) = (load(args, &first)?, load(args, &second)?);
-    let (a, b) = (commits::open_at(&a, first_at)?, commits::open_at(&b, second_at)?);
+    let (a, b) = (commits::open_at(&a, first_at, out)?, commits::open_at(&b, second_at, out)?);
     if View::from(&a).is_write_once() != View::from(&b).is_write_once() {
-        return Err(Failure::Usage("one disc is write-once and the other rewritable: their blocks are not the same ones".into()));
+        return Err(Failure::File("one disc is write-once and the other rewritable: their blocks are not the same ones".into()));
     }
     let changes = changes(&a, &b)?;
-    tell(&changes, out)?;
+    tell(&changes, out);
     Failure::told(u8::from(changes.iter().any(|&change| !change.is_none())))
 }
 
@@ -119,12 +136,12 @@ fn changes(a: &OpenRef, b: &OpenRef) -> Result<Vec<Change>, Failure> {
 }
 
 /// A line for blocks that follow each other and have the same change, and the counts.
-fn tell(changes: &[Change], out: &mut dyn Write) -> Done {
+fn tell(changes: &[Change], out: &mut Outputs) {
     let mut first = 0;
     for run in changes.chunk_by(|a, b| a == b) {
         if let Some((_, one, several, _)) = TOLD.iter().find(|told| told.0 == run[0]) {
             let words = if run.len() == 1 { one } else { several };
-            writeln!(out, "{} {words}", from_to(first, first + run.len() - 1, "block"))?;
+            out.line(format_args!("{} {words}", from_to(first, first + run.len() - 1, "block")));
         }
         first += run.len();
     }
@@ -132,8 +149,7 @@ fn tell(changes: &[Change], out: &mut dyn Write) -> Done {
     let mut counts = vec![(count(Change::Alike), "alike"), (count(Change::OfSpareInBoth), "of spares in both")];
     counts.extend(TOLD.iter().map(|(change, _, _, words)| (count(*change), *words)));
     match changes.len() {
-        0 => writeln!(out, "neither disc has blocks")?,
-        n => writeln!(out, "{}: {}", counted(n, "block"), parts(&counts))?,
+        0 => out.line("neither disc has blocks"),
+        n => out.line(format_args!("{}: {}", counted(n, "block"), parts(&counts))),
     }
-    Ok(())
 }

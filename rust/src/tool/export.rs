@@ -1,7 +1,9 @@
 //! All blocks of a disc, as a commit left it, as files of a folder, with a list.
 
 use super::args::Args;
-use super::commands::{known, load};
+use super::entry::{Entry, AT};
+use super::images::load;
+use super::output::Outputs;
 use super::progress::Progress;
 use super::states::{Block, Counts, View};
 use super::words::{counted, grouped, parts};
@@ -12,14 +14,28 @@ use std::path::Path;
 
 const LIST: &str = "list.csv";
 
-pub fn export(args: &mut Args, out: &mut dyn Write) -> Done {
-    known(args, &["--at"])?;
+pub const ENTRY: Entry = Entry {
+    name: "export",
+    line: "all blocks, as files of a folder",
+    usage: &["IMAGE FOLDER [--at ICB]"],
+    about: "\
+Writes each block as a file into FOLDER, which must be empty or not there yet, and a list, list.csv, with each block's number, its \
+logical block, its sector, its state and its file. Blocks that are unused, unreadable, blank (never recorded) or of a spare are listed \
+and skipped. The list is written last: an export that was stopped leaves none.
+",
+    choices: &[AT],
+    takes_volume: true,
+    writes: None,
+    run: export,
+};
+
+fn export(args: &mut Args, out: &mut Outputs) -> Done {
     let path = args.next_path("IMAGE")?;
     let folder = args.next_path("FOLDER")?;
     args.end()?;
     let at = args.number("--at")?;
     let image = load(args, &path)?;
-    let open = commits::open_at(&image, at)?;
+    let open = commits::open_at(&image, at, out)?;
     let view = View::from(&open);
     make_folder(&folder)?;
     let count = view.count() as usize;
@@ -47,7 +63,7 @@ pub fn export(args: &mut Args, out: &mut dyn Write) -> Done {
     ]);
     let also = if skipped.is_empty() { String::new() } else { format!("; skipped: {skipped}") };
     let read = grouped(counts.recorded);
-    writeln!(out, "exported {read} of {} to {}{also}; {LIST} lists all", counted(count, "block"), folder.display())?;
+    out.line(format_args!("exported {read} of {} to {}{also}; {LIST} lists all", counted(count, "block"), folder.display()));
     Ok(())
 }
 
@@ -72,7 +88,7 @@ fn make_folder(folder: &Path) -> Done {
     match fs::create_dir(folder) {
         Err(e) if e.kind() == std::io::ErrorKind::AlreadyExists => {
             if fs::read_dir(folder).map_err(file)?.next().is_some() {
-                return Err(Failure::Usage(format!("{}: the folder is not empty, and nothing in it is replaced", folder.display())));
+                return Err(Failure::File(format!("{}: the folder is not empty, and nothing in it is replaced", folder.display())));
             }
             Ok(())
         }

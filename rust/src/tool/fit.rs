@@ -1,16 +1,16 @@
 //! Whether saves and commits fit on a write-once disc, asked before they are made (document 02, slip 9).
 
 use super::args::Args;
-use super::commands::{known, load_next};
 use super::commits;
-use super::passed::Passed;
+use super::entry::Entry;
+use super::images::load_next;
+use super::output::Outputs;
 use super::refused::{self, Asked};
 use super::room::{commit_sectors, new_blocks};
 use super::states::View;
 use super::summary::room_words;
 use super::words::{counted, grouped, joined, number};
 use super::{Done, Failure};
-use std::io::Write;
 use tuormik::{Error, Forecast, Held, Record, Refusal, COMMIT, MOST_ENTRIES};
 
 /// The item that a call is in a list to be forecast. A block number that would be a commit there is outside as it is.
@@ -79,23 +79,41 @@ impl Calls {
     }
 }
 
-pub fn fit(args: &mut Args, out: &mut dyn Write) -> Done {
-    known(args, &[])?;
+pub const ENTRY: Entry = Entry {
+    name: "fit",
+    line: "whether saves and commits fit, before they are made",
+    usage: &["IMAGE ITEM.."],
+    about: "\
+Tells whether a list of saves and commits fits on a write-once disc, in this order, and what it takes and leaves; the image is only \
+read. Where it does not fit the message names the first item that would be refused, counted from 0, and why. Each ITEM is
+  NUMBER               a save of that block
+  new                  a save of a new block; 'new*40', in quotes for the shell, stands for 40 of them
+  commit               a commit
+It is the forecast of a run in which the power does not fail. That the bytes of a block would pass as a VAT ICB (01, line 15) is not \
+foreseen.
+",
+    choices: &[],
+    takes_volume: true,
+    writes: None,
+    run: fit,
+};
+
+fn fit(args: &mut Args, out: &mut Outputs) -> Done {
     let image = load_next(args)?;
     let words: Vec<String> = std::iter::from_fn(|| args.next_word()).map(|word| word.to_string_lossy().into_owned()).collect();
     if words.is_empty() {
         return Err(Failure::Usage("ITEM is missing: a block number, new, new*COUNT or commit".into()));
     }
-    let open = commits::open(&image)?;
+    let open = commits::open_and_tell(&image, out)?;
     let view = View::from(&open);
     let mut list = Calls { calls: Vec::new(), entries: view.record.entries() };
     words.iter().try_for_each(|word| list.add(word))?;
     let calls = list.calls;
     match ask(view, |items| open.forecast(items), &calls)? {
         Told::Fits { next, entries } => {
-            writeln!(out, "{}", takes_words(view, &calls, next))?;
-            out.write_all(leaves_words(view, &calls, next, entries).as_bytes())?;
-            Passed::new(view).warn(out)
+            out.line(takes_words(view, &calls, next));
+            out.text(leaves_words(view, &calls, next, entries));
+            Ok(())
         }
         Told::Stops { index, words, why } => {
             let call = match calls[index] {
@@ -107,7 +125,7 @@ pub fn fit(args: &mut Args, out: &mut dyn Write) -> Done {
                 1 => ", after the one before it".to_string(),
                 n => format!(", after the {} before it", grouped(n)),
             };
-            Err(Failure::Refused(format!("item {} ({call}){after}: {words}", grouped(index + 1)), why))
+            Err(Failure::Refused(format!("item {} ({call}){after}: {words}", grouped(index)), why))
         }
     }
 }

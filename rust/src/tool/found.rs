@@ -272,20 +272,37 @@ const FILE_TYPE_AT: usize = 27;
 const INFORMATION_LENGTH_AT: usize = 56;
 const VAT_FILE_TYPE_200: u8 = 248;
 
-/// What a sector has that may be, or was meant to be, the ICB of a VAT.
-fn icb_words(bytes: &[u8]) -> Option<&'static str> {
+/// The version of UDF whose VAT ICB a sector may be, or was meant to be.
+enum Version {
+    /// CD UDF 1.82 and UDF 1.50: a rule of document 01 is broken.
+    Own,
+    Later,
+}
+
+fn version_of(bytes: &[u8]) -> Option<Version> {
     match (number_at(bytes, 0, 2), bytes.get(FILE_TYPE_AT).copied()?) {
-        (EXTENDED_FILE_ENTRY, VAT_FILE_TYPE_200) => Some("a VAT of UDF 2.01: an Extended File Entry (tag 266) of file type 248"),
-        (FILE_ENTRY, VAT_FILE_TYPE_200) => Some("a VAT of UDF 2.00 or later: a File Entry of file type 248"),
-        (EXTENDED_FILE_ENTRY, 0) => Some("an Extended File Entry (tag 266) of file type 0, as UDF 2.00 and later have them"),
-        (FILE_ENTRY, 0) => Some("a File Entry of file type 0 that breaks a rule for a VAT ICB"),
+        (FILE_ENTRY | EXTENDED_FILE_ENTRY, VAT_FILE_TYPE_200) | (EXTENDED_FILE_ENTRY, 0) => Some(Version::Later),
+        (FILE_ENTRY, 0) => Some(Version::Own),
         _ => None,
     }
 }
 
-/// What a sector has that may be the ICB of a VAT.
-pub fn icb_at(disc: DiscRef, at: usize) -> &'static str {
-    icb_words(sector(disc, at)).unwrap_or("no File Entry")
+/// What a sector has that may be, or was meant to be, the ICB of a VAT.
+fn icb_words(bytes: &[u8]) -> Option<&'static str> {
+    Some(match (version_of(bytes)?, number_at(bytes, 0, 2), bytes.get(FILE_TYPE_AT).copied()?) {
+        (Version::Own, ..) => "a File Entry of file type 0 that breaks a rule for a VAT ICB",
+        (_, EXTENDED_FILE_ENTRY, VAT_FILE_TYPE_200) => "a VAT of UDF 2.01: an Extended File Entry (tag 266) of file type 248",
+        (_, FILE_ENTRY, _) => "a VAT of UDF 2.00 or later: a File Entry of file type 248",
+        _ => "an Extended File Entry (tag 266) of file type 0, as UDF 2.00 and later have them",
+    })
+}
+
+/// What is to be said of a sector that may be the ICB of a VAT.
+pub fn possible_words(disc: DiscRef, at: usize) -> String {
+    match disc.marks.get(at) {
+        Some(&UNREADABLE) => "cannot be read".to_string(),
+        _ => format!("has {}", icb_words(sector(disc, at)).unwrap_or("no File Entry")),
+    }
 }
 
 /// The sectors of the partition that are not blank, the highest first, with their marks.
@@ -325,6 +342,17 @@ fn are_not_recorded(counts: &[(usize, &str)]) -> String {
     } else {
         there.join(", ")
     }
+}
+
+/// Whether the partition has a VAT of a later version of UDF.
+pub fn has_other_vat(disc: DiscRef) -> bool {
+    let is_later = |at: usize| matches!(version_of(sector(disc, at)), Some(Version::Later));
+    written(disc).any(|(at, mark)| mark == RECORDED && is_later(at))
+}
+
+/// Whether nothing in the partition was ever recorded.
+pub fn is_blank(disc: DiscRef) -> bool {
+    written(disc).next().is_none()
 }
 
 /// Line 9: the newest VAT, which has too many entries.

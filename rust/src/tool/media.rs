@@ -1,6 +1,6 @@
 //! What a disc that is to be made gets where only its medium is named.
 
-use super::words::{grouped, joined};
+use super::words::grouped;
 use super::Failure;
 use tuormik::PACKET;
 
@@ -33,7 +33,7 @@ pub fn layout(medium: &str, sectors: Option<u32>) -> Result<Layout, Failure> {
     match medium {
         "cdr" => Ok(cdr(sectors.unwrap_or(CDR_SECTORS))),
         "cdrw" => cdrw(sectors.unwrap_or(CDRW_SECTORS)),
-        _ => Err(Failure::Usage(format!("--media {medium}: a medium is {}", joined(&["cdr".into(), "cdrw".into()])))),
+        _ => Err(Failure::Usage(format!("--media {medium}: a medium is cdr or cdrw"))),
     }
 }
 

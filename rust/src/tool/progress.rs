@@ -1,19 +1,15 @@
 //! A line on the terminal for work that takes long.
 
-use std::io::{IsTerminal, Write};
+use super::output::terminal;
+use super::words::grouped;
+use std::io::Write;
 use std::sync::mpsc::{channel, RecvTimeoutError, Sender};
 use std::thread::JoinHandle;
 use std::time::{Duration, Instant};
 
-use super::words::grouped;
-
 /// How long a step may take before it is told of.
 const PATIENCE: Duration = Duration::from_secs(1);
 const BETWEEN: Duration = Duration::from_millis(500);
-
-fn is_watched() -> bool {
-    std::io::stderr().is_terminal()
-}
 
 /// Writes over what the line said, and goes back to its beginning.
 fn clear(out: &mut dyn Write) {
@@ -33,18 +29,20 @@ impl Progress {
     }
 
     pub fn tell(&mut self, done: usize, of: usize) {
-        if self.shown.elapsed() < BETWEEN || !is_watched() {
+        if self.shown.elapsed() < BETWEEN {
             return;
         }
         self.shown = Instant::now();
-        self.is_shown = true;
-        let _ = write!(std::io::stderr(), "\r{}: {} of {} ", self.what, grouped(done), grouped(of));
+        if let Some(mut terminal) = terminal() {
+            self.is_shown = true;
+            let _ = write!(terminal, "\r{}: {} of {} ", self.what, grouped(done), grouped(of));
+        }
     }
 
     /// Takes the line away, so that another can be written in its place.
     pub fn clear(&mut self) {
-        if self.is_shown {
-            clear(&mut std::io::stderr());
+        if let Some(mut terminal) = terminal().filter(|_| self.is_shown) {
+            clear(&mut terminal);
             self.is_shown = false;
         }
     }
@@ -64,10 +62,9 @@ pub struct Waiting {
 
 impl Waiting {
     pub fn new(what: String) -> Waiting {
-        if is_watched() {
-            Waiting::telling(what, PATIENCE, std::io::stderr())
-        } else {
-            Waiting { end: None, teller: None }
+        match terminal() {
+            Some(terminal) => Waiting::telling(what, PATIENCE, terminal),
+            None => Waiting { end: None, teller: None },
         }
     }
 

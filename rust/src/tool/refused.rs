@@ -49,7 +49,7 @@ fn failure(error: Error, what: impl FnOnce() -> String, sentence: impl FnOnce(Re
     match error {
         Error::Refused(why) => Failure::Refused(sentence(why), why),
         Error::Cut => Failure::Cut(what()),
-        other => Failure::Usage(other.to_string()),
+        other => Failure::File(other.to_string()),
     }
 }
 

@@ -1,14 +1,16 @@
 //! A page about a disc: whether it is clean, what it is, its picture, its history and its blocks.
 
 use super::args::Args;
-use super::commands::{known, load};
+use super::entry::{Choice, Entry};
+use super::images::load;
+use super::output::Outputs;
+use super::passed;
 use super::picture::Picture;
 use super::states::{Run, View};
 use super::summary::Summary;
 use super::words::from_to;
 use super::{commits, verify, Done, Failure};
 use std::fmt::Write as _;
-use std::io::Write;
 use std::path::Path;
 use tuormik::image::Image;
 
@@ -26,16 +28,30 @@ svg { max-width: 100%; height: auto; }
 @media print { body { margin: 0; } }
 ";
 
-pub fn report(args: &mut Args, out: &mut dyn Write) -> Done {
-    known(args, &["--output"])?;
+pub const ENTRY: Entry = Entry {
+    name: "report",
+    line: "a page about a disc",
+    usage: &["IMAGE [--output FILE]"],
+    about: "\
+Writes a page (HTML, whole in itself) to the standard output or to FILE: whether the disc is clean, what 'tuormik info' tells, its \
+picture, its history and its blocks.
+",
+    choices: &[Choice { name: "--output", values: &["FILE"], words: "where the page goes" }],
+    takes_volume: true,
+    writes: None,
+    run: report,
+};
+
+fn report(args: &mut Args, out: &mut Outputs) -> Done {
     let path = args.next_path("IMAGE")?;
     args.end()?;
     let image = load(args, &path)?;
     let page = page(&path, &image)?;
     match args.path("--output") {
-        Some(to) => Ok(image.write_output(to, page.as_bytes())?),
-        None => Ok(out.write_all(page.as_bytes())?),
+        Some(to) => image.write_output(to, page.as_bytes())?,
+        None => out.text(page),
     }
+    passed::tell(&image, out)
 }
 
 fn escaped(words: &str) -> String {
@@ -44,7 +60,7 @@ fn escaped(words: &str) -> String {
 
 fn page(path: &Path, image: &Image) -> Result<String, Failure> {
     let name = escaped(&path.file_name().unwrap_or(path.as_os_str()).to_string_lossy());
-    let verdict = verify::verdict(image)?;
+    let verdict = verify::verdict(image, false)?;
     let summary = Summary::new(image)?;
     let mut text = format!(
         "<!DOCTYPE html>\n<html lang=\"en\">\n<head>\n<meta charset=\"utf-8\">\n<meta name=\"viewport\" content=\"width=device-width\">\n\

@@ -1,7 +1,7 @@
 //! What is to be said of an image and its disc: in a curator's words, in document 01's letters, and as JSON.
 
 use super::json::Json;
-use super::passed::Passed;
+use super::passed::{Passed, Possible};
 use super::room::new_blocks;
 use super::states::{Counts, SpareCounts, View};
 use super::words::{counted, grouped, joined, parts};
@@ -105,7 +105,7 @@ impl Summary {
     pub fn new(image: &Image) -> Result<Summary, Failure> {
         let maps = read_maps(&image.volume.maps).ok();
         let opened = match commits::open(image) {
-            Ok(open) => Ok(Opened::new(&open, tables(maps.as_ref()))?),
+            Ok(open) => Ok(Opened::new(&open, tables(maps.as_ref()), image.file_sectors())?),
             Err(Failure::Refused(words, why)) => Err((words, why)),
             Err(other) => return Err(other),
         };
@@ -186,7 +186,7 @@ impl Summary {
 }
 
 impl Opened {
-    fn new(open: &OpenRef, tables: &[u32]) -> Result<Opened, Failure> {
+    fn new(open: &OpenRef, tables: &[u32], file_sectors: usize) -> Result<Opened, Failure> {
         let view = View::from(open);
         let blocks = view.blocks().collect();
         Ok(match view.record.held {
@@ -199,7 +199,7 @@ impl Opened {
                     last,
                     fits: new_blocks(entries as usize, next as usize, view.disc.length as usize),
                     per_mille,
-                    passed: Passed::new(view),
+                    passed: Passed::new(view, file_sectors),
                 }
             }
             Held::Rewritable { sequence, .. } => {
@@ -259,7 +259,7 @@ impl Opened {
                     ("nwa", Json::number(*next)),
                     ("last_icb", Json::number(*last)),
                     ("passed_over", Json::number(passed.count)),
-                    ("possible_newer_vat", passed.possible.as_ref().map_or(Json::None, |possible| Json::number(possible.block))),
+                    ("possible_newer_vat", passed.possible.as_ref().and_then(Possible::block).map_or(Json::None, Json::number)),
                 ]);
                 parts
             }

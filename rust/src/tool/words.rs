@@ -41,24 +41,24 @@ pub fn parts(counts: &[(usize, &str)]) -> String {
     there.join(", ")
 }
 
-/// The width of a name before its words, and of lines that words are broken into.
-const NAME: usize = 14;
-const LINE: usize = 110;
-
-/// A name and its words, in as many lines as they take.
-pub fn wrapped(name: &str, words: &str) -> String {
-    let mut text = format!("{name:<NAME$}");
-    let mut wide = NAME;
+/// A name and its words, in as many lines as they take, with the width of names and of lines. Words after a name that is too wide begin in a
+/// line of their own.
+pub fn wrapped_at(names: usize, line: usize, name: &str, words: &str) -> String {
+    let mut text = format!("{name:<names$}");
+    let mut wide = names;
+    if name.chars().count() >= names && names > 0 {
+        text.push_str(&format!("\n{:names$}", ""));
+    }
     for (i, word) in words.split(' ').enumerate() {
-        if i > 0 && wide + 1 + word.len() > LINE {
-            text.push_str(&format!("\n{:NAME$}", ""));
-            wide = NAME;
+        if i > 0 && wide + 1 + word.chars().count() > line {
+            text.push_str(&format!("\n{:names$}", ""));
+            wide = names;
         } else if i > 0 {
             text.push(' ');
             wide += 1;
         }
         text.push_str(word);
-        wide += word.len();
+        wide += word.chars().count();
     }
     text + "\n"
 }
@@ -69,11 +69,12 @@ mod tests {
 
     #[test]
     fn words_are_broken_into_lines() {
-        assert_eq!(wrapped("disc", "of few words"), "disc          of few words\n");
-        let text = wrapped("warning", &["word"; 40].join(" "));
+        assert_eq!(wrapped_at(14, 110, "disc", "of few words"), "disc          of few words\n");
+        assert_eq!(wrapped_at(4, 110, "name", "words"), "name\n    words\n");
+        let text = wrapped_at(14, 110, "warning", &["word"; 40].join(" "));
         let lines: Vec<&str> = text.lines().collect();
         assert_eq!(lines.len(), 3);
-        assert!(lines.iter().all(|line| line.len() <= LINE) && lines[1].starts_with(&format!("{:NAME$}word", "")));
+        assert!(lines.iter().all(|line| line.len() <= 110) && lines[1].starts_with(&format!("{:14}word", "")));
         assert_eq!(text.matches("word").count(), 40);
     }
 
