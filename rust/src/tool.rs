@@ -273,3 +273,182 @@ pub fn run(words: impl Iterator<Item = OsString>, out: &mut Outputs) -> u8 {
 pub fn main() -> u8 {
     run(std::env::args_os().skip(1), &mut Outputs::standard())
 }
+
+#[cfg(test)]
+mod tests {
+    use super::*;
+    use std::cell::Cell;
+    use std::collections::BTreeMap;
+    use std::io::{self, ErrorKind, Write};
+    use std::path::PathBuf;
+    use std::rc::Rc;
+
+    /// An output that counts its writes, and fails from one of them on.
+    #[derive(Clone)]
+    struct Counted {
+        writes: Rc<Cell<usize>>,
+        fails: Option<(usize, ErrorKind)>,
+    }
+
+    impl Counted {
+        fn new(fails: Option<(usize, ErrorKind)>) -> Counted {
+            Counted { writes: Rc::default(), fails }
+        }
+    }
+
+    impl Write for Counted {
+        fn write(&mut self, bytes: &[u8]) -> io::Result<usize> {
+            let at = self.writes.replace(self.writes.get() + 1);
+            match self.fails {
+                Some((from, kind)) if at >= from => Err(kind.into()),
+                _ => Ok(bytes.len()),
+            }
+        }
+
+        fn flush(&mut self) -> io::Result<()> {
+            Ok(())
+        }
+    }
+
+    /// A folder of discs, which is laid anew for each run.
+    struct Folder(PathBuf);
+
+    type Files = BTreeMap<PathBuf, Vec<u8>>;
+
+    impl Folder {
+        fn new() -> Folder {
+            Folder(std::env::temp_dir().join(format!("tuormik-outputs-{}", std::process::id())))
+        }
+
+        fn lay(&self, files: &Files) {
+            let _ = std::fs::remove_dir_all(&self.0);
+            std::fs::create_dir_all(&self.0).expect("a folder");
+            for (name, bytes) in files {
+                std::fs::write(self.0.join(name), bytes).expect("a file");
+            }
+        }
+
+        fn files(&self) -> Files {
+            let mut files = Files::new();
+            let mut folders = vec![self.0.clone()];
+            while let Some(folder) = folders.pop() {
+                for entry in std::fs::read_dir(folder).expect("a folder") {
+                    let path = entry.expect("an entry").path();
+                    if path.is_dir() {
+                        folders.push(path);
+                    } else {
+                        let name = path.strip_prefix(&self.0).expect("a name").to_path_buf();
+                        files.insert(name, std::fs::read(&path).expect("a file"));
+                    }
+                }
+            }
+            files
+        }
+
+        /// Runs a command line, in which a word that begins with a dot and a slash is a file of the folder, and gives the status.
+        fn run(&self, line: &str, out: &Counted, err: &Counted) -> u8 {
+            let in_folder = |word: &str| word.strip_prefix("./").map_or(word.into(), |name| self.0.join(name).into_os_string());
+            run(line.split(' ').map(in_folder), &mut Outputs::new(out.clone(), err.clone()))
+        }
+    }
+
+    impl Drop for Folder {
+        fn drop(&mut self) {
+            let _ = std::fs::remove_dir_all(&self.0);
+        }
+    }
+
+    /// Discs of both kinds: one that is clean, one with what was not committed and an unreadable sector above its last commit.
+    fn discs(folder: &Folder) -> Files {
+        folder.lay(&Files::from([
+            ("text".into(), b"one".to_vec()),
+            ("three".into(), vec![3; 3 * 2048]),
+            ("packet".into(), vec![4; 65_536]),
+        ]));
+        for line in [
+            "make ./d.img --sectors 400 --write-once",
+            "save ./d.img new ./three",
+            "make ./e.img --sectors 400 --write-once",
+            "save ./e.img new ./text",
+            "make ./r.img --sectors 640 --tables 0,32,64 --spares 96,128 --length 64",
+        ] {
+            assert_eq!(folder.run(line, &Counted::new(None), &Counted::new(None)), 0, "{line}");
+        }
+        let line = "save ./e.img new ./three --cut 1:unreadable";
+        assert_eq!(folder.run(line, &Counted::new(None), &Counted::new(None)), 3);
+        folder.files()
+    }
+
+    /// Every command, done, turned down, cut and wrong.
+    const LINES: [&str; 40] = [
+        "help",
+        "help save",
+        "help volume",
+        "--version",
+        "dance",
+        "info ./d.img ./e.img ./r.img",
+        "info --json ./d.img ./none",
+        "verify ./d.img ./r.img",
+        "verify ./d.img ./e.img --history",
+        "verify --json ./d.img ./e.img",
+        "list ./d.img",
+        "list ./r.img --all",
+        "read ./d.img 0 3",
+        "read ./d.img 0 --hex",
+        "read ./e.img 0 --output ./out",
+        "read ./d.img 9",
+        "fit ./d.img new*9 commit",
+        "fit ./d.img new*900 commit",
+        "save ./d.img new ./three",
+        "save ./d.img 0 ./text",
+        "save ./d.img new ./three --no-commit",
+        "save ./d.img new ./three --cut 1:whole",
+        "save ./d.img new ./three --cut 1:unreadable",
+        "save ./e.img new ./text",
+        "save ./e.img new ./text --force",
+        "save ./r.img 3 ./text",
+        "save ./r.img 32 ./packet --packet",
+        "save ./r.img 3 ./text --cut 9:unreadable",
+        "free ./d.img 1",
+        "free ./d.img 9",
+        "commit ./d.img",
+        "commit ./e.img --force --cut 1:old",
+        "spare ./r.img 32",
+        "spare ./r.img 32 --cut 33:whole",
+        "make ./n.img --media cdrw --sectors 700",
+        "export ./d.img ./copy",
+        "diff ./d.img ./e.img",
+        "report ./d.img",
+        "history ./e.img",
+        "map ./r.img ./r.svg",
+    ];
+
+    #[test]
+    fn status_and_files_are_those_of_a_run_that_was_not_hindered() {
+        let folder = Folder::new();
+        let discs = discs(&folder);
+        for line in LINES {
+            folder.lay(&discs);
+            let (out, err) = (Counted::new(None), Counted::new(None));
+            let status = folder.run(line, &out, &err);
+            let files = folder.files();
+            let writes = ["save", "free", "commit", "spare", "make"].iter().any(|name| line.starts_with(name));
+            assert!(!writes || status != 0 || files != discs, "{line} has changed nothing");
+            for kind in [ErrorKind::BrokenPipe, ErrorKind::StorageFull] {
+                let untold = if status == 0 && (writes || kind != ErrorKind::BrokenPipe) { status::UNTOLD } else { status };
+                for at in 0..out.writes.get() {
+                    folder.lay(&discs);
+                    let hindered = folder.run(line, &Counted::new(Some((at, kind))), &Counted::new(None));
+                    assert_eq!(hindered, untold, "{line}: the output fails at write {at}, {kind}");
+                    assert!(folder.files() == files, "{line}: the output fails at write {at}, {kind}, and the files differ");
+                }
+                for at in 0..err.writes.get() {
+                    folder.lay(&discs);
+                    let hindered = folder.run(line, &Counted::new(None), &Counted::new(Some((at, kind))));
+                    assert_eq!(hindered, status, "{line}: the messages fail at write {at}, {kind}");
+                    assert!(folder.files() == files, "{line}: the messages fail at write {at}, {kind}, and the files differ");
+                }
+            }
+        }
+    }
+}

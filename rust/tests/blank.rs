@@ -88,7 +88,7 @@ fn what_a_write_once_disc_is_told_as() {
     assert_eq!(status, 1);
     has(
         &verified,
-        "d.img NOT CLEAN: 1 block cannot be read: block 2 (sector 293, unreadable); 1 block was never recorded: block 1 (sector 291, blank)",
+        "d.img DAMAGED: 1 block cannot be read: block 2 (sector 293, unreadable); 1 block was never recorded: block 1 (sector 291, blank)",
     );
     let exported = folder.does(&["export", "d.img", "out", "--marks", "m"]);
     has(&exported, "exported 1 of 4 blocks to out; skipped: 1 unused, 1 unreadable, 1 blank (never recorded); list.csv lists all");
@@ -106,7 +106,7 @@ fn a_blank_block_alone() {
     let folder = write_once("blank-alone");
     folder.write("m", b"tuormik marks\nblank 291 1\n");
     let (_, verified, _) = folder.run(&["verify", "d.img", "--marks", "m"]);
-    has(&verified, "d.img NOT CLEAN: 1 block was never recorded: block 1 (sector 291, blank)");
+    has(&verified, "d.img DAMAGED: 1 block was never recorded: block 1 (sector 291, blank)");
     let map = folder.does(&["map", "d.img", "d.svg", "--marks", "m"]);
     let exported = folder.does(&["export", "d.img", "out", "--marks", "m"]);
     let list = folder.does(&["list", "d.img", "--marks", "m"]);
@@ -234,7 +234,7 @@ fn what_a_rewritable_disc_is_told_as() {
     assert_eq!(status, 1);
     has(
         &verified,
-        "d.img NOT CLEAN: 1 block cannot be read: block 8 (sector 296, unreadable); 3 blocks were never recorded: blocks 3 to 4 (sectors \
+        "d.img DAMAGED: 1 block cannot be read: block 8 (sector 296, unreadable); 3 blocks were never recorded: blocks 3 to 4 (sectors \
          291 to 292, blank), block 63 (sector 351, blank)",
     );
     let exported = folder.does(&["export", "d.img", "out"]);

@@ -62,7 +62,7 @@ fn info_tells_what_was_passed_over() {
     has(&info, "passed over 3");
     has(&info, "which are 2 recorded sectors and 1 unreadable sector");
     // a VAT that breaks a rule is named
-    folder.does(&["commit", "d.img"]);
+    folder.does(&["commit", "d.img", "--force"]);
     let mut image = folder.bytes("d.img");
     image[SECTOR * (288 + 14) + 8] ^= 1;
     folder.write("d.img", &image);
@@ -73,7 +73,7 @@ fn info_tells_what_was_passed_over() {
     image[SECTOR * 302..][..2].copy_from_slice(&266u16.to_le_bytes());
     image[SECTOR * 302 + 27] = 248;
     folder.write("d.img", &image);
-    let words = "block 14 (sector 302) was passed over and has a VAT of UDF 2.01: an Extended File Entry (tag 266) of file type 248";
+    let words = "block 14 (sector 302) has a VAT of UDF 2.01: an Extended File Entry (tag 266) of file type 248: it may be a newer VAT";
     folder.turns_away(&["commit", "d.img"], &[words, "--force"]);
     assert!(folder.does(&["info", "d.img", "--json"]).contains(r#""possible_newer_vat": 14"#));
 }
@@ -120,7 +120,7 @@ fn verify_goes_through_a_shelf() {
     has(&out, "d.img clean: write-once, 2 blocks used and 1 unused, 9.8 % full");
     has(&out, "r.img clean: rewritable, 64 blocks, 0 of 2 spares used");
     has(&out, "2 images: 2 clean");
-    // not clean: blocks that cannot be read, copies that are not current, what was passed over, what does not open, what is not there
+    // damaged: blocks that cannot be read, copies that are not current, what was passed over, what does not open, what is not there
     folder.write("text", b"text");
     folder.is_cut(&["save", "r.img", "3", "text", "--cut", "9:unreadable"], "write 9 of the save of block 3, which became unreadable");
     folder.is_cut(&["spare", "r.img", "32", "--cut", "33:whole"], "write 33 of the sparing of the packet of block 32, which became whole");
@@ -131,19 +131,20 @@ fn verify_goes_through_a_shelf() {
     folder.write("f.img", &image);
     folder.write("m.img", &folder.bytes("d.img"));
     folder.write("m.img.marks", b"tuormik marks\nrecorded 0 299\nunreadable 296 1\n");
+    assert_eq!(folder.run(&["verify", "d.img", "r.img", "e.img", "m.img"]).0, 1);
     let (status, out, err) = folder.run(&["verify", "d.img", "r.img", "e.img", "f.img", "m.img", "g.img"]);
-    assert_eq!((status, err.as_str()), (1, ""));
+    assert_eq!((status, err.as_str()), (2, ""));
     has(&out, "d.img clean: write-once, 2 blocks used and 1 unused, 9.8 % full");
     has(
         &out,
-        "r.img NOT CLEAN: the copies of the sparing table in sectors 32 and 64 are not current; 1 block cannot be read: block 8 (sector 296, \
+        "r.img DAMAGED: the copies of the sparing table in sectors 32 and 64 are not current; 1 block cannot be read: block 8 (sector 296, \
          unreadable)",
     );
-    has(&out, "e.img NOT CLEAN: 1 sector passed over above the last commit: 1 recorded sector");
-    has(&out, "f.img NOT CLEAN: the partition, sectors 288 to 399, is blank: it has no VAT yet (01, line 8)");
-    has(&out, "m.img NOT CLEAN: 1 block cannot be read: block 2 (sector 296, unreadable)");
-    assert!(out.lines().any(|line| line.starts_with("g.img  NOT CLEAN: ")), "{out}");
-    has(&out, "6 images: 1 clean, 5 not clean");
+    has(&out, "e.img DAMAGED: 1 sector passed over above the last commit: 1 recorded sector");
+    has(&out, "f.img CANNOT BE OPENED: the partition, sectors 288 to 399, is blank: it has no VAT yet (01, line 8)");
+    has(&out, "m.img DAMAGED: 1 block cannot be read: block 2 (sector 296, unreadable)");
+    assert!(out.lines().any(|line| line.starts_with("g.img  CANNOT BE OPENED: there is no such file")), "{out}");
+    has(&out, "6 images: 1 clean, 3 damaged, 2 cannot be opened");
 }
 
 #[test]
@@ -245,7 +246,7 @@ fn a_page_whole_in_itself() {
     assert_eq!(folder.bytes("page.html"), page.as_bytes());
     assert!(!page.contains("passed over above"), "{page}");
     folder.does(&["save", "d.img", "new", "c", "--no-commit"]);
-    assert!(folder.does(&["report", "d.img"]).contains("<p>1 sector was passed over above the last VAT ICB: "));
+    assert!(folder.does(&["report", "d.img"]).contains("<p>sector 299 was passed over above the last VAT ICB: "));
     // the image is not written over
     let before = folder.bytes("d.img");
     folder.usage(&["report", "d.img", "--output", "d.img"]);
@@ -269,7 +270,7 @@ fn a_disc_that_is_turned_down_is_drawn_from_its_marks() {
     has(&out, "e.svg: 400 recorded");
     assert!(out.contains("drawn from the marks alone, since the disc was turned down: no VAT was found"), "{out}");
     let page = folder.does(&["report", "e.img"]);
-    assert!(page.contains("<svg") && page.contains("NOT CLEAN: no VAT was found"), "{page}");
+    assert!(page.contains("<svg") && page.contains("DAMAGED: no VAT was found"), "{page}");
     // a partition that is none is drawn with no edge
     let out = folder.does(&["map", "e.img", "e.svg", "--start", "0", "--length", "0", "--write-once"]);
     assert!(out.contains("turned down: the partition has no sectors: L is 0 (01, line 2)"), "{out}");

@@ -50,9 +50,9 @@ fn making_tells_how_many_blocks_are_left() {
         let also = if of_spares > 0 { format!("; {of_spares} more belong to spares") } else { String::new() };
         has(&folder.does(&["info", image]), &format!("blocks {blocks} readable, 0 unreadable, 0 blank{also}"));
     }
-    // on a write-once disc no spares are looked at
-    let once = folder.does(&["make", "e.img", "--sectors", "400", "--write-once", "--spares", "288,320"]);
-    assert_eq!(once, "made e.img: 400 sectors, S 288, L 112\n");
+    // a write-once disc has none
+    let words = folder.usage(&["make", "e.img", "--sectors", "400", "--write-once", "--spares", "288,320"]);
+    assert!(words.starts_with("a write-once disc has no sparing tables and no spares, so --spares does not go with it\n"), "{words}");
 }
 
 /// What the commands tell of the disc of [`inside`] at a time.
@@ -230,7 +230,7 @@ fn a_free_spare_with_sectors_that_are_not_recorded() {
     has(&folder.does(&["info", "d.img"]), "blocks 63 readable, 1 unreadable, 0 blank; 64 more belong to spares");
     let (status, verified, _) = folder.run(&["verify", "d.img"]);
     assert_eq!(status, 1);
-    has(&verified, "d.img NOT CLEAN: 1 block cannot be read: block 5 (sector 325, unreadable)");
+    has(&verified, "d.img DAMAGED: 1 block cannot be read: block 5 (sector 325, unreadable)");
     are_refused(&folder, [32, 96]);
     folder.does(&["spare", "d.img", "0", "--zeros"]);
     has(&folder.does(&["verify", "d.img"]), "d.img clean: rewritable, 64 blocks and 64 of spares, 1 of 3 spares used, 1 defective");

@@ -201,13 +201,13 @@ fn no_room() {
     ];
     refuse(&folder, 16, &cases);
     let cases: [(&[&str], &str); 3] = [
-        (&["fit", "d.img", "0"], "item 1 (save 0): no room for block 0: no sector is free, and the save and its commit need 2"),
-        (&["fit", "d.img", "new"], "item 1 (save 1): no room for block 1: no sector is free, and the save and its commit need 2"),
-        (&["fit", "d.img", "commit"], "item 1 (commit): no room for the commit: no sector is free, and it needs 1"),
+        (&["fit", "d.img", "0"], "item 0 (save 0): no room for block 0: no sector is free, and the save and its commit need 2"),
+        (&["fit", "d.img", "new"], "item 0 (save 1): no room for block 1: no sector is free, and the save and its commit need 2"),
+        (&["fit", "d.img", "commit"], "item 0 (commit): no room for the commit: no sector is free, and it needs 1"),
     ];
     refuse(&folder, 16, &cases);
     // line 12 is asked first
-    let sentence = "item 1 (save 2): block 2 cannot be saved yet: the disc has 1 block, 0, and the next new one is 1";
+    let sentence = "item 0 (save 2): block 2 cannot be saved yet: the disc has 1 block, 0, and the next new one is 1";
     refuse(&folder, 12, &[(&["fit", "d.img", "2", "commit"], sentence)]);
     // one sector is free, which a commit would take
     folder.does(&["make", "e.img", "--sectors", "290", "--write-once"]);
@@ -223,13 +223,13 @@ fn no_room() {
     let cases: [(&[&str], &str); 3] = [
         (
             &["fit", "f.img", "7", "new"],
-            "item 2 (save 458), after the one before it: no room for block 458: 1 sector is free, and the save and its commit need 3",
+            "item 1 (save 458), after the one before it: no room for block 458: 1 sector is free, and the save and its commit need 3",
         ),
         (
             &["fit", "f.img", "7", "commit", "commit"],
-            "item 3 (commit), after the 2 before it: no room for the commit: no sector is free, and it needs 1",
+            "item 2 (commit), after the 2 before it: no room for the commit: no sector is free, and it needs 1",
         ),
-        (&["fit", "f.img", "new", "7"], "item 1 (save 458): no room for block 458: 2 sectors are free, and the save and its commit need 3"),
+        (&["fit", "f.img", "new", "7"], "item 0 (save 458): no room for block 458: 2 sectors are free, and the save and its commit need 3"),
     ];
     refuse(&folder, 16, &cases);
 }
@@ -238,19 +238,19 @@ fn no_room() {
 fn items_that_are_not_there() {
     let folder = Folder::with_disc("refusal-items");
     let cases: [(&[&str], &str); 4] = [
-        (&["fit", "d.img", "1"], "item 1 (save 1): block 1 cannot be saved yet: the disc has no blocks yet, and the next new one is 0"),
+        (&["fit", "d.img", "1"], "item 0 (save 1): block 1 cannot be saved yet: the disc has no blocks yet, and the next new one is 0"),
         (
             &["fit", "d.img", "new*3", "commit", "4"],
-            "item 5 (save 4), after the 4 before it: block 4 cannot be saved yet: the disc has 3 blocks, 0 to 2, and the next new one is 3",
+            "item 4 (save 4), after the 4 before it: block 4 cannot be saved yet: the disc has 3 blocks, 0 to 2, and the next new one is 3",
         ),
         // a number that stands for a commit in the layer's list is a block number here
         (
             &["fit", "d.img", "0x80000000"],
-            "item 1 (save 2,147,483,648): block 2,147,483,648 cannot be saved: a write-once disc holds at most 4,096 blocks",
+            "item 0 (save 2,147,483,648): block 2,147,483,648 cannot be saved: a write-once disc holds at most 4,096 blocks",
         ),
         (
             &["fit", "d.img", "commit", "4,294,967,295"],
-            "item 2 (save 4,294,967,295), after the one before it: block 4,294,967,295 cannot be saved: a write-once disc holds at most 4,096 \
+            "item 1 (save 4,294,967,295), after the one before it: block 4,294,967,295 cannot be saved: a write-once disc holds at most 4,096 \
              blocks",
         ),
     ];

@@ -176,7 +176,7 @@ fn a_newer_disc_with_a_defective_spare() {
     patch(&folder, &[32], 16, OLDER);
     let (status, out, _) = folder.run(&["verify", "d.img"]);
     assert_eq!(status, 1);
-    has(&out, "d.img NOT CLEAN: the copy of the sparing table in sector 32 is not current");
+    has(&out, "d.img DAMAGED: the copy of the sparing table in sector 32 is not current");
     has(&folder.does(&["spare", "d.img", "32"]), "spared the packet of block 32: it is now at sector 128");
     let list = folder.does(&["list", "d.img"]);
     has(&list, "32 to 63 128 to 159 spared, 32 recorded, 0 unreadable, 0 blank");

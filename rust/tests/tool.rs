@@ -29,7 +29,7 @@ fn every_command_has_help() {
         if command != "demo" {
             folder.usage(&[command]);
             let (status, ..) = folder.run(&[command, "no-such-image", "0", "no-such-file"]);
-            assert_eq!(status, if command == "verify" { 1 } else { 2 }, "{command}");
+            assert_eq!(status, 2, "{command}");
         }
     }
 }
@@ -78,11 +78,11 @@ fn what_is_not_committed_is_passed_over() {
     folder.does(&["make", "d.img", "--sectors", "400", "--write-once"]);
     folder.write("text", b"one");
     folder.does(&["save", "d.img", "new", "text", "--no-commit"]);
-    let info = folder.does(&["info", "d.img"]);
+    let (_, info, warning) = folder.run(&["info", "d.img"]);
     has(&info, "passed over 1");
-    assert!(info.contains("warning"));
+    assert!(warning.starts_with("tuormik: warning: sector 289 was passed over"), "{warning}");
     has(&folder.does(&["commit", "d.img"]), "committed: N 0, NWA 3, last ICB 2");
-    assert!(!folder.does(&["info", "d.img"]).contains("warning"));
+    assert_eq!(folder.run(&["info", "d.img"]).2, "");
     // a commit that is cut: the image is the disc as the cut left it
     folder.is_cut(&["save", "d.img", "new", "text", "--cut", "1:unreadable"], "write 1 of the commit, which became unreadable");
     has(&folder.does(&["info", "d.img"]), "passed over 2");
@@ -110,7 +110,8 @@ fn a_list_that_fits() {
     assert_eq!(folder.files(), before);
     folder.write("forty", &[7; 40 * 2048]);
     let out = folder.does(&["save", "d.img", "new", "forty"]);
-    let expected = "fits: 41 sectors for 40 saves and 1 commit\nsaved 40 blocks from 0 on\ncommitted: N 40, NWA 42, last ICB 41\n";
+    let expected = "fits: 41 sectors for 40 saves and 1 commit\nforty: blocks 0 to 39\nsaved 40 blocks from 0 on\n\
+                    committed: N 40, NWA 42, last ICB 41\n";
     assert_eq!(out, expected);
     has(&folder.does(&["info", "d.img"]), "room 69 new blocks fit, committed together");
     has(&folder.does(&["fit", "d.img", "new", "commit"]), "then: N 41, NWA 44, 68 sectors left, 67 new blocks fit, committed together");
@@ -119,7 +120,13 @@ fn a_list_that_fits() {
     has(&folder.does(&["fit", "e.img", "new*458", "commit", "new", "commit"]), "fits: 462 sectors for 459 saves and 2 commits");
     // what an opening passed over is told as by the other commands
     folder.does(&["save", "d.img", "0", "text", "--no-commit"]);
-    assert!(folder.does(&["fit", "d.img", "commit"]).contains("warning       1 sector was passed over"));
+    let (status, out, err) = folder.run(&["fit", "d.img", "commit"]);
+    assert_eq!((status, out.lines().count()), (0, 2), "{out}");
+    assert_eq!(
+        err,
+        "tuormik: warning: sector 330 was passed over above the last VAT ICB: 1 recorded sector; blocks saved and not committed, or a \
+         write that was cut\n"
+    );
 }
 
 #[test]
@@ -163,13 +170,23 @@ fn several_files() {
     folder.write("long", &[7; 2049]);
     folder.write("short", b"two");
     let out = folder.does(&["save", "d.img", "new", "text", "long", "short"]);
-    assert_eq!(out, "fits: 5 sectors for 4 saves and 1 commit\nsaved 4 blocks from 0 on\ncommitted: N 4, NWA 6, last ICB 5\n");
+    let expected = "fits: 5 sectors for 4 saves and 1 commit\n\
+                    text: block 0, filled up with 2,045 bytes of zeros\n\
+                    long: blocks 1 to 2, the last filled up with 2,047 bytes of zeros\n\
+                    short: block 3, filled up with 2,045 bytes of zeros\n\
+                    saved 4 blocks from 0 on\n\
+                    committed: N 4, NWA 6, last ICB 5\n";
+    assert_eq!(out, expected);
     let out = folder.does(&["read", "d.img", "0", "4", "--output", "all"]);
     assert_eq!(out, "");
     let filled = |bytes: &[u8], length: usize| [bytes, &vec![0; length - bytes.len()]].concat();
     assert_eq!(folder.bytes("all"), [filled(b"one", 2048), filled(&[7; 2049], 4096), filled(b"two", 2048)].concat());
     let out = folder.does(&["save", "d.img", "1", "short", "text", "--no-commit"]);
-    assert_eq!(out, "fits: 2 sectors for 2 saves\nsaved 2 blocks from 1 on; not committed, so an opening does not find it\n");
+    let expected = "fits: 2 sectors for 2 saves\n\
+                    short: block 1, filled up with 2,045 bytes of zeros\n\
+                    text: block 2, filled up with 2,045 bytes of zeros\n\
+                    saved 2 blocks from 1 on; not committed, so an opening does not find it\n";
+    assert_eq!(out, expected);
     // a second file that is not there, or does not fit
     folder.turns_away(&["save", "d.img", "new", "text", "none"], &["none"]);
     folder.write("most", &[7; 102 * 2048]);
@@ -180,7 +197,10 @@ fn several_files() {
     // on a rewritable disc too, where nothing is forecast
     folder.does(&["make", "r.img", "--sectors", "640", "--tables", "0,32", "--spares", "64,96,128,160"]);
     let out = folder.does(&["save", "r.img", "3", "text", "short"]);
-    assert_eq!(out, "saved 2 blocks from 3 on\n");
+    let expected = "text: block 3, filled up with 2,045 bytes of zeros\n\
+                    short: block 4, filled up with 2,045 bytes of zeros\n\
+                    saved 2 blocks from 3 on; what blocks 3 to 4 had before is replaced\n";
+    assert_eq!(out, expected);
 }
 
 /// A disc holds 4,096 blocks.
@@ -191,7 +211,7 @@ fn more_blocks_than_a_disc_holds() {
     has(&folder.does(&["fit", "d.img", "new*4,096", "commit"]), "fits: 4,106 sectors for 4,096 saves and 1 commit");
     let line = folder.refuses(12, &["fit", "d.img", "new*4294967295"]);
     let sentence = "block 4,096 cannot be saved: a write-once disc holds at most 4,096 blocks";
-    assert_eq!(line, format!("item 4,097 (save 4,096), after the 4,096 before it: {sentence}"));
+    assert_eq!(line, format!("item 4,096 (save 4,096), after the 4,096 before it: {sentence}"));
     folder.write("some", &[7; 10 * 2048]);
     folder.write("most", &[7; 4_090 * 2048]);
     folder.does(&["save", "d.img", "new", "most"]);
