@@ -1,4 +1,5 @@
-/* What include/tuormik.h says by itself, in C and in C++: a text of its own for every answer, one for all other numbers, and its version. */
+/* What include/tuormik.h says by itself, in C and in C++: a text of its own for every answer, one for all other numbers, its version, and an
+   older name. */
 #include "tuormik.h"
 
 #include <stdio.h>
@@ -35,6 +36,8 @@ int main(void) {
         for (b = 0; b < a; b++)
             hold(!is_answer(a) || !same(a, b), "no two answers have the same text", a);
     }
+
+    hold(TUORMIK_NOT_RECORDED == TUORMIK_UNREADABLE_SECTOR, "the older name is the same number", TUORMIK_NOT_RECORDED);
 
     sprintf(version, "%d.%d.%d", TUORMIK_VERSION_MAJOR, TUORMIK_VERSION_MINOR, TUORMIK_VERSION_PATCH);
     hold(strcmp(version, TUORMIK_VERSION) == 0, "the version is its three numbers", 0);

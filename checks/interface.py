@@ -6,7 +6,7 @@ Compared with crates/capi/src/lib.rt, function by function: the name, each param
 points to may be written, and what is returned. A lent slice of the source is a pointer and a length there. Compared with
 crates/refusal/src/lib.rt: the name and number of every refusal, and the order in which they are tested; with the crates that have them:
 the numbers of answers, kinds, effects, calls and lengths, and the originals of a free and of a defective spare, these in Rust too. And the
-header's version is the Rust package's.
+header's version is the Rust package's, and an older name of a refusal stands there for its name and nothing else.
 
 It also tries itself: each of the wrong copies below, one slip away from the files as they are, has to be told from them.
 """
@@ -71,8 +71,8 @@ IN_RUST = ("NONE", "DEFECTIVE")
 RENAMED = {"kept": "record", "at": "cut_at", "effect": "cut_effect", "size": "table_bytes"}
 RENAMED_IN = {("tuormik_read", "v"): "number"}
 
-# refusals that the header calls otherwise than the source does: TUORMIK_UNREADABLE is a mark there (DECISIONS 59)
-RENAMED_REFUSALS = {"UNREADABLE_SECTOR": "NOT_RECORDED"}
+# older names that the header keeps for refusals
+OLDER_REFUSALS = {"NOT_RECORDED": "UNREADABLE_SECTOR"}
 
 SLICES = {
     "&[u8]": ("const u8*", "usize"),
@@ -206,10 +206,6 @@ def refusals_of_source(text):
     return {upper(name): int(found[name]) for name in names}
 
 
-def in_header(refusals):
-    return {RENAMED_REFUSALS.get(name, name): number for name, number in refusals.items()}
-
-
 def order_in_words(refusals):
     """The numbers in their order, those that follow on each other as one run: 1 to 12, 30, 13, 25, 14 to 17, 19 to 21."""
     runs = []
@@ -226,6 +222,11 @@ def refusals_of_header(text):
     if not part:
         raise Wrong("%s: no answers from TUORMIK_DONE 0u to TUORMIK_CUT 255u" % HEADER)
     return {name: int(number) for name, number in re.findall(r"^#define TUORMIK_(\w+) (\d+)u$", part.group(1), flags=re.M)}
+
+
+def older_of_header(text):
+    """The names of the header that stand for another name: this to that."""
+    return dict(re.findall(r"^#define TUORMIK_(\w+) TUORMIK_(\w+)(?: |$)", text, flags=re.M))
 
 
 def order_of_header(text):
@@ -306,18 +307,21 @@ def compare(files):
         refusals = refusals_of_source(files[REFUSALS])
         said = differences(functions, of_header(files[HEADER]), HEADER)
         said += differences(functions, of_declared(files[DECLARED]), DECLARED)
-        for wanted, found, where in ((in_header(refusals), refusals_of_header(files[HEADER]), HEADER),
+        for wanted, found, where in ((refusals, refusals_of_header(files[HEADER]), HEADER),
                                      (refusals, refusals_of_rust(files[RUST_REFUSALS]), RUST_REFUSALS)):
             said += differences(wanted, found, where)
             if list(wanted) != list(found):
                 said.append("%s: the refusals do not stand in the order of the source" % where)
+        if older_of_header(files[HEADER]) != OLDER_REFUSALS:
+            said.append("%s: the older names of refusals are %s, and should be %s"
+                        % (HEADER, older_of_header(files[HEADER]), OLDER_REFUSALS))
         if order_of_header(files[HEADER]) != order_in_words(refusals):
             said.append("%s: the order of the refusals is %s, and the source has %s"
                         % (HEADER, order_of_header(files[HEADER]), order_in_words(refusals)))
         constants = constants_of_source(files)
         said += differences(constants, constants_of_header(files[HEADER], constants), HEADER)
         said += differences({name: constants[name] for name in IN_RUST}, constants_of_rust(files[RUST_NUMBERS]), RUST_NUMBERS)
-        said += ["%s: %s has no text" % (HEADER, name) for name in sorted(set(in_header(refusals)) - texts_of_header(files[HEADER]))]
+        said += ["%s: %s has no text" % (HEADER, name) for name in sorted(set(refusals) - texts_of_header(files[HEADER]))]
         versions = version_of_header(files[HEADER]), version_of_package(files[PACKAGE])
         if versions[0] is None or versions[0] != versions[1]:
             said.append("the version is %s in %s and %s in %s" % (versions[0], HEADER, versions[1], PACKAGE))
@@ -355,9 +359,12 @@ SLIPS = [
     (HEADER, "#define TUORMIK_NO_SPARE 19u", "#define TUORMIK_NO_SPARE 18u"),
     (HEADER, "#define TUORMIK_NO_SPARE 19u\n", ""),
     (HEADER, "    case TUORMIK_NO_SPARE:\n", ""),
-    (HEADER, "#define TUORMIK_BLANK_SECTOR 25u\n#define TUORMIK_NOT_RECORDED 14u\n",
-     "#define TUORMIK_NOT_RECORDED 14u\n#define TUORMIK_BLANK_SECTOR 25u\n"),
-    (HEADER, "#define TUORMIK_NOT_RECORDED 14u\n", "#define TUORMIK_UNREADABLE_SECTOR 14u\n"),
+    (HEADER, "#define TUORMIK_BLANK_SECTOR 25u\n#define TUORMIK_UNREADABLE_SECTOR 14u\n",
+     "#define TUORMIK_UNREADABLE_SECTOR 14u\n#define TUORMIK_BLANK_SECTOR 25u\n"),
+    (HEADER, "#define TUORMIK_NOT_RECORDED TUORMIK_UNREADABLE_SECTOR", "#define TUORMIK_NOT_RECORDED TUORMIK_BLANK_SECTOR"),
+    (HEADER, "#define TUORMIK_NOT_RECORDED TUORMIK_UNREADABLE_SECTOR", "#define TUORMIK_NOT_RECORDED 14u"),
+    (HEADER, "#define TUORMIK_NOT_RECORDED TUORMIK_UNREADABLE_SECTOR", "#define TUORMIK_NEVER_RECORDED TUORMIK_UNREADABLE_SECTOR"),
+    (HEADER, "#define TUORMIK_NOT_RECORDED TUORMIK_UNREADABLE_SECTOR", "/* no older name */"),
     (HEADER, "in this order: 1 to 12, 30, 13, 25, 14 to 17, 19 to 21.", "in this order: 1 to 12, 30, 13, 14, 25, 15 to 17, 19 to 21."),
     (HEADER, "in this order: 1 to 12, 30, 13, 25, 14 to 17, 19 to 21.", "in this order: 1 to 13, 30, 25, 14 to 17, 19 to 21."),
     (HEADER, "in this order: 1 to 12, 30, 13, 25, 14 to 17, 19 to 21.", "in this order: 1 to 13, 25, 14 to 17, 19 to 21."),

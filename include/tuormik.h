@@ -67,7 +67,8 @@ extern "C" {
 /* The first sector to be read that is not recorded, the lowest first: 25 where it is blank (its mark is 0), 14 where it is unreadable
    (its mark is 2). */
 #define TUORMIK_BLANK_SECTOR 25u
-#define TUORMIK_NOT_RECORDED 14u
+#define TUORMIK_UNREADABLE_SECTOR 14u
+#define TUORMIK_NOT_RECORDED TUORMIK_UNREADABLE_SECTOR /* the same under its older name */
 #define TUORMIK_PASSES_AS_ICB 15u
 #define TUORMIK_NO_ROOM 16u
 #define TUORMIK_ONE_TABLE 17u
@@ -115,7 +116,7 @@ static inline const char *tuormik_refusal_text(uint32_t number) {
         return "The entry to be read or freed is unused.";
     case TUORMIK_BLANK_SECTOR:
         return "A sector to be read was never recorded: the first that is not recorded is blank.";
-    case TUORMIK_NOT_RECORDED:
+    case TUORMIK_UNREADABLE_SECTOR:
         return "A sector to be read cannot be read: the first that is not recorded is unreadable.";
     case TUORMIK_PASSES_AS_ICB:
         return "The block would pass as a VAT ICB at NWA.";

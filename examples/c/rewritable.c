@@ -113,8 +113,8 @@ int main(void) {
         /* a save writes the 32 sectors of its packet: cut at the sixth, block 5 is lost and every other is not */
         is("save block 7, cut at write 6", save(7, "13 May: two pairs of plovers", 6, TUORMIK_EFFECT_UNREADABLE), TUORMIK_CUT) &&
         is("open again", tuormik_open(DISC, HELD), TUORMIK_DONE) &&
-        is("read block 5", tuormik_read(DISC, HELD, 5, TUORMIK_LENT_BLOCK(block)), TUORMIK_NOT_RECORDED) &&
-        is("save block 7", save(7, "13 May: two pairs of plovers", TUORMIK_NO_CUT), TUORMIK_NOT_RECORDED) &&
+        is("read block 5", tuormik_read(DISC, HELD, 5, TUORMIK_LENT_BLOCK(block)), TUORMIK_UNREADABLE_SECTOR) &&
+        is("save block 7", save(7, "13 May: two pairs of plovers", TUORMIK_NO_CUT), TUORMIK_UNREADABLE_SECTOR) &&
         is("save packet 0", tuormik_save_packet(DISC, HELD, 0, TUORMIK_LENT_PACKET(packet_of("dunlins")), TUORMIK_NO_CUT), TUORMIK_DONE) &&
         reads(5, "dunlins") &&
 
