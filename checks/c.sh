@@ -16,7 +16,7 @@ cc -std=c99 $warnings -Iinclude checks/header.c -o "$room/header"
 "$room/header"
 c++ $warnings -Iinclude -x c++ checks/header.c -o "$room/header"
 "$room/header"
-c++ $warnings -Iinclude -x c++ -fsyntax-only examples/c/disc.c examples/c/rewritable.c
+c++ $warnings -Iinclude -x c++ -fsyntax-only examples/c/*.c
 
 # the functions of the CRC, in both languages
 cc -std=c99 $warnings -Iinclude checks/crc.c "$library" -o "$room/crc"
@@ -29,6 +29,18 @@ for example in disc rewritable; do
   cc -std=c99 $warnings -Iinclude "examples/c/$example.c" "$library" -o "$room/$example"
   "$room/$example"
 done
+
+# the example that README shows, on the image of a small disc: block 0 is read as it was saved, and there is no block 1
+cc -std=c99 $warnings -Iinclude checks/image.c "$library" -o "$room/image"
+"$room/image" "$room/small.img"
+cc -std=c99 $warnings -Iinclude examples/c/read.c "$library" -o "$room/read"
+"$room/read" "$room/small.img" 16 48 0 >"$room/block" 2>"$room/record"
+{ echo "12 May: snow to the lower hut"; head -c 2018 /dev/zero; } | cmp - "$room/block"
+echo "N 1, NWA 3, last ICB 2, passed over 0" | cmp - "$room/record"
+if "$room/read" "$room/small.img" 16 48 1 >"$room/block" 2>"$room/record" || [ -s "$room/block" ] || [ "$(wc -l <"$room/record")" -ne 2 ]; then
+  echo "examples/c/read.c: reading a block that is not there should end with a status, no bytes and a line more"
+  exit 1
+fi
 
 # installed, in a folder whose name has a space, and built by what the pkg-config file says
 prefix="$room/a prefix"
