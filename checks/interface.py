@@ -1,14 +1,16 @@
-"""Holds include/tuormik.h and the Rust declarations against the source of the exported functions.
+"""Holds include/tuormik.h and the list from which the Rust declarations are made against the source of the exported functions.
 
     python3 checks/interface.py
 
 Compared with crates/capi/src/lib.rt, function by function: the name, each parameter's name, place and type, whether what a pointer
-points to may be written, and what is returned. A lent slice of the source is a pointer and a length there. Compared with
-crates/refusal/src/lib.rt: the name and number of every refusal, and the order in which they are tested; with the crates that have them:
-the numbers of answers, kinds, effects, calls and lengths, and the originals of a free and of a defective spare, these in Rust too. And the
-header's version is the Rust package's, and an older name of a refusal stands there for its name and nothing else.
+points to may be written, and what is returned. A lent slice of the source, or of the Rust list, is a pointer and a length in C; the list
+has the names without their prefix. Compared with crates/refusal/src/lib.rt: the name and number of every refusal, and the order in which
+they are tested; with the crates that have them: the numbers of answers, kinds, effects, calls and lengths, and the originals of a free and
+of a defective spare, these in Rust too. And the header's version is the Rust package's, and an older name of a refusal stands there for its
+name and nothing else.
 
-It also tries itself: each of the wrong copies below, one slip away from the files as they are, has to be told from them.
+It also tries itself: each of the wrong copies below, one slip away from the files as they are, has to be told from them, and a function
+more is taken where all of them have it.
 """
 import re
 import sys
@@ -24,7 +26,7 @@ CALLS = "crates/list_step/src/lib.rt"
 ITEMS = "crates/once_forecast/src/lib.rt"
 ENTRIES = "crates/sparing_copy/src/lib.rt"
 HEADER = "include/tuormik.h"
-DECLARED = "rust/src/ffi.rs"
+DECLARED = "rust/functions.rs"
 RUST_REFUSALS = "rust/src/refusal.rs"
 RUST_NUMBERS = "rust/src/lib.rs"
 PACKAGE = "rust/Cargo.toml"
@@ -69,7 +71,7 @@ IN_RUST = ("NONE", "DEFECTIVE")
 
 # parameters that the source calls otherwise than the header does
 RENAMED = {"kept": "record", "at": "cut_at", "effect": "cut_effect", "size": "table_bytes"}
-RENAMED_IN = {("tuormik_read", "v"): "number"}
+RENAMED_IN = {"tuormik_read": {"v": "number"}}
 
 # older names that the header keeps for refusals
 OLDER_REFUSALS = {"NOT_RECORDED": "UNREADABLE_SECTOR"}
@@ -79,6 +81,8 @@ SLICES = {
     "&mut [u8]": ("u8*", "usize"),
     "&[u32]": ("const u32*", "usize"),
     "&mut [u32]": ("u32*", "usize"),
+    "&[u64]": ("const u64*", "usize"),
+    "&mut [u64]": ("u64*", "usize"),
 }
 NUMBERS = {"u8", "u16", "u32"}
 C_TYPES = {
@@ -90,16 +94,8 @@ C_TYPES = {
     "uint8_t *": "u8*",
     "const uint32_t *": "const u32*",
     "uint32_t *": "u32*",
-}
-RUST_TYPES = {
-    "u8": "u8",
-    "u16": "u16",
-    "u32": "u32",
-    "usize": "usize",
-    "*const u8": "const u8*",
-    "*mut u8": "u8*",
-    "*const u32": "const u32*",
-    "*mut u32": "u32*",
+    "const uint64_t *": "const u64*",
+    "uint64_t *": "u64*",
 }
 
 
@@ -119,23 +115,29 @@ def added(functions, name, signature, where):
     functions[name] = signature
 
 
+def in_c(parameters, renamed, where):
+    """Parameters of numbers and slices as C has them: (name, type) each."""
+    signature = []
+    for part in split(parameters):
+        own, _, kind = part.partition(": ")
+        own = renamed.get(own, own)
+        if kind in SLICES:
+            pointer, length = SLICES[kind]
+            signature += [(own, pointer), (own + "_length", length)]
+        elif kind in NUMBERS:
+            signature.append((own, kind))
+        else:
+            raise Wrong("%s: a parameter %s" % (where, part))
+    return tuple(signature)
+
+
 def of_source(text):
     """The exported functions: name to (parameters as (name, type), returned type)."""
     text = re.sub(r"//[^\n]*", "", text)
     functions = {}
     for name, parameters, returned in re.findall(r'#\[no_mangle\]\s*pub extern "C" fn (\w+)\(([^)]*)\)\s*->\s*(\w+)', text):
-        signature = []
-        for part in split(parameters):
-            own, kind = part.split(": ", 1)
-            own = RENAMED_IN.get((name, own), RENAMED.get(own, own))
-            if kind in SLICES:
-                pointer, length = SLICES[kind]
-                signature += [(own, pointer), (own + "_length", length)]
-            elif kind in NUMBERS:
-                signature.append((own, kind))
-            else:
-                raise Wrong("%s: %s: a parameter of type %s" % (SOURCE, name, kind))
-        added(functions, name, (tuple(signature), returned), SOURCE)
+        signature = in_c(parameters, {**RENAMED, **RENAMED_IN.get(name, {})}, "%s: %s" % (SOURCE, name))
+        added(functions, name, (signature, returned), SOURCE)
     if len(functions) != text.count("#[no_mangle]") or len(functions) != text.count('extern "C"'):
         raise Wrong('%s: #[no_mangle] and extern "C" do not stand by turns' % SOURCE)
     return functions
@@ -166,21 +168,14 @@ def of_header(text):
 
 
 def of_declared(text):
+    """The functions of the list, by their names in C."""
     text = re.sub(r"//[^\n]*", "", text)
-    block = re.search(r'extern "C" \{\n(.*?)^\}$', text, flags=re.M | re.S)
-    if not block:
-        raise Wrong('%s: no block of extern "C"' % DECLARED)
     functions = {}
-    for name, parameters, returned in re.findall(r"pub fn (\w+)\(([^)]*)\)\s*->\s*(\w+);", block.group(1)):
-        signature = []
-        for part in split(parameters):
-            own, kind = part.split(": ", 1)
-            if kind not in RUST_TYPES:
-                raise Wrong("%s: %s: a parameter of type %s" % (DECLARED, name, kind))
-            signature.append((own, RUST_TYPES[kind]))
-        added(functions, name, (tuple(signature), returned), DECLARED)
+    for name, parameters, returned in re.findall(r"\bfn (\w+)\(([^)]*)\) -> (\w+);", text):
+        signature = in_c(parameters, {}, "%s: %s" % (DECLARED, name))
+        added(functions, "tuormik_" + name, (signature, returned), DECLARED)
     if len(functions) != len(re.findall(r"\bfn\b", text)):
-        raise Wrong("%s: a function is no declaration that can be read" % DECLARED)
+        raise Wrong("%s: a function is no entry that can be read" % DECLARED)
     return functions
 
 
@@ -382,14 +377,22 @@ SLIPS = [
     (HEADER, "#define TUORMIK_RECORD_LAST 3", "#define TUORMIK_RECORD_LAST 2"),
     (HEADER, "#define TUORMIK_CALL_COMMIT 2u\n", ""),
     (HEADER, '#define TUORMIK_VERSION "', '#define TUORMIK_VERSION "9'),
-    (DECLARED, "disc: *const u8", "disc: *mut u8"),
-    (DECLARED, "table: *mut u32", "table: *const u32"),
-    (DECLARED, "table_length: usize", "table_length: u32"),
-    (DECLARED, "        s: u32,\n        l: u32,", "        l: u32,\n        s: u32,"),
-    (DECLARED, "        table_length: usize,\n", ""),
+    (DECLARED, "disc: &[u8]", "disc: &mut [u8]"),
+    (DECLARED, "disc: &[u8]", "disc: u8"),
+    (DECLARED, "table: &mut [u32]", "table: &[u32]"),
+    (DECLARED, "table: &mut [u32]", "table: &mut [u8]"),
+    (DECLARED, "table: &mut [u32]", "table: &mut [u64]"),
+    (DECLARED, "table: &mut [u32]", "places: &mut [u32]"),
+    (DECLARED, "table: &mut [u32]", "table: &mut [i32]"),
+    (DECLARED, "s: u32, l: u32", "l: u32, s: u32"),
+    (DECLARED, "table: &mut [u32], ", ""),
     (DECLARED, "partition: u16", "partition: u32"),
-    (DECLARED, "items: *const u32", "items: *mut u32"),
-    (DECLARED, "pub fn tuormik_make(", "pub fn tuormik_made("),
+    (DECLARED, "items: &[u32]", "items: &mut [u32]"),
+    (DECLARED, "fn make(", "fn made("),
+    (DECLARED, "fn make(", "fn open("),
+    (DECLARED, "fn look_up(", "fn more(v: u32) -> u32;\nfn look_up("),
+    (DECLARED, "fn look_up(", "fn more(v: u32);\nfn look_up("),
+    (DECLARED, "fn look_up(file: &[u8], v: u32, result: &mut [u32]) -> u32;", ""),
     (DECLARED, ") -> u32;", ") -> u64;"),
     (DECLARED, ") -> u16;", ") -> u32;"),
     (DECLARED, "start: u16", "start: u32"),
@@ -421,22 +424,39 @@ SLIPS = [
     (RUST_NUMBERS, "pub const DEFECTIVE: u32", "pub const BROKEN: u32"),
 ]
 
+# a function more, as each file has it: they agree with it in all of them, and not where it is missing in one
+MORE = {
+    SOURCE: '#[no_mangle]\npub extern "C" fn tuormik_more(season: u16, weights: &[u64], result: &mut [u64]) -> u32 { 0 }\n',
+    HEADER: "uint32_t tuormik_more(uint16_t season, const uint64_t *weights, size_t weights_length,\n"
+            "                      uint64_t *result, size_t result_length);\n",
+    DECLARED: "fn more(season: u16, weights: &[u64], result: &mut [u64]) -> u32;\n",
+}
+
+
+def try_itself(files):
+    """Where a wrong copy is not told from the files, or a right one is, in words."""
+    said = []
+    for path, piece, slip in SLIPS:
+        if piece not in files[path]:
+            said.append("checks/interface.py: %s does not have %r, which a wrong copy changes" % (path, piece))
+        elif not compare({**files, path: files[path].replace(piece, slip, 1)}):
+            said.append("checks/interface.py: a copy of %s with %r for %r was not told from it" % (path, slip, piece))
+    grown = {**files, **{path: files[path] + more for path, more in MORE.items()}}
+    said += compare(grown)
+    said += ["checks/interface.py: a function that is missing in %s was not missed" % path
+             for path in MORE if not compare({**grown, path: files[path]})]
+    return said
+
 
 def main():
     files = {path: (ROOT / path).read_text(encoding="utf-8") for path in FILES}
-    said = compare(files)
-    if not said:
-        for path, piece, slip in SLIPS:
-            if piece not in files[path]:
-                said.append("checks/interface.py: %s does not have %r, which a wrong copy changes" % (path, piece))
-            elif not compare({**files, path: files[path].replace(piece, slip, 1)}):
-                said.append("checks/interface.py: a copy of %s with %r for %r was not told from it" % (path, slip, piece))
+    said = compare(files) or try_itself(files)
     if said:
         print("\n".join(said))
         return 1
     functions, refusals = of_source(files[SOURCE]), refusals_of_source(files[REFUSALS])
     print("%d functions and %d refusals are declared in C and in Rust as their source has them; %d wrong copies were told from these"
-          % (len(functions), len(refusals), len(SLIPS)))
+          % (len(functions), len(refusals), len(SLIPS) + len(MORE)))
     return 0
 
 

@@ -25,7 +25,6 @@
 
 pub mod calls;
 pub mod descriptors;
-mod ffi;
 pub mod image;
 mod marks;
 pub mod numbers;
@@ -33,11 +32,11 @@ mod open;
 mod passed;
 mod refusal;
 
-// the functions of `ffi`, where the proved library is not linked
+// the C functions of `calls`, where the proved library is not linked
 #[cfg(feature = "stand-in")]
 extern crate tuormik_plain as _;
 
-pub use calls::{crc, crc_by_bytes, crc_by_words, crc_word};
+pub use calls::{crc, crc_by_bytes, crc_by_words};
 pub use marks::marks_by_rule;
 pub use open::{look_up, read_maps, write_maps, Call, Disc, DiscRef, Forecast, Maps, Open, OpenRef, Ran};
 pub use passed::possible_icbs;
@@ -67,6 +66,16 @@ pub const BLANK: u8 = 0;
 pub const RECORDED: u8 = 1;
 /// The mark of an unreadable sector.
 pub const UNREADABLE: u8 = 2;
+
+/// The word's step: from any CRC, what the steps of the four bytes give, one after the other.
+///
+/// ```
+/// assert_eq!(tuormik::crc_word(0x1d0f, *b"1234"), tuormik::crc_by_bytes(b"1234", 0x1d0f));
+/// ```
+pub fn crc_word(crc: u16, word: [u8; 4]) -> u16 {
+    let [a, b, c, d] = word;
+    calls::crc_word(crc, a, b, c, d)
+}
 
 /// What an opening hands back, and each accepted call after it.
 #[derive(Clone, Copy, Debug, PartialEq, Eq)]

@@ -2,9 +2,9 @@
 //!
 //! It was written from these documents, with the readings of open points in `docs/DECISIONS.md`, and shares no code with the proved layer.
 //! The tests hold the two against each other, and the benchmarks take it as their baseline. Each function is the one of the same name in
-//! `include/tuormik.h`, with slices for pointers and lengths; the CRC goes by tables and has names of its own. "Line n" is line n of 01,
-//! "Why a call is turned down", or number n of 02, which stands where 02 places it among them: 30 directly after 12, 25 directly before 14.
-//! Line 18 never occurs (02, slip 1). A call is turned down by `Err(n)`.
+//! `include/tuormik.h`, with slices for pointers and lengths; the CRC goes by tables. "Line n" is line n of 01, "Why a call is turned
+//! down", or number n of 02, which stands where 02 places it among them: 30 directly after 12, 25 directly before 14. Line 18 never
+//! occurs (02, slip 1). A call is turned down by `Err(n)`.
 #![deny(missing_docs)]
 #![allow(clippy::too_many_arguments)]
 
@@ -115,14 +115,14 @@ const fn crc_table() -> [u16; 256] {
 
 static CRC_TABLE: [u16; 256] = crc_table();
 
-/// The CRC of polynomial 0x1021, high bit first, from a start.
-pub fn crc_from(bytes: &[u8], start: u16) -> u16 {
+/// The CRC of polynomial 0x1021, high bit first, from a start, which is 0 in a tag: by one table.
+pub fn crc(bytes: &[u8], start: u16) -> u16 {
     bytes.iter().fold(start, |crc, &b| crc << 8 ^ CRC_TABLE[usize::from((crc >> 8) as u8 ^ b)])
 }
 
-/// The CRC of a tag: from 0.
-pub fn crc(bytes: &[u8]) -> u16 {
-    crc_from(bytes, 0)
+/// The same as [`crc`], which takes a byte at a time.
+pub fn crc_by_bytes(bytes: &[u8], start: u16) -> u16 {
+    crc(bytes, start)
 }
 
 /// In table n: what a byte gives with n bytes of 0 after it.
@@ -144,19 +144,20 @@ const fn crc_tables() -> [[u16; 256]; 4] {
 
 static CRC_TABLES: [[u16; 256]; 4] = crc_tables();
 
-/// The same as [`crc_from`] by four tables held ready: a word of four bytes at a time, and a tail of up to three by the byte. No call
-/// uses it: the benchmarks do.
-pub fn crc_by_four_tables(bytes: &[u8], start: u16) -> u16 {
+/// The same as [`crc`], each word of four bytes by [`crc_word`], and a tail of up to three by the byte. No call uses it: the benchmarks do.
+pub fn crc_by_words(bytes: &[u8], start: u16) -> u16 {
     let words = bytes.chunks_exact(4);
     let tail = words.remainder();
-    let crc = words.fold(start, |crc, w| {
-        let [high, low] = crc.to_be_bytes();
-        CRC_TABLES[3][usize::from(high ^ w[0])]
-            ^ CRC_TABLES[2][usize::from(low ^ w[1])]
-            ^ CRC_TABLES[1][usize::from(w[2])]
-            ^ CRC_TABLES[0][usize::from(w[3])]
-    });
-    crc_from(tail, crc)
+    crc(tail, words.fold(start, |crc, w| crc_word(crc, w[0], w[1], w[2], w[3])))
+}
+
+/// The step of four bytes, by four tables held ready.
+pub fn crc_word(crc: u16, a: u8, b: u8, c: u8, d: u8) -> u16 {
+    let [high, low] = crc.to_be_bytes();
+    CRC_TABLES[3][usize::from(high ^ a)]
+        ^ CRC_TABLES[2][usize::from(low ^ b)]
+        ^ CRC_TABLES[1][usize::from(c)]
+        ^ CRC_TABLES[0][usize::from(d)]
 }
 
 /// The sum of a tag's bytes but its own, modulo 256.
@@ -428,7 +429,7 @@ fn vat_file<'a>(disc: &'a [u8], marks: &[u8], s: usize, k: u32, icb: &'a Sector)
         && icb[5] == 0
         && (160..=2032).contains(&crc_length)
         && icb[4] == checksum(icb)
-        && u16_at(icb, 8) == crc(&icb[16..16 + crc_length]);
+        && u16_at(icb, 8) == crc(&icb[16..16 + crc_length], 0);
     if !tag_fits {
         return None;
     }
@@ -523,7 +524,7 @@ fn vat_icb(k: u32, entries: &[u32], previous: u32) -> [u8; SECTOR] {
     put(&mut icb, 172, &(a as u32).to_le_bytes());
     put(&mut icb, 0, &261u16.to_le_bytes());
     icb[2] = 2;
-    let crc = crc(&icb[16..176 + a]);
+    let crc = crc(&icb[16..176 + a], 0);
     put(&mut icb, 8, &crc.to_le_bytes());
     put(&mut icb, 10, &(160 + a as u16).to_le_bytes());
     put(&mut icb, 12, &k.to_le_bytes());

@@ -13,7 +13,7 @@ const CRCS: [(&str, Crc); 4] = [
     ("crc", tuormik::crc),
     ("crc_by_bytes", tuormik::crc_by_bytes),
     ("crc_by_words", tuormik::crc_by_words),
-    ("four tables", plain::crc_by_four_tables),
+    ("four tables", plain::crc_by_words),
 ];
 
 const STARTS: [u16; 3] = [0, 0xffff, 0x1d0f];
@@ -72,7 +72,7 @@ fn difference(crcs: &[(&str, Crc)], lengths: &[usize]) -> Option<String> {
         for &length in lengths {
             let part = bytes.at(alignment, length);
             for start in STARTS.into_iter().chain([draw.crc(), draw.crc()]) {
-                let expected = plain::crc_from(part, start);
+                let expected = plain::crc(part, start);
                 for (name, crc) in crcs {
                     let found = crc(part, start);
                     if found != expected {
@@ -100,7 +100,7 @@ fn step_difference(step: Step) -> Option<String> {
         }
     }
     cases.into_iter().find_map(|(crc, word)| {
-        let expected = word.iter().fold(crc, |crc, &byte| plain::crc_from(&[byte], crc));
+        let expected = word.iter().fold(crc, |crc, &byte| plain::crc(&[byte], crc));
         let found = step(crc, word);
         (found != expected).then(|| format!("{word:02x?} from {crc:04x}: {found:04x}, and {expected:04x} byte by byte"))
     })
@@ -130,6 +130,7 @@ fn long_bytes() {
 #[test]
 fn the_word_s_step() {
     assert_eq!(step_difference(tuormik::crc_word), None);
+    assert_eq!(step_difference(|crc, [a, b, c, d]| plain::crc_word(crc, a, b, c, d)), None);
 }
 
 /// A line of `tags.txt`: of a tag its CRC, and the bytes that this covers.
@@ -149,7 +150,7 @@ fn tags_of_other_systems() {
     let tags: Vec<(u16, Vec<u8>)> = include_str!("tags.txt").lines().filter(|line| !line.starts_with('#')).map(tag).collect();
     assert_eq!(tags.len(), 15);
     for (crc, covered) in tags {
-        for (name, by) in CRCS.into_iter().chain([("one table", plain::crc_from as Crc)]) {
+        for (name, by) in CRCS.into_iter().chain([("one table", plain::crc as Crc)]) {
             assert_eq!(by(&covered, 0), crc, "{name}: a tag over {} bytes", covered.len());
         }
     }
@@ -159,28 +160,28 @@ fn tags_of_other_systems() {
 
 /// A CRC without the bytes after its last word.
 fn without_tail(bytes: &[u8], start: u16) -> u16 {
-    plain::crc_from(&bytes[..bytes.len() / 4 * 4], start)
+    plain::crc(&bytes[..bytes.len() / 4 * 4], start)
 }
 
 /// A CRC that starts at 0 whatever its start, where it has a word.
 fn from_0(bytes: &[u8], start: u16) -> u16 {
-    plain::crc_from(bytes, if bytes.len() < 4 { start } else { 0 })
+    plain::crc(bytes, if bytes.len() < 4 { start } else { 0 })
 }
 
 /// A CRC that is wrong from 20 bytes on, and in one bit.
 fn wrong_from_20(bytes: &[u8], start: u16) -> u16 {
-    plain::crc_from(bytes, start) ^ u16::from(bytes.len() >= 20)
+    plain::crc(bytes, start) ^ u16::from(bytes.len() >= 20)
 }
 
 /// A CRC that takes words where they are aligned only, and leaves out what stands before them.
 fn aligned(bytes: &[u8], start: u16) -> u16 {
     let before = bytes.as_ptr().align_offset(4).min(bytes.len());
-    plain::crc_from(&bytes[before..], start)
+    plain::crc(&bytes[before..], start)
 }
 
 /// A CRC that counts its bytes in 16 bits.
 fn counted_in_16_bits(bytes: &[u8], start: u16) -> u16 {
-    plain::crc_from(&bytes[..usize::from(bytes.len() as u16)], start)
+    plain::crc(&bytes[..usize::from(bytes.len() as u16)], start)
 }
 
 #[test]
@@ -194,7 +195,7 @@ fn wrong_crcs_are_told() {
 }
 
 fn four_steps(crc: u16, word: [u8; 4]) -> u16 {
-    plain::crc_from(&word, crc)
+    plain::crc(&word, crc)
 }
 
 #[test]

@@ -53,7 +53,7 @@ fn icb(k: u32, extents: &[[u32; 2]]) -> [u8; SECTOR] {
     }
     icb[12..16].copy_from_slice(&k.to_le_bytes());
     icb[10..12].copy_from_slice(&2032u16.to_le_bytes());
-    let crc = plain::crc(&icb[16..]);
+    let crc = plain::crc(&icb[16..], 0);
     icb[8..10].copy_from_slice(&crc.to_le_bytes());
     icb[4] = icb[..16].iter().fold(0u8, |sum, &b| sum.wrapping_add(b));
     icb

@@ -59,7 +59,7 @@ impl Block {
         (bytes[172], bytes[176]) = (8, 36);
         bytes[180..184].copy_from_slice(&(k - 1).to_le_bytes());
         bytes[10..12].copy_from_slice(&168u16.to_le_bytes());
-        let crc = plain::crc(&bytes[16..][..168]);
+        let crc = plain::crc(&bytes[16..][..168], 0);
         bytes[8..10].copy_from_slice(&crc.to_le_bytes());
         mend_checksum(&mut bytes);
         Block { kind: Kind::IcbOverFile(k), bytes }

@@ -143,7 +143,7 @@ fn descriptor_of(block: &[u8], v: u32) -> u16 {
     let sum = block[..16].iter().fold(0u8, |sum, &b| sum.wrapping_add(b)).wrapping_sub(block[4]);
     assert_eq!(sum, block[4], "the checksum of block {v}");
     let covered = usize::from(u16_at(block, 10));
-    assert_eq!(plain::crc(&block[16..16 + covered]), u16_at(block, 8), "the CRC of block {v}");
+    assert_eq!(plain::crc(&block[16..16 + covered], 0), u16_at(block, 8), "the CRC of block {v}");
     assert_eq!(u32_at(block, 12), v, "the location in the tag of block {v}");
     u16_at(block, 0)
 }
@@ -212,7 +212,7 @@ fn a_previous_icb_not_below_k_is_passed_over() {
     let icb = &mut loaded.bytes[at..at + SECTOR];
     let end = 176 + u32_at(icb, 56) as usize;
     icb[end - 4..end].copy_from_slice(&NEWEST.to_le_bytes());
-    let crc = plain::crc(&icb[16..16 + usize::from(u16_at(icb, 10))]);
+    let crc = plain::crc(&icb[16..16 + usize::from(u16_at(icb, 10))], 0);
     icb[8..10].copy_from_slice(&crc.to_le_bytes());
     icb[4] = 0;
     icb[4] = icb[..16].iter().fold(0u8, |sum, &b| sum.wrapping_add(b));

@@ -246,7 +246,7 @@ fn icb(k: u32, bytes: usize, extents: &[(u32, u32)]) -> [u8; SECTOR] {
         put(&mut sector, 180 + 8 * i, &block.to_le_bytes());
     }
     let covered = 160 + 8 * extents.len();
-    let crc = plain::crc(&sector[16..16 + covered]);
+    let crc = plain::crc(&sector[16..16 + covered], 0);
     put(&mut sector, 0, &261u16.to_le_bytes());
     put(&mut sector, 2, &2u16.to_le_bytes());
     put(&mut sector, 8, &crc.to_le_bytes());

@@ -147,7 +147,7 @@ fn wrong_crc(k: u32) -> [u8; SECTOR] {
     let mut block = [0x5a; SECTOR];
     block[..16].copy_from_slice(&[5, 1, 2, 0, 0, 0, 0, 0, 0, 0, 0xf0, 7, 0, 0, 0, 0]);
     block[12..16].copy_from_slice(&k.to_le_bytes());
-    let crc = plain::crc(&block[16..]) ^ 1;
+    let crc = plain::crc(&block[16..], 0) ^ 1;
     block[8..10].copy_from_slice(&crc.to_le_bytes());
     block[4] = block[..16].iter().fold(0u8, |sum, &b| sum.wrapping_add(b));
     block
@@ -410,8 +410,8 @@ const CRCS: [(&str, Crc); 5] = [
     ("byte by byte", tuormik::crc_by_bytes),
     ("word by word", tuormik::crc_by_words),
     ("in use", tuormik::crc),
-    ("plain, one table", plain::crc_from),
-    ("plain, four tables", plain::crc_by_four_tables),
+    ("plain, one table", plain::crc),
+    ("plain, four tables", plain::crc_by_words),
 ];
 
 const BY_BYTES: usize = 0;

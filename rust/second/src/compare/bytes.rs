@@ -202,7 +202,7 @@ impl Icb {
         let covered = usize::from(crc_length).min(SECTOR - 16);
         icb[0..2].copy_from_slice(&261u16.to_le_bytes());
         icb[2] = 2;
-        let crc = plain::crc(&icb[16..16 + covered]);
+        let crc = plain::crc(&icb[16..16 + covered], 0);
         icb[8..10].copy_from_slice(&crc.to_le_bytes());
         icb[10..12].copy_from_slice(&crc_length.to_le_bytes());
         icb[12..16].copy_from_slice(&self.k.to_le_bytes());
