@@ -111,6 +111,9 @@ pub enum Held {
         /// The sequence of the sparing table.
         sequence: u32,
     },
+    /// Numbers that no opening hands back, as they are: kind, N or R, NWA or sequence, last ICB. The calls refuse a kind above 1 as
+    /// [`StaleRecord`](Refusal::StaleRecord), and do not look at a last ICB of a rewritable disc.
+    Other([u32; 4]),
 }
 
 impl Record {
@@ -119,15 +122,17 @@ impl Record {
         match self.held {
             Held::WriteOnce { entries, next, last } => [0, entries, next, last, self.passed_over],
             Held::Rewritable { entries, sequence } => [1, entries, sequence, 0, self.passed_over],
+            Held::Other([kind, entries, next, last]) => [kind, entries, next, last, self.passed_over],
         }
     }
 
-    /// The record of five numbers; those of no kind are taken as a rewritable disc's.
+    /// The record of five numbers, of which [`Record::numbers`] gives back the same.
     pub fn from_numbers(numbers: [u32; 5]) -> Record {
         let [kind, entries, next, last, passed_over] = numbers;
-        let held = match kind {
-            0 => Held::WriteOnce { entries, next, last },
-            _ => Held::Rewritable { entries, sequence: next },
+        let held = match (kind, last) {
+            (0, _) => Held::WriteOnce { entries, next, last },
+            (1, 0) => Held::Rewritable { entries, sequence: next },
+            _ => Held::Other([kind, entries, next, last]),
         };
         Record { held, passed_over }
     }
@@ -135,7 +140,7 @@ impl Record {
     /// N or R.
     pub fn entries(self) -> u32 {
         match self.held {
-            Held::WriteOnce { entries, .. } | Held::Rewritable { entries, .. } => entries,
+            Held::WriteOnce { entries, .. } | Held::Rewritable { entries, .. } | Held::Other([_, entries, ..]) => entries,
         }
     }
 }

@@ -230,7 +230,7 @@ impl Found {
         let count = self.record.entries() as usize;
         let places = match self.record.held {
             Held::WriteOnce { .. } => count,
-            Held::Rewritable { .. } => count.saturating_mul(2),
+            Held::Rewritable { .. } | Held::Other(_) => count.saturating_mul(2),
         };
         // a resumed record may name more than there are
         self.table.get(..places).unwrap_or(&self.table)

@@ -64,6 +64,70 @@ fn a_write_once_disc() {
     assert_eq!(open.record(), once(2, 4, 3, 0));
 }
 
+/// Numbers of the C interface go through a record as they are.
+#[test]
+fn a_record_of_any_numbers() {
+    let each = [0, 1, 2, 3, 255, u32::MAX];
+    for kind in each {
+        for count in each {
+            for next in each {
+                for last in each {
+                    let numbers = [kind, count, next, last, 9];
+                    assert_eq!(Record::from_numbers(numbers).numbers(), numbers);
+                }
+            }
+        }
+    }
+}
+
+const NEITHER_KIND: [u32; 4] = [2, 3, 256, u32::MAX];
+
+/// A disc as it is open, but for a record of another kind.
+fn of_kind(disc: Disc, kind: u32) -> Open {
+    let open = disc.open().expect("it opens");
+    let mut numbers = open.record().numbers();
+    numbers[0] = kind;
+    let table = open.table().to_vec();
+    Open::resume(open.close(), &table, Record::from_numbers(numbers))
+}
+
+/// A record of neither kind goes with no disc, whatever else it has.
+#[test]
+fn a_record_of_neither_kind_on_a_write_once_disc() {
+    let mut memory = Memory::once();
+    let stale = Err(refused(Refusal::StaleRecord));
+    for kind in NEITHER_KIND {
+        let mut open = of_kind(memory.disc(), kind);
+        let record = open.record();
+        assert_eq!([open.save_virtual(0, &[1; SECTOR]), open.free_virtual(0), open.commit()], [stale; 3]);
+        assert_eq!([open.read(0).map(drop), open.fullness().map(drop), open.forecast(&[]).map(drop)], [stale; 3]);
+        assert_eq!((open.record(), record.numbers()), (record, [kind, 0, 1, 0, 0]));
+        assert_eq!((open.open_again(), open.record()), (Ok(()), once(0, 1, 0, 0)));
+    }
+}
+
+#[test]
+fn a_record_of_neither_kind_on_a_rewritable_disc() {
+    let mut memory = Memory::rewritable();
+    for kind in NEITHER_KIND {
+        let mut open = of_kind(memory.disc(), kind);
+        let record = open.record();
+        assert_eq!(answers(&mut open, 32), [Err(refused(Refusal::StaleRecord)); 4]);
+        assert_eq!((open.record(), record.numbers()), (record, [kind, 2, 0, 0, 0]));
+        assert_eq!((open.open_again(), open.record().numbers()), (Ok(()), [1, 2, 0, 0, 0]));
+    }
+}
+
+/// The fourth number of a rewritable disc's record is not looked at.
+#[test]
+fn a_rewritable_record_with_a_last_icb() {
+    let (mut memory, table) = (Memory::rewritable(), [NONE, 64, NONE, 192]);
+    let mut open = Open::resume(memory.disc(), &table, Record::from_numbers([1, 2, 0, 7, 0]));
+    assert_eq!((open.table(), open.read(33)), (table.as_slice(), Ok([0; SECTOR])));
+    assert_eq!(open.save_block(33, &[5; SECTOR]), Ok(()));
+    assert_eq!(open.record().numbers(), [1, 2, 0, 0, 0]);
+}
+
 #[test]
 fn after_a_cut_the_disc_is_opened_again() {
     let mut memory = Memory::once();

@@ -402,7 +402,7 @@ fn sequence_alone(disc: DiscRef, tables: &[u32], own: u32) -> Option<u32> {
     }
     match (DiscRef { marks: &marks, ..disc }).open().ok()?.record().held {
         Held::Rewritable { sequence, .. } => Some(sequence),
-        Held::WriteOnce { .. } => None,
+        Held::WriteOnce { .. } | Held::Other(_) => None,
     }
 }
 

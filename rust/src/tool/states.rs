@@ -192,7 +192,7 @@ impl<'a> View<'a> {
     pub fn count(self) -> u32 {
         match self.record.held {
             Held::WriteOnce { entries, .. } => entries,
-            Held::Rewritable { .. } => self.disc.length,
+            Held::Rewritable { .. } | Held::Other(_) => self.disc.length,
         }
     }
 

@@ -202,7 +202,7 @@ impl Opened {
                     passed: Passed::new(view, file_sectors),
                 }
             }
-            Held::Rewritable { sequence, .. } => {
+            Held::Rewritable { sequence, .. } | Held::Other([_, _, sequence, _]) => {
                 Opened::Rewritable { blocks, spares: view.spares().collect(), sequence, tables: Tables::new(view, tables, sequence) }
             }
         })
