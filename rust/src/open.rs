@@ -98,19 +98,9 @@ impl<'a> Disc<'a> {
         let mut table = vec![0; MOST_ENTRIES];
         let mut record = [0; 5];
         let mut replies = vec![0; calls.len()];
-        Error::check(calls::run(
-            self.bytes,
-            self.marks,
-            self.maps,
-            self.start,
-            self.length,
-            &mut table,
-            &mut record,
-            &numbers,
-            &pool,
-            &mut replies,
-        ))?;
-        let replies = replies.into_iter().map(Error::check).collect();
+        let Disc { bytes, marks, maps, start, length } = self;
+        Error::check(calls::run(bytes, marks, maps, *start, *length, &mut table, &mut record, &numbers, &pool, &mut replies))?;
+        let replies = calls.iter().zip(replies).map(|(call, reply)| Error::check(reply).map_err(|error| call.explain(error))).collect();
         Ok(Ran { record: Record::from_numbers(record), table, replies })
     }
 }
@@ -186,6 +176,15 @@ impl Call<'_> {
         let count = u32::try_from(bytes.len()).unwrap_or(u32::MAX);
         numbers.extend([kind, number, at, effect, from, count]);
         pool.extend_from_slice(bytes);
+    }
+
+    /// An error of the call, with what was lent to it.
+    fn explain(&self, error: Error) -> Error {
+        match *self {
+            Call::SaveVirtual { block, .. } | Call::SaveBlock { block, .. } => error.of_block(block),
+            Call::SavePacket { packet, .. } | Call::SparePacket { packet, .. } => error.of_packet(packet),
+            Call::FreeVirtual { .. } | Call::Commit { .. } | Call::Open => error,
+        }
     }
 }
 
@@ -370,10 +369,12 @@ impl<'a> Open<'a> {
         }
     }
 
-    /// The result of a writing call, and the record that it handed back.
-    fn settle(&mut self, number: u32, record: [u32; 5]) -> Result<(), Error> {
+    /// Makes a call of disc, table and record, which it may write, and takes the record that it hands back.
+    fn change(&mut self, call: impl FnOnce(&mut Disc, &mut [u32], &mut [u32]) -> u32) -> Result<(), Error> {
+        self.need_power()?;
+        let mut record = self.found.record.numbers();
+        let answer = Error::check(call(&mut self.disc, &mut self.found.table, &mut record));
         self.found.record = Record::from_numbers(record);
-        let answer = Error::check(number);
         self.is_down = answer == Err(Error::Cut);
         answer
     }
@@ -422,40 +423,16 @@ impl<'a> Open<'a> {
 
     /// [`Open::save_virtual`] with a cut.
     pub fn save_virtual_cut(&mut self, v: u32, block: &[u8], cut: Cut) -> Result<(), Error> {
-        self.need_power()?;
-        let mut record = self.found.record.numbers();
         let (at, effect) = cut.numbers();
-        let number = calls::save_virtual(
-            self.disc.bytes,
-            self.disc.marks,
-            self.disc.maps,
-            self.disc.start,
-            self.disc.length,
-            &mut self.found.table,
-            &mut record,
-            v,
-            block,
-            at,
-            effect,
-        );
-        self.settle(number, record)
+        self.change(|d, table, record| {
+            calls::save_virtual(d.bytes, d.marks, d.maps, d.start, d.length, table, record, v, block, at, effect)
+        })
+        .map_err(|error| error.of_block(block))
     }
 
     /// Frees a virtual block.
     pub fn free_virtual(&mut self, v: u32) -> Result<(), Error> {
-        self.need_power()?;
-        let mut record = self.found.record.numbers();
-        let number = calls::free_virtual(
-            self.disc.bytes,
-            self.disc.marks,
-            self.disc.maps,
-            self.disc.start,
-            self.disc.length,
-            &mut self.found.table,
-            &mut record,
-            v,
-        );
-        self.settle(number, record)
+        self.change(|d, table, record| calls::free_virtual(d.bytes, d.marks, d.maps, d.start, d.length, table, record, v))
     }
 
     /// Commits what was saved and freed on a write-once disc.
@@ -465,21 +442,8 @@ impl<'a> Open<'a> {
 
     /// [`Open::commit`] with a cut.
     pub fn commit_cut(&mut self, cut: Cut) -> Result<(), Error> {
-        self.need_power()?;
-        let mut record = self.found.record.numbers();
         let (at, effect) = cut.numbers();
-        let number = calls::commit(
-            self.disc.bytes,
-            self.disc.marks,
-            self.disc.maps,
-            self.disc.start,
-            self.disc.length,
-            &self.found.table,
-            &mut record,
-            at,
-            effect,
-        );
-        self.settle(number, record)
+        self.change(|d, table, record| calls::commit(d.bytes, d.marks, d.maps, d.start, d.length, table, record, at, effect))
     }
 
     /// Saves a logical block of a rewritable disc, but for one that [belongs to a spare](crate::Refusal::BelongsToSpare). The others of its
@@ -492,23 +456,9 @@ impl<'a> Open<'a> {
 
     /// [`Open::save_block`] with a cut.
     pub fn save_block_cut(&mut self, b: u32, block: &[u8], cut: Cut) -> Result<(), Error> {
-        self.need_power()?;
-        let mut record = self.found.record.numbers();
         let (at, effect) = cut.numbers();
-        let number = calls::save_block(
-            self.disc.bytes,
-            self.disc.marks,
-            self.disc.maps,
-            self.disc.start,
-            self.disc.length,
-            &self.found.table,
-            &mut record,
-            b,
-            block,
-            at,
-            effect,
-        );
-        self.settle(number, record)
+        self.change(|d, table, record| calls::save_block(d.bytes, d.marks, d.maps, d.start, d.length, table, record, b, block, at, effect))
+            .map_err(|error| error.of_block(block))
     }
 
     /// Saves the packet that begins at a logical block, but for one that [belongs to a spare](crate::Refusal::BelongsToSpare).
@@ -518,23 +468,11 @@ impl<'a> Open<'a> {
 
     /// [`Open::save_packet`] with a cut.
     pub fn save_packet_cut(&mut self, b: u32, packet: &[u8], cut: Cut) -> Result<(), Error> {
-        self.need_power()?;
-        let mut record = self.found.record.numbers();
         let (at, effect) = cut.numbers();
-        let number = calls::save_packet(
-            self.disc.bytes,
-            self.disc.marks,
-            self.disc.maps,
-            self.disc.start,
-            self.disc.length,
-            &self.found.table,
-            &mut record,
-            b,
-            packet,
-            at,
-            effect,
-        );
-        self.settle(number, record)
+        self.change(|d, table, record| {
+            calls::save_packet(d.bytes, d.marks, d.maps, d.start, d.length, table, record, b, packet, at, effect)
+        })
+        .map_err(|error| error.of_packet(packet))
     }
 
     /// Spares the packet that begins at a logical block: its bytes go to the free spare of lowest index. A packet that is spared already
@@ -562,23 +500,11 @@ impl<'a> Open<'a> {
 
     /// [`Open::spare_packet`] with a cut.
     pub fn spare_packet_cut(&mut self, b: u32, packet: &[u8], cut: Cut) -> Result<(), Error> {
-        self.need_power()?;
-        let mut record = self.found.record.numbers();
         let (at, effect) = cut.numbers();
-        let number = calls::spare_packet(
-            self.disc.bytes,
-            self.disc.marks,
-            self.disc.maps,
-            self.disc.start,
-            self.disc.length,
-            &mut self.found.table,
-            &mut record,
-            b,
-            packet,
-            at,
-            effect,
-        );
-        self.settle(number, record)
+        self.change(|d, table, record| {
+            calls::spare_packet(d.bytes, d.marks, d.maps, d.start, d.length, table, record, b, packet, at, effect)
+        })
+        .map_err(|error| error.of_packet(packet))
     }
 }
 

@@ -1,6 +1,8 @@
 //! Why a call is turned down: the lines of document 01, "Why a call is turned down", but for 18, which never occurs (document 02, slip
 //! 1), and those that slips 5 and 8 add, with their words.
 
+use crate::numbers::grouped;
+use crate::{PACKET_BYTES, SECTOR};
 use std::fmt;
 
 /// A line of document 01 or 02 by which a call is turned down.
@@ -137,6 +139,15 @@ impl fmt::Display for Refusal {
 pub enum Error {
     /// It was turned down, and nothing lent has changed.
     Refused(Refusal),
+    /// It was turned down as [`LentLength`](Refusal::LentLength), and nothing lent has changed.
+    Length {
+        /// Which of the lent slices it was: the block or the packet.
+        what: &'static str,
+        /// How many bytes it has.
+        has: usize,
+        /// How many it must have.
+        needs: usize,
+    },
     /// The power failed in it; the disc has to be opened again.
     Cut,
     /// The power has failed before it, and the disc was not opened since.
@@ -159,7 +170,26 @@ impl Error {
     pub fn refusal(self) -> Option<Refusal> {
         match self {
             Error::Refused(why) => Some(why),
-            _ => None,
+            Error::Length { .. } => Some(LentLength),
+            Error::Cut | Error::PowerOff | Error::Unknown(_) => None,
+        }
+    }
+
+    /// The error of a call to which this block was lent.
+    pub(crate) fn of_block(self, block: &[u8]) -> Error {
+        self.of_length("block", block.len(), SECTOR)
+    }
+
+    /// The error of a call to which this packet was lent.
+    pub(crate) fn of_packet(self, packet: &[u8]) -> Error {
+        self.of_length("packet", packet.len(), PACKET_BYTES)
+    }
+
+    /// A refusal of line 3 says which length is the wrong one.
+    fn of_length(self, what: &'static str, has: usize, needs: usize) -> Error {
+        match self {
+            Error::Refused(LentLength) if has != needs => Error::Length { what, has, needs },
+            other => other,
         }
     }
 }
@@ -168,6 +198,9 @@ impl fmt::Display for Error {
     fn fmt(&self, f: &mut fmt::Formatter) -> fmt::Result {
         match self {
             Error::Refused(why) => why.fmt(f),
+            Error::Length { what, has, needs } => {
+                write!(f, "The lent {what} must have {} bytes, and has {}. ({})", grouped(*needs), grouped(*has), LentLength.place())
+            }
             Error::Cut => f.write_str("The power failed in the call."),
             Error::PowerOff => f.write_str("The power failed; the disc has to be opened again."),
             Error::Unknown(number) => {

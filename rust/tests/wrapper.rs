@@ -51,7 +51,7 @@ fn a_write_once_disc() {
     assert_eq!(open.save_virtual(0, &[1; SECTOR]), Ok(()));
     assert_eq!(open.save_virtual(1, &[2; SECTOR]), Ok(()));
     assert_eq!(open.save_virtual(3, &[2; SECTOR]), Err(refused(Refusal::NumberOutside)));
-    assert_eq!(open.save_virtual(2, &[2; 7]), Err(refused(Refusal::LentLength)));
+    assert_eq!(open.save_virtual(2, &[2; 7]), Err(Error::Length { what: "block", has: 7, needs: SECTOR }));
     assert_eq!(open.free_virtual(0), Ok(()));
     assert_eq!(open.table(), [NONE, 2]);
     assert_eq!(open.read(0), Err(refused(Refusal::UnusedEntry)));
@@ -126,6 +126,42 @@ fn a_rewritable_record_with_a_last_icb() {
     assert_eq!((open.table(), open.read(33)), (table.as_slice(), Ok([0; SECTOR])));
     assert_eq!(open.save_block(33, &[5; SECTOR]), Ok(()));
     assert_eq!(open.record().numbers(), [1, 2, 0, 0, 0]);
+}
+
+/// Line 3 says which of the lent slices has the wrong length, how many bytes it has and how many it must have.
+#[test]
+fn a_wrong_length_says_which() {
+    let words = |answer: Result<(), Error>| answer.map_err(|error| (error.refusal(), error.to_string()));
+    let wrong = |text: &str| Err((Some(Refusal::LentLength), format!("{text}. (01, line 3)")));
+    let mut memory = Memory::once();
+    let mut open = memory.disc().open().expect("it opens");
+    assert_eq!(words(open.save_virtual(0, &[2; 7])), wrong("The lent block must have 2,048 bytes, and has 7"));
+    assert_eq!(words(open.save_virtual(0, &[])), wrong("The lent block must have 2,048 bytes, and has 0"));
+    let mut memory = Memory::rewritable();
+    let mut open = memory.disc().open().expect("it opens");
+    assert_eq!(words(open.save_block(0, &[1; SECTOR + 1])), wrong("The lent block must have 2,048 bytes, and has 2,049"));
+    assert_eq!(words(open.save_packet(0, &[1; SECTOR])), wrong("The lent packet must have 65,536 bytes, and has 2,048"));
+    assert_eq!(words(open.spare_packet(0, &[1])), wrong("The lent packet must have 65,536 bytes, and has 1"));
+    let calls = [
+        Call::SaveBlock { b: 0, block: &[1; 5], cut: Cut::NONE },
+        Call::SaveBlock { b: 99, block: &[1; SECTOR], cut: Cut::NONE },
+        Call::SparePacket { b: 0, packet: &[1; SECTOR], cut: Cut::NONE },
+    ];
+    let replies: Vec<_> = memory.disc().run(&calls).expect("a list").replies.into_iter().map(words).collect();
+    assert_eq!(replies[0], wrong("The lent block must have 2,048 bytes, and has 5"));
+    assert_eq!(replies[1].clone().map_err(|(why, _)| why), Err(Some(Refusal::NumberOutside)));
+    assert_eq!(replies[2], wrong("The lent packet must have 65,536 bytes, and has 2,048"));
+}
+
+/// The shape of the disc and the span are asked before any length.
+#[test]
+fn a_wrong_length_is_told_after_lines_1_and_2() {
+    let mut memory = Memory::once();
+    let record = memory.disc().open().expect("it opens").record();
+    let long = Disc { length: 56, ..memory.disc() };
+    assert_eq!(Open::resume(long, &[], record).save_virtual(0, &[2; 7]), Err(refused(Refusal::SpanOutside)));
+    memory.marks.push(BLANK);
+    assert_eq!(Open::resume(memory.disc(), &[], record).save_virtual(0, &[2; 7]), Err(refused(Refusal::DiscShape)));
 }
 
 #[test]
@@ -360,7 +396,8 @@ fn a_spare_is_told_before_what_comes_after_it() {
     }
     assert_eq!(open.spare_packet(0, &[9; PACKET_BYTES]), Err(refused(Refusal::OneTable)));
     // what is lent, and whether the record goes with the disc, is asked before
-    assert_eq!([open.save_block(32, &[]), open.save_packet(32, &[]), open.spare_packet(32, &[])], [Err(refused(Refusal::LentLength)); 3]);
+    let empty = [open.save_block(32, &[]), open.save_packet(32, &[]), open.spare_packet(32, &[])];
+    assert_eq!(empty.map(|answer| answer.err().and_then(Error::refusal)), [Some(Refusal::LentLength); 3]);
     let stale = Record { held: Held::Rewritable { entries: 1, sequence: 9 }, passed_over: 0 };
     let mut open = Open::resume(memory.disc(), &[NONE, 96], stale);
     assert_eq!(answers(&mut open, 32), [Err(refused(Refusal::StaleRecord)); 4]);

@@ -48,6 +48,7 @@ impl Asked {
 fn failure(error: Error, what: impl FnOnce() -> String, sentence: impl FnOnce(Refusal) -> String) -> Failure {
     match error {
         Error::Refused(why) => Failure::Refused(sentence(why), why),
+        Error::Length { .. } => Failure::Refused(sentence(Refusal::LentLength), Refusal::LentLength),
         Error::Cut => Failure::Cut(what()),
         other => Failure::File(other.to_string()),
     }
