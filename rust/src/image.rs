@@ -6,13 +6,49 @@
 //! [`Image::load`] reads the pair of files and writes nothing, so that a folder may be read-only. [`Image::load_to_write`] takes the
 //! image's lock before, and holds it until the image is dropped: two processes cannot store over each other. [`Image::store`] replaces
 //! both files so that whoever is stopped in it, at any call of the file system, leaves the old pair or the new one.
+//!
+//! [`Image::open`] and [`Image::open_to_write`] do so with an image whose own descriptors tell its volume, as the tool makes them. [`Error`]
+//! takes the answers of the layer too, so that `?` leads from a path to what is stored:
+//!
+//! ```
+//! use tuormik::image::{Error, Image};
+//!
+//! fn save(path: &str, block: &[u8]) -> Result<(), Error> {
+//!     let mut image = Image::open_to_write(path)?;
+//!     let mut open = image.disc().open()?;
+//!     open.save_virtual(0, block)?;
+//!     open.commit()?;
+//!     image.store()
+//! }
+//!
+//! fn read(path: &str) -> Result<[u8; 2048], Error> {
+//!     let image = Image::open(path)?;
+//!     Ok(image.to_read().open()?.read(0)?)
+//! }
+//! # use tuormik::{descriptors::{write_volume, Volume}, write_maps, Maps};
+//! # let path = std::env::temp_dir().join(format!("tuormik-saved-{}.img", std::process::id()));
+//! # let volume = Volume { maps: write_maps(&Maps::WriteOnce { partition: 0 })?, start: 288, length: 100 };
+//! # let mut image = Image::create(&path, None, 400, volume, true)?;
+//! # image.disc().make(&[])?;
+//! # for (at, bytes) in write_volume(&image.volume, 0).expect("descriptors") {
+//! #     image.bytes[2048 * at..][..2048].copy_from_slice(&bytes);
+//! # }
+//! # image.marks[..288].fill(tuormik::RECORDED);
+//! # image.store()?;
+//! # drop(image);
+//! # let path = path.to_str().expect("a path");
+//! # let done = save(path, &[7; 2048]).and_then(|()| read(path));
+//! # std::fs::remove_file(path).expect("the image is there");
+//! # assert_eq!(done?, [7; 2048]);
+//! # Ok::<(), Error>(())
+//! ```
 
 mod files;
 mod journal;
 mod lock;
 mod marks_file;
 
-use crate::descriptors::Volume;
+use crate::descriptors::{find_volume, Volume};
 use crate::numbers::grouped;
 use crate::{marks_by_rule, read_maps, Disc, DiscRef, Maps, BLANK, MOST_SECTORS, PACKET, SECTOR};
 use files::{folder_of, if_there, with_ending, Files, Stamp, System, MOST_BYTES};
@@ -27,7 +63,7 @@ use std::path::{Path, PathBuf};
 
 pub use marks_file::{mark_name, MARKS_FORMAT};
 
-/// Why an image is not read or not replaced.
+/// Why an image is not read or not replaced, or a call on its disc did not come to its end.
 #[derive(Debug)]
 pub enum Error {
     /// A file that cannot be read or written.
@@ -64,6 +100,8 @@ pub enum Error {
         /// What stood in the way.
         error: Box<Error>,
     },
+    /// What the layer answered to a call.
+    Call(crate::Error),
 }
 
 impl Error {
@@ -91,11 +129,18 @@ impl fmt::Display for Error {
                     path.display()
                 )
             }
+            Error::Call(error) => error.fmt(f),
         }
     }
 }
 
 impl std::error::Error for Error {}
+
+impl From<crate::Error> for Error {
+    fn from(error: crate::Error) -> Error {
+        Error::Call(error)
+    }
+}
 
 /// A disc in memory, filled up with blank sectors to the partition's end, and where it came from.
 pub struct Image {
@@ -148,6 +193,18 @@ impl Image {
         let hold = Hold { _lock: lock, was: there.image.as_deref().map(fingerprint), stamps: stamps(&pair)? };
         let (bytes, marks) = (vec![0; SECTOR * sectors], vec![BLANK; sectors]);
         Ok(Image { bytes, marks, volume, pair, sectors, has_marks_file: false, hold: Some(hold) })
+    }
+
+    /// Reads an image file whose volume its own descriptors tell, with its marks where they are beside it, as [`Image::load`] does.
+    pub fn open(path: impl AsRef<Path>) -> Result<Image, Error> {
+        let path = path.as_ref();
+        Image::load(path, None, |bytes| described(path, bytes))
+    }
+
+    /// Takes the image's lock and reads it as [`Image::open`] does, to store it later, as [`Image::load_to_write`] does.
+    pub fn open_to_write(path: impl AsRef<Path>) -> Result<Image, Error> {
+        let path = path.as_ref();
+        Image::load_to_write(path, None, |bytes| described(path, bytes))
     }
 
     /// Reads an image file. The marks are those of a marks file, named or beside the image, or follow the rule; the volume is the one
@@ -326,6 +383,11 @@ fn need_replaceable(path: &Path) -> Result<(), Error> {
         return Err(Error::wrong(path, "it is read-only, and stays as it is"));
     }
     Ok(())
+}
+
+/// The volume that the descriptors of an image tell.
+fn described(path: &Path, bytes: &[u8]) -> Result<Volume, Error> {
+    find_volume(bytes).map_err(|words| Error::wrong(path, words))
 }
 
 /// Reads image and marks, and finds the volume.

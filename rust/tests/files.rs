@@ -9,6 +9,7 @@ use std::path::Path;
 use std::process::Command;
 use tuormik::descriptors::{find_volume, Volume};
 use tuormik::image::{Error, Image, MARKS_FORMAT};
+use tuormik::Refusal;
 
 fn set_mode(folder: &Folder, name: &str, mode: u32) {
     std::fs::set_permissions(folder.path(name), PermissionsExt::from_mode(mode)).expect("permissions");
@@ -53,6 +54,60 @@ fn who_holds_an_image_is_named() {
 /// The volume of `d.img`.
 fn find(bytes: &[u8]) -> Result<Volume, Error> {
     find_volume(bytes).map_err(|words| Error::Wrong { path: "d.img".into(), words })
+}
+
+/// From a path to what is stored, by one error.
+fn save(path: &Path, v: u32, block: &[u8]) -> Result<(), Error> {
+    let mut image = Image::open_to_write(path)?;
+    let mut open = image.disc().open()?;
+    open.save_virtual(v, block)?;
+    open.commit()?;
+    image.store()
+}
+
+fn read(path: &Path, v: u32) -> Result<[u8; 2048], Error> {
+    Ok(Image::open(path)?.to_read().open()?.read(v)?)
+}
+
+#[test]
+fn an_image_is_opened_by_its_path() {
+    let folder = Folder::with_disc("by-path");
+    let path = folder.path("d.img");
+    save(&path, 0, &[7; 2048]).expect("it is stored");
+    assert_eq!(read(&path, 0).expect("it is read"), [7; 2048]);
+    assert_eq!(folder.names(), ["d.img", "text"]);
+    let before = folder.files();
+    let outside = |error: &Error| matches!(error, Error::Call(error) if error.refusal() == Some(Refusal::NumberOutside));
+    assert!(read(&path, 1).is_err_and(|error| outside(&error)));
+    let error = save(&path, 2, &[7; 2048]).expect_err("there is no block 1 yet");
+    assert!(outside(&error) && error.to_string().ends_with("(01, line 12)"), "{error}");
+    assert!(Image::open(&path).expect("an image").store().is_err());
+    assert_eq!(folder.files(), before);
+}
+
+#[test]
+fn an_image_that_cannot_be_opened_by_its_path() {
+    let folder = Folder::new("not-by-path");
+    folder.write("zeros.img", &[0; 400 * 2048]);
+    for open in [Image::open, Image::open_to_write] {
+        let [missing, undescribed] = ["none.img", "zeros.img"].map(|name| open(folder.path(name)).err().map(|error| error.to_string()));
+        assert!(missing.is_some_and(|words| words.contains("none.img: there is no such file")));
+        assert!(undescribed.is_some_and(|words| words.contains("zeros.img: no anchor volume descriptor pointer")));
+    }
+    assert_eq!(folder.names(), ["zeros.img"]);
+}
+
+/// What README shows is tried where the module of images shows the same.
+#[test]
+fn readme_shows_what_is_tried() {
+    let [readme, module] = ["../README.md", "src/image.rs"].map(|name| {
+        let path = Path::new(env!("CARGO_MANIFEST_DIR")).join(name);
+        std::fs::read_to_string(path).expect("a text")
+    });
+    let section = readme.split("\n## ").find(|section| section.starts_with("From Rust\n")).expect("a section");
+    let shown: Vec<&str> = section.lines().filter_map(|line| line.strip_prefix("    ")).collect();
+    let tried: Vec<&str> = module.lines().filter_map(|line| line.strip_prefix("//! ")).collect();
+    assert!(shown.len() > 5 && tried.windows(shown.len()).any(|lines| lines == shown), "{shown:#?}");
 }
 
 /// A store that cannot write the marks after the image and they have changed together.
