@@ -1,8 +1,8 @@
 //! The proved block layer of CD UDF discs, from Rust.
 //!
-//! [`Disc`] is a lent disc, [`Open`] an open one ([`DiscRef`] and [`OpenRef`] where it is only read): its calls are those of document 01, "The CD UDF block layer", with types for record,
-//! cut and refusal. [`calls`] has the same calls over plain slices and numbers, as they stand in `include/tuormik.h`. [`image`] has discs
-//! in image files, with their marks. [`crc`] is the CRC of descriptor tags.
+//! [`Disc`] is a lent disc, [`Open`] an open one ([`DiscRef`] and [`OpenRef`] where it is only read): its calls are those of document 01,
+//! "The CD UDF block layer", with types for record, cut and refusal. [`calls`] has the same calls over plain slices and numbers, as they
+//! stand in `include/tuormik.h`. [`image`] has discs in image files, with their marks. [`crc`] is the CRC of descriptor tags.
 //!
 //! ```
 //! use tuormik::{write_maps, Disc, DiscRef, Maps};
