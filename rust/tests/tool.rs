@@ -18,7 +18,15 @@ fn every_command_has_help() {
         assert!(all.contains(command));
         let help = folder.does(&[command, "--help"]);
         assert!(help.starts_with(&format!("tuormik {command}")), "{help}");
+        assert_eq!(folder.does(&["help", command]), help);
+        assert!(help.lines().all(|line| line.chars().count() <= 100), "{help}");
     }
+    assert!(all.lines().chain(folder.does(&["help", "volume"]).lines()).all(|line| line.chars().count() <= 100), "{all}");
+    // a slip of the finger gets one line, and the nearest command or option
+    assert_eq!(folder.usage(&["verfiy", "d.img"]), "there is no command verfiy; the nearest is verify ('tuormik help' lists them)\n");
+    assert_eq!(folder.usage(&["help", "dance"]), "there is no command dance ('tuormik help' lists them)\n");
+    assert!(folder.usage(&["save", "--no-comit"]).starts_with("there is no option --no-comit; the nearest is --no-commit\n"));
+    assert!(folder.usage(&["info", "--cut", "1"]).starts_with("info has no option --cut\n"));
     folder.usage(&[]);
     folder.usage(&["dance"]);
     for command in COMMANDS {

@@ -18,7 +18,8 @@ pub const ENTRY: Entry = Entry {
     line: "a new disc",
     usage: &[
         "IMAGE --media cdr|cdrw [--sectors N]",
-        "IMAGE --sectors N (--write-once | --tables T,..) [--start S] [--length L] [--spares M,..]",
+        "IMAGE --sectors N --write-once [--start S] [--length L]",
+        "IMAGE --sectors N --tables T,.. [--spares M,..] [--start S] [--length L]",
     ],
     about: "\
 Makes a disc of N sectors and writes it to IMAGE, which must not be there yet. The partition starts at S (288) and has L sectors (to \

@@ -92,7 +92,7 @@ impl Passed {
     pub fn need_force(&self, is_forced: bool, out: &mut Outputs) -> Done {
         match &self.possible {
             Some(_) if !is_forced => Err(Failure::File(format!(
-                "{}\nWhat is written goes by the older VAT, and a commit ends the disc with it; on a CD-R that cannot be undone. --force goes on",
+                "{}\nWhat is written goes by the older VAT, and a commit ends the disc with it; on a CD-R that cannot be undone. --force goes on all the same",
                 self.warning().unwrap_or_default()
             ))),
             Some(_) => {
