@@ -298,7 +298,8 @@ fn marks_that_do_not_belong_are_refused_without_advice() {
     folder.write("m", b"tuormik marks\nunreadable 257 1\n");
     let info = folder.does(&["info", "d.img", "--marks", "m"]);
     assert!(info.contains("290 recorded, 1 unreadable, 109 blank"), "{info}");
-    assert!(folder.does(&["help", "volume"]).ends_with(MARKS_FORMAT));
+    let squeezed = |text: &str| text.split_whitespace().collect::<Vec<_>>().join(" ");
+    assert!(squeezed(&folder.does(&["help", "volume"])).ends_with(&squeezed(MARKS_FORMAT)));
 }
 
 #[test]

@@ -6,14 +6,11 @@ use crate::{marks_by_rule, BLANK, MOST_SECTORS, RECORDED, SECTOR, UNREADABLE};
 /// The format of a marks file, in words.
 pub const MARKS_FORMAT: &str = "\
 A marks file is text, and its first line is 'tuormik marks'. Each line after it is one of
-  blank FROM COUNT         COUNT sectors from sector FROM on are blank; one whose bytes are not zeros
-                           is not, and the file is refused
+  blank FROM COUNT         COUNT sectors from sector FROM on are blank; one whose bytes are not zeros is not, and the file is refused
   recorded FROM COUNT      they are recorded
   unreadable FROM COUNT    they are unreadable
-  image FINGERPRINT        written by the tool: the marks belong to these bytes, and with others the
-                           file is refused
-A later line prevails. Sectors that no line names follow the rule: trailing sectors of zeros are
-blank, all others are recorded.
+  image FINGERPRINT        written by the tool: the marks belong to these bytes, and with others the file is refused
+A later line prevails. Sectors that no line names follow the rule: trailing sectors of zeros are blank, all others are recorded.
 ";
 
 const HEAD: &str = "tuormik marks";

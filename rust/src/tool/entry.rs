@@ -13,7 +13,7 @@ pub struct Entry {
     pub line: &'static str,
     /// What stands after its name, for each way to call it.
     pub usage: &'static [&'static str],
-    /// What it does, in paragraphs with a line break after each; lines that begin with spaces stand as they are.
+    /// What it does, in paragraphs and items with a line break after each; an item is two spaces, a name, spaces and its words.
     pub about: &'static str,
     /// The options of its own.
     pub choices: &'static [Choice],
@@ -94,9 +94,19 @@ pub fn choices_text<'a>(choices: impl IntoIterator<Item = &'a Choice>) -> String
     choices.into_iter().map(line).collect()
 }
 
-/// Paragraphs, broken into lines.
+/// The name and the words of a line that begins with two spaces and has two or more between them.
+pub fn item(line: &str) -> Option<(&str, &str)> {
+    let (name, words) = line.strip_prefix("  ")?.split_once("  ")?;
+    Some((name, words.trim_start())).filter(|(name, _)| !name.is_empty())
+}
+
+/// Paragraphs and items, broken into lines; other lines that begin with spaces stand as they are.
 pub fn paragraphs(text: &str) -> String {
-    let broken = |line: &str| if line.starts_with(' ') { format!("{line}\n") } else { wrapped_at(0, WIDE, "", line) };
+    let broken = |line: &str| match item(line) {
+        Some((name, words)) => wrapped_at(line.len() - words.len(), WIDE, &format!("  {name}"), words),
+        None if line.starts_with(' ') => format!("{line}\n"),
+        None => wrapped_at(0, WIDE, "", line),
+    };
     text.lines().map(broken).collect()
 }
 
@@ -123,7 +133,7 @@ impl Entry {
 /// How a volume is given, and what a marks file is.
 pub fn volume_help() -> String {
     let parts = [paragraphs(VOLUME_ABOUT), choices_text(&VOLUME), paragraphs(MARKS_ABOUT)];
-    format!("{}\n{}", parts.concat(), tuormik::image::MARKS_FORMAT)
+    format!("{}\n{}", parts.concat(), paragraphs(tuormik::image::MARKS_FORMAT))
 }
 
 /// The name that is nearest to a word, if one is near: a slip of the finger or two away.

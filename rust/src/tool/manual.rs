@@ -1,6 +1,6 @@
 //! The manual page, made of what the commands say of themselves: `tuormik help --manual` prints it, and `tuormik.1` is that.
 
-use super::entry::{Choice, Entry, MARKS_ABOUT, VOLUME, VOLUME_ABOUT};
+use super::entry::{item, Choice, Entry, MARKS_ABOUT, VOLUME, VOLUME_ABOUT};
 use super::{status, ENTRIES, NUMBERS};
 use tuormik::image::MARKS_FORMAT;
 
@@ -23,8 +23,7 @@ old, unreadable or whole. The image is then stored as the cut left it, and the n
 a power failure.
 ";
 
-const EXAMPLES: &str = "\
-  tuormik make field.img --media cdr
+const EXAMPLES: &str = "  tuormik make field.img --media cdr
   tuormik fit field.img 'new*40' commit
   tuormik save field.img new may12
   tuormik verify *.img
@@ -46,21 +45,14 @@ fn escaped(text: &str) -> String {
 /// The width of the page's lines, as a file.
 const WIDE: usize = 130;
 
-/// Paragraphs; lines that begin with spaces stand as they are.
+/// Paragraphs and items; other lines that begin with spaces stand as they are.
 fn paragraphs(text: &str) -> String {
-    let mut page = String::new();
-    let lines: Vec<&str> = text.lines().collect();
-    for part in lines.chunk_by(|a, b| a.starts_with(' ') == b.starts_with(' ')) {
-        if part[0].starts_with(' ') {
-            let lines: String = part.iter().map(|line| escaped(line) + "\n").collect();
-            page.push_str(&format!(".nf\n{lines}.fi\n"));
-        } else {
-            for line in part {
-                page.push_str(&format!(".PP\n{}", broken(&escaped(line))));
-            }
-        }
-    }
-    page
+    let put = |line: &str| match item(line) {
+        Some((name, words)) => format!(".TP\n\\fB{}\\fR\n{}", escaped(name), broken(&escaped(words))),
+        None if line.starts_with(' ') => format!(".nf\n{}\n.fi\n", escaped(line)),
+        None => format!(".PP\n{}", broken(&escaped(line))),
+    };
+    text.lines().map(put).collect()
 }
 
 /// A line broken into several, none of which begins with a request's dot.

@@ -21,11 +21,11 @@ pub const ENTRY: Entry = Entry {
     usage: &["IMAGE.. [--history] [--json]"],
     about: "\
 Opens the disc of each image and reads every block that is used. A line an image says what it comes to, and why:
-  clean                       all that is used can be read
-  DAMAGED                     opening passed over sectors above the last commit; blocks that are used cannot be read
-                              (they are unreadable), or were never recorded (they are blank); a copy of the sparing
-                              table is not current; no VAT or sparing table is found any more (status 1)
-  CANNOT BE OPENED            the file cannot be read, or its disc cannot be opened by this layer (status 2)
+  clean                       all that is used can be read (status 0)
+  DAMAGED                     opening passed over sectors above the last commit; blocks that are used cannot be read (they are \
+unreadable), or were never recorded (they are blank); a copy of the sparing table is not current; no VAT, or no sparing table, can be \
+read any more (status 1)
+  CANNOT BE OPENED            the file cannot be read, or this layer cannot open its disc (status 2)
   NOT A DISC OF THIS FORMAT   it is something else, and what, where that can be told (status 5)
 That blocks belong to spares inside the partition is no fault: they are not read, and counted apart. The last line counts the images. \
 Of several images the highest status is given.
