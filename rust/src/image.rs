@@ -153,7 +153,8 @@ pub struct Image {
     pair: Pair,
     /// sectors of the image file
     sectors: usize,
-    has_marks_file: bool,
+    /// what the marks file has, where there is one
+    marks_text: Option<Vec<u8>>,
     /// what is held where the image is to be stored
     hold: Option<Hold>,
 }
@@ -192,7 +193,7 @@ impl Image {
         }
         let hold = Hold { _lock: lock, was: there.image.as_deref().map(fingerprint), stamps: stamps(&pair)? };
         let (bytes, marks) = (vec![0; SECTOR * sectors], vec![BLANK; sectors]);
-        Ok(Image { bytes, marks, volume, pair, sectors, has_marks_file: false, hold: Some(hold) })
+        Ok(Image { bytes, marks, volume, pair, sectors, marks_text: None, hold: Some(hold) })
     }
 
     /// Reads an image file whose volume its own descriptors tell, with its marks where they are beside it, as [`Image::load`] does.
@@ -254,17 +255,21 @@ impl Image {
         self.sectors
     }
 
-    fn file_bytes(&self) -> &[u8] {
+    /// The bytes of the image file, without the sectors that fill the disc up.
+    pub fn file_bytes(&self) -> &[u8] {
         &self.bytes[..SECTOR * self.sectors]
+    }
+
+    /// The marks file and its bytes, where there is one.
+    pub fn marks_file(&self) -> Option<(&Path, &[u8])> {
+        self.marks_text.as_deref().map(|text| (self.pair.marks.as_path(), text))
     }
 
     /// How the marks were found, in words.
     pub fn marks_source(&self) -> String {
-        if self.has_marks_file {
-            let name = self.pair.marks.file_name().unwrap_or(self.pair.marks.as_os_str());
-            format!("from {}", name.to_string_lossy())
-        } else {
-            "by the rule that trailing sectors of zeros are blank".to_string()
+        match self.marks_file() {
+            Some((path, _)) => format!("from {}", path.file_name().unwrap_or(path.as_os_str()).to_string_lossy()),
+            None => "by the rule that trailing sectors of zeros are blank".to_string(),
         }
     }
 
@@ -281,17 +286,20 @@ impl Image {
         }
         let (bytes, marks) = (self.file_bytes(), &self.marks[..self.sectors]);
         let print = fingerprint(bytes);
-        let new_marks = if self.has_marks_file || marks_by_rule(bytes) != marks {
+        let new_marks = if self.marks_text.is_some() || marks_by_rule(bytes) != marks {
             NewMarks::Text(marks_text(marks, print).into_bytes())
         } else if hold.stamps[1].is_some() {
             NewMarks::Removed
         } else {
             NewMarks::Kept
         };
-        let has_marks_file = matches!(new_marks, NewMarks::Text(_));
+        let marks_text = match &new_marks {
+            NewMarks::Text(text) => Some(text.clone()),
+            NewMarks::Kept | NewMarks::Removed => None,
+        };
         journal::store(&System, &self.pair, hold.was, bytes, new_marks)?;
         let stamps = stamps(&self.pair)?;
-        self.has_marks_file = has_marks_file;
+        self.marks_text = marks_text;
         if let Some(hold) = &mut self.hold {
             (hold.was, hold.stamps) = (Some(print), stamps);
         }
@@ -300,14 +308,27 @@ impl Image {
 
     /// Writes a file that is none of the image's own, as [`write_file`] does.
     pub fn write_output(&self, path: &Path, bytes: &[u8]) -> Result<(), Error> {
-        let output = settled(path)?;
-        for own in [&self.pair.image, &self.pair.marks] {
-            if output == *own || is_same_file(&output, own)? {
-                return Err(Error::wrong(path, "it is the image or its marks file, and is not written over"));
-            }
-        }
-        write_file(&output, bytes)
+        need_other(path, &self.pair)?;
+        write_file(path, bytes)
     }
+}
+
+/// An output must be none of the files of an image, which need not have a disc, nor be there.
+pub fn need_output(path: &Path, image: &Path, marks_path: Option<&Path>) -> Result<(), Error> {
+    match located(image, marks_path) {
+        Ok(pair) => need_other(path, &pair),
+        Err(_) => Ok(()),
+    }
+}
+
+fn need_other(path: &Path, pair: &Pair) -> Result<(), Error> {
+    let output = settled(path)?;
+    for own in [&pair.image, &pair.marks] {
+        if output == *own || is_same_file(&output, own)? {
+            return Err(Error::wrong(path, "it is the image or its marks file, and is not written over"));
+        }
+    }
+    Ok(())
 }
 
 /// Writes a file whole, then renames it to its place. What is no regular file, or is read-only, stays as it is.
@@ -411,7 +432,7 @@ fn read_image<E: From<Error>>(pair: Pair, must_have_marks: bool, find: impl FnOn
         bytes.resize(SECTOR * end, 0);
         marks.resize(end, BLANK);
     }
-    Ok(Image { bytes, marks, volume, pair, sectors, has_marks_file: contents.marks.is_some(), hold: None })
+    Ok(Image { bytes, marks, volume, pair, sectors, marks_text: contents.marks, hold: None })
 }
 
 /// The bytes of an image are whole sectors, as many as a disc can have.

@@ -134,13 +134,19 @@ fn verify(args: &mut Args, out: &mut Outputs) -> Done {
     if is_json {
         out.line(Json::List(objects));
     } else {
-        let counts = STANDINGS.map(|(standing, words, _)| (standings.iter().filter(|&&s| s == standing).count(), words));
-        out.line(format_args!("{}: {}", counted(paths.len(), "image"), parts(&counts)));
+        out.line(counts(&standings));
     }
     Failure::told(standings.iter().map(|standing| standing.status()).max().unwrap_or(status::DONE))
 }
 
-fn verdict_of(args: &Args, path: &Path) -> Result<Verdict, Failure> {
+/// How many images there are of each standing.
+pub fn counts(standings: &[Standing]) -> String {
+    let counts = STANDINGS.map(|(standing, words, _)| (standings.iter().filter(|&&s| s == standing).count(), words));
+    format!("{}: {}", counted(standings.len(), "image"), parts(&counts))
+}
+
+/// What there is to say of the image of a path, also where it cannot be loaded.
+pub fn verdict_of(args: &Args, path: &Path) -> Result<Verdict, Failure> {
     let verdict = load(args, path).and_then(|image| verdict(&image, args.has("--history")));
     let failure = match verdict {
         Err(failure @ (Failure::File(_) | Failure::NoVolume(_) | Failure::Refused(..))) => failure,
