@@ -10,7 +10,7 @@ const MEANINGS: [(&str, &str); 12] = [
     ("N", "entries of the VAT (virtual allocation table), which tells where each block is"),
     ("NWA", "next writable address: the sector, counted from S, that is written next"),
     ("last ICB", "where, counted from S, the newest VAT has its ICB (information control block), which tells where that VAT is"),
-    ("passed over", "sectors written after the newest VAT that was found"),
+    ("passed over", "sectors written after the newest VAT that was found; on a rewritable disc always 0"),
     ("R", "entries of the sparing table, one for each spare"),
     ("sequence", "the number of the sparing table: of its copies the one with the highest counts"),
 ];

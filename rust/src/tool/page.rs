@@ -36,11 +36,13 @@ summary { cursor: pointer; padding: 6px 0; color: #0b4a8f; }
 @media print {
   body { margin: 0; max-width: none; font-size: 13px; }
   * { print-color-adjust: exact; -webkit-print-color-adjust: exact; }
-  .image, .panel { break-inside: auto; }
-  .image + .image, .shelf + .image { break-before: page; }
+  .shelf ~ .disc { break-before: page; }
   .panel, .over { break-inside: avoid; }
   .over { break-after: avoid; }
   details::details-content { content-visibility: visible; display: block; }
+  summary { list-style: none; }
+  .folded { columns: 2; font-size: 11px; line-height: 1.3; }
+  .folded td { padding-top: 1px; padding-bottom: 1px; }
   .back { display: none; }
 }
 ";
@@ -128,7 +130,7 @@ pub fn put_long_table(text: &mut String, thing: &str, heads: &[&str], rows: &[Ro
     }
     let (first, others) = rows.split_at(SHOWN);
     put_table(text, heads, first);
-    let _ = writeln!(text, "<details>\n<summary>{} more</summary>", counted(others.len(), thing));
+    let _ = writeln!(text, "<details>\n<summary>{} more</summary>\n<div class=\"folded\">", counted(others.len(), thing));
     put_table(text, heads, others);
-    text.push_str("</details>\n");
+    text.push_str("</div>\n</details>\n");
 }

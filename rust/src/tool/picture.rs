@@ -7,10 +7,11 @@ mod svg;
 use super::commits::{self, Commit};
 use super::passed::{Passed, Possible};
 use super::states::{Block, SpareState, View};
-use super::words::{counted, from_to, grouped};
+use super::words::{counted, from_to, grouped, joined};
 use super::Failure;
 pub use figure::STYLE;
 use panel::{row, Panel};
+use std::ops::Range;
 use tuormik::descriptors::Volume;
 use tuormik::image::Image;
 use tuormik::{possible_icbs, read_maps, Held, Maps, PACKET, RECORDED, UNREADABLE};
@@ -142,7 +143,7 @@ fn places(runs: &[(usize, usize)]) -> String {
         words.push(format!("{} more", grouped(rest)));
     }
     let is_one = matches!(runs, [(_, 1)]);
-    format!("sector{} {}", if is_one { "" } else { "s" }, super::words::joined(&words))
+    format!("sector{} {}", if is_one { "" } else { "s" }, joined(&words))
 }
 
 impl Picture {
@@ -226,13 +227,17 @@ impl Picture {
         items
     }
 
+    /// The item of a kind; of what a curator looks for it tells where that is.
     fn item(&self, count: usize, look: &Look) -> Item {
         let words = format!("{}: {}", look.name, grouped(count));
-        if look.kind != Kind::Unreadable {
-            return Item { sign: Sign::Field(look.colour), words, meaning: look.meaning.to_string() };
-        }
-        let those = self.kinds.iter().enumerate().filter(|(_, kind)| **kind == Kind::Unreadable).map(|(sector, _)| sector);
-        Item { sign: Sign::Unreadable, words, meaning: format!("{}, marked by a bar", places(&runs(those))) }
+        let those = self.kinds.iter().enumerate().filter(|(_, kind)| **kind == look.kind).map(|(sector, _)| sector);
+        let places = || places(&runs(those));
+        let (sign, meaning) = match look.kind {
+            Kind::Unreadable => (Sign::Unreadable, format!("{}, marked by a bar", places())),
+            Kind::UsedSpare | Kind::DefectiveSpare => (Sign::Field(look.colour), format!("{}: {}", look.meaning, places())),
+            _ => (Sign::Field(look.colour), look.meaning.to_string()),
+        };
+        Item { sign, words, meaning }
     }
 
     /// The sectors of the partition, where it has any.
@@ -251,16 +256,36 @@ impl Picture {
         self.kinds.iter().rposition(|&kind| kind != Kind::Blank).map_or(0, |last| last + 1)
     }
 
-    /// The parts of the picture: the whole disc, and before it what is used where that is a quarter of it at most.
+    /// The parts of the picture: the whole disc, and before it what is enlarged. Where little of a disc is used that is enlarged, and the
+    /// whole disc is drawn small; of a large rewritable disc what stands around the partition.
     fn panels(&self) -> Vec<Panel<'_>> {
-        /// How much of a disc the enlarged part may be.
-        const PART: usize = 4;
         let (used, all) = (self.used(), self.kinds.len());
-        if used == 0 || PART * used > all {
-            return vec![Panel::new(self, all, row(all))];
+        let whole = |row| Panel::new(self, "The whole disc", 0..all, row);
+        if self.is_enlarged(&(0..used)) {
+            let end = used.next_multiple_of(row(used)).min(all);
+            return vec![Panel::enlarged(self, "What is used, enlarged", 0..end), whole(2 * row(all))];
         }
-        let enlarged = used.next_multiple_of(row(used)).min(all);
-        vec![Panel::new(self, enlarged, row(used)), Panel::new(self, all, 2 * row(all))]
+        let mut panels = self.around();
+        panels.push(whole(row(all)));
+        panels
+    }
+
+    /// Sectors are enlarged where they are a quarter of the disc at most.
+    fn is_enlarged(&self, sectors: &Range<usize>) -> bool {
+        !sectors.is_empty() && 4 * sectors.len() <= self.kinds.len()
+    }
+
+    /// What stands before and after the partition of a large rewritable disc: its sparing tables, and most often its spares.
+    fn around(&self) -> Vec<Panel<'_>> {
+        /// The sectors of a disc on which a packet is seen without being enlarged.
+        const SMALL: usize = 8192;
+        if self.kinds.len() <= SMALL || !self.kinds.contains(&Kind::Table) {
+            return Vec::new();
+        }
+        let (start, length) = (self.volume.start as usize, self.volume.length as usize);
+        let parts = [("Before the partition, enlarged", 0..start), ("After the partition, enlarged", start + length..self.used())];
+        let enlarged = parts.into_iter().filter(|(_, sectors)| self.is_enlarged(sectors));
+        enlarged.map(|(what, sectors)| Panel::enlarged(self, what, sectors)).collect()
     }
 
     /// A pixel a sector, or more where they are few.
@@ -316,6 +341,11 @@ mod tests {
         picture(kinds)
     }
 
+    /// The sectors of each part, and how many it has in a row.
+    fn sizes_of(picture: &Picture) -> Vec<(Range<usize>, usize)> {
+        picture.panels().iter().map(|panel| (panel.sectors.clone(), panel.row)).collect()
+    }
+
     #[test]
     fn places_are_told_by_runs() {
         let told = |sectors: &[usize]| places(&runs(sectors.iter().copied()));
@@ -329,13 +359,28 @@ mod tests {
         let sizes = |used: usize, all: usize| {
             let mut kinds = vec![Kind::Recorded; all];
             kinds[used..].fill(Kind::Blank);
-            picture(kinds).panels().iter().map(|panel| (panel.sectors, panel.row)).collect::<Vec<_>>()
+            sizes_of(&picture(kinds))
         };
-        assert_eq!(sizes(400, 400), [(400, 32)]);
-        assert_eq!(sizes(299, 333_000), [(320, 32), (333_000, 2048)]);
-        assert_eq!(sizes(83_250, 333_000), [(83_456, 512), (333_000, 2048)]);
-        assert_eq!(sizes(83_251, 333_000), [(333_000, 1024)]);
-        assert_eq!(sizes(0, 400), [(400, 32)]);
+        assert_eq!(sizes(400, 400), [(0..400, 32)]);
+        assert_eq!(sizes(299, 333_000), [(0..320, 32), (0..333_000, 2048)]);
+        assert_eq!(sizes(83_250, 333_000), [(0..83_456, 512), (0..333_000, 2048)]);
+        assert_eq!(sizes(83_251, 333_000), [(0..333_000, 1024)]);
+        assert_eq!(sizes(0, 400), [(0..400, 32)]);
+    }
+
+    #[test]
+    fn what_stands_around_the_partition_of_a_large_rewritable_disc_is_enlarged() {
+        let sizes = |all: usize| {
+            let mut disc = picture(vec![Kind::Live; all]);
+            disc.kinds[..288].fill(Kind::FreeSpare);
+            disc.kinds[all - 256..].fill(Kind::FreeSpare);
+            disc.kinds[all - 1] = Kind::Blank;
+            disc.kinds[96] = Kind::Table;
+            disc.volume.length = all as u32 - 288 - 256;
+            sizes_of(&disc)
+        };
+        assert_eq!(sizes(8192), [(0..8192, 128)]);
+        assert_eq!(sizes(20_000), [(0..288, 32), (19_744..19_999, 32), (0..20_000, 256)]);
     }
 
     #[test]

@@ -68,6 +68,8 @@ struct Shelf {
 struct Part {
     path: PathBuf,
     verdict: Verdict,
+    /// Whether the image could be loaded.
+    has_disc: bool,
     /// What an opening passed over, where it did.
     warning: Option<String>,
     text: String,
@@ -117,7 +119,8 @@ impl Shelf {
             self.put_lines(&mut body);
         }
         for (i, part) in self.parts.iter().enumerate() {
-            let _ = writeln!(body, "<section class=\"image\" id=\"image-{}\">", i + 1);
+            let class = if part.has_disc { " class=\"disc\"" } else { "" };
+            let _ = writeln!(body, "<section{class} id=\"image-{}\">", i + 1);
             if self.parts.len() > 1 {
                 put_heading(&mut body, 2, &name(&part.path));
             }
@@ -169,14 +172,14 @@ impl Part {
             Ok(_) => put_open(&mut text, level, image)?,
             Err((words, why)) => put_picture(&mut text, level, &Picture::of_marks(image, format!("{words} ({})", why.place()))),
         }
-        Ok(Part { path: path.to_owned(), verdict, warning, text })
+        Ok(Part { path: path.to_owned(), verdict, has_disc: true, warning, text })
     }
 
     /// The part of an image that cannot be loaded: why it cannot, and its files as far as they can be read.
     fn of_none(args: &Args, path: &Path, level: usize) -> Result<Part, Failure> {
         let mut text = String::new();
         put_files(&mut text, level, &files_on_disk(path, args.path("--marks")));
-        Ok(Part { path: path.to_owned(), verdict: verify::verdict_of(args, path)?, warning: None, text })
+        Ok(Part { path: path.to_owned(), verdict: verify::verdict_of(args, path)?, has_disc: false, warning: None, text })
     }
 }
 

@@ -1,8 +1,9 @@
 //! Sectors as rows of fields, and what stands at their left and right.
 
 use super::{colour, hex, runs, Kind, Picture, LOOKS, POSSIBLE};
-use crate::tool::words::grouped;
+use crate::tool::words::{from_to, grouped};
 use std::fmt::Write;
+use std::ops::Range;
 use tuormik::descriptors::Volume;
 
 /// How many sectors a row has: a number of packets, so that there are about twice as many in a row as there are rows.
@@ -24,22 +25,30 @@ const CROSSED: usize = 6;
 /// The width of what stands at the right of the rows.
 pub const MARGIN: usize = 24;
 
-/// The first sectors of a disc, as rows. Its fields are as wide as there is room, and its height is in pixels.
+/// Sectors of a disc, as rows. Its fields are as wide as there is room, and its height is in pixels.
 pub struct Panel<'a> {
     picture: &'a Picture,
-    pub sectors: usize,
+    /// What it shows.
+    what: &'static str,
+    pub sectors: Range<usize>,
     pub row: usize,
     /// The height of a row.
     side: usize,
 }
 
 impl Panel<'_> {
-    pub fn new(picture: &Picture, sectors: usize, row: usize) -> Panel<'_> {
-        Panel { picture, sectors, row, side: (768 / row).clamp(2, 16) }
+    pub fn new<'a>(picture: &'a Picture, what: &'static str, sectors: Range<usize>, row: usize) -> Panel<'a> {
+        Panel { picture, what, sectors, row, side: (768 / row).clamp(2, 16) }
+    }
+
+    /// Some sectors, with as many in a row as their number asks for.
+    pub fn enlarged<'a>(picture: &'a Picture, what: &'static str, sectors: Range<usize>) -> Panel<'a> {
+        let row = row(sectors.len());
+        Panel::new(picture, what, sectors, row)
     }
 
     pub fn rows(&self) -> usize {
-        self.sectors.div_ceil(self.row)
+        self.sectors.len().div_ceil(self.row)
     }
 
     pub fn height(&self) -> usize {
@@ -47,14 +56,11 @@ impl Panel<'_> {
     }
 
     fn kinds(&self) -> &[Kind] {
-        &self.picture.kinds[..self.sectors]
+        &self.picture.kinds[self.sectors.clone()]
     }
 
     pub fn title(&self) -> String {
-        match self.sectors {
-            all if all == self.picture.kinds.len() => format!("The whole disc: {}", self.picture.title()),
-            some => format!("What is used, enlarged: sectors 0 to {}", grouped(some - 1)),
-        }
+        format!("{}: {}", self.what, from_to(self.sectors.start, self.sectors.end - 1, "sector"))
     }
 
     /// The fields, in units of a sector and a row, to be drawn as wide and as high as the panel is.
@@ -69,7 +75,7 @@ impl Panel<'_> {
             }
         }
         self.put_crosses(&mut text);
-        let edge = edge(&self.picture.volume, self.picture.kinds.len(), self.row);
+        let edge = edge(self.partition(), self.row);
         let _ = writeln!(text, r#"<path fill="none"{} d="{edge}"/>"#, outlined("#000", 2));
         self.put_possible(&mut text);
         text
@@ -99,14 +105,23 @@ impl Panel<'_> {
         }
     }
 
+    /// The sectors that may be a newer VAT, counted from the first of the panel.
     fn possible(&self) -> impl Iterator<Item = usize> + '_ {
-        self.picture.possible.iter().copied().filter(|&sector| sector < self.sectors)
+        let those = self.picture.possible.iter().filter(|sector| self.sectors.contains(sector));
+        those.map(|sector| sector - self.sectors.start)
+    }
+
+    /// The sectors of the partition from the first of the panel on, counted from that; its end may be after the panel's.
+    fn partition(&self) -> Range<usize> {
+        let Volume { start, length, .. } = self.picture.volume;
+        let end = (start as usize + length as usize).min(self.picture.kinds.len());
+        (start as usize).saturating_sub(self.sectors.start)..end.saturating_sub(self.sectors.start)
     }
 
     /// The first sector of each row that has room for it, with the height of the row's middle.
     pub fn labels(&self) -> Vec<(usize, String)> {
         let every = if self.side < LABEL { APART.div_ceil(self.side) } else { 1 };
-        (0..self.rows()).step_by(every).map(|y| (self.side * y + self.side / 2, grouped(y * self.row))).collect()
+        (0..self.rows()).step_by(every).map(|y| (self.side * y + self.side / 2, grouped(self.sectors.start + y * self.row))).collect()
     }
 
     /// What stands at the right, in pixels: a bar beside each row that has an unreadable sector, and an arrow beside each that has one
@@ -167,12 +182,12 @@ fn put_run(text: &mut String, from: usize, to: usize, row: usize) {
     }
 }
 
-/// The edge around the sectors of the partition, which may begin and end inside a row.
-fn edge(volume: &Volume, sectors: usize, row: usize) -> String {
-    let (from, to) = (volume.start as usize, (volume.start as usize + volume.length as usize).min(sectors));
-    if from >= to {
+/// The edge around sectors, which may begin and end inside a row.
+fn edge(sectors: Range<usize>, row: usize) -> String {
+    if sectors.is_empty() {
         return String::new();
     }
+    let Range { start: from, end: to } = sectors;
     let (x, y) = (from % row, from / row);
     let (end, last) = ((to - 1) % row + 1, (to - 1) / row);
     if y == last {
@@ -214,7 +229,7 @@ mod tests {
     #[test]
     fn a_full_disc_is_a_small_text() {
         let disc = full_disc();
-        let panel = Panel::new(&disc, 333_000, 1024);
+        let panel = Panel::enlarged(&disc, "", 0..333_000);
         let (fields, margin) = (panel.fields(), panel.margin());
         assert!(fields.len() + margin.len() < 8192, "{} bytes", fields.len());
         // sector 100,000 is the 673rd of row 97, and its row and the four of the scratch have bars
@@ -229,7 +244,7 @@ mod tests {
         kinds[70] = Kind::Unreadable;
         let mut disc = picture(kinds);
         disc.possible = vec![290, 291, 319];
-        let panel = Panel::new(&disc, 320, 32);
+        let panel = Panel::enlarged(&disc, "", 0..320);
         assert!(panel.fields().contains("M6 2l1 1m0-1l-1 1"), "{}", panel.fields());
         assert!(panel.fields().contains("M2 9h2v1h-2zM31 9h1v1h-1z"), "{}", panel.fields());
         assert_eq!(panel.margin(), format!("{}\n{}\n", bar(32, 16), arrow(9 * 16 + 8)));
