@@ -95,8 +95,8 @@ fn what_a_write_once_disc_is_told_as() {
     let list = "block,logical,sector,state,file\n0,1,289,recorded,block-0000.bin\n1,3,291,blank,\n2,5,293,unreadable,\n3,,,unused,\n";
     assert_eq!(String::from_utf8_lossy(&folder.bytes("out/list.csv")), list);
     let page = folder.does(&["report", "d.img", "--marks", "m"]);
-    has(&page, "<tr><td>block 1</td><td>sector 291</td><td>blank</td></tr>");
-    has(&page, "<tr><td>block 2</td><td>sector 293</td><td>unreadable</td></tr>");
+    has(&page, "<tr class=\"lost\"><td>block 1</td><td>sector 291</td><td>\u{25b3} blank (never recorded)</td></tr>");
+    has(&page, "<tr class=\"lost\"><td>block 2</td><td>sector 293</td><td>\u{25b2} unreadable</td></tr>");
     assert!(page.contains("; 1 block was never recorded: block 1 (sector 291, blank)</p>"), "{page}");
 }
 
@@ -239,7 +239,8 @@ fn what_a_rewritable_disc_is_told_as() {
     );
     let exported = folder.does(&["export", "d.img", "out"]);
     has(&exported, "exported 60 of 64 blocks to out; skipped: 1 unreadable, 3 blank (never recorded); list.csv lists all");
-    has(&folder.does(&["report", "d.img"]), "<tr><td>blocks 3 to 4</td><td>sectors 291 to 292</td><td>blank</td></tr>");
+    let row = "<tr class=\"lost\"><td>blocks 3 to 4</td><td>sectors 291 to 292</td><td>\u{25b3} blank (never recorded)</td></tr>";
+    has(&folder.does(&["report", "d.img"]), row);
 }
 
 /// A blank sector is drawn as blank where a packet is spared to it too, and a free spare may be blank.

@@ -1,4 +1,4 @@
-//! What a curator does every day: info, verify, export, diff, report, map, make by medium.
+//! What a curator does every day: info, verify, export, diff, map, make by medium.
 
 mod folder;
 
@@ -229,38 +229,6 @@ fn diff_of_two_discs_and_of_two_commits() {
 }
 
 #[test]
-fn a_page_whole_in_itself() {
-    let folder = with_commits("report");
-    let page = folder.does(&["report", "d.img"]);
-    assert!(page.starts_with("<!DOCTYPE html>") && page.ends_with("</html>\n"), "{page}");
-    for part in ["<svg", "viewBox=", "<h2>History</h2>", "<h2>Blocks</h2>", "clean: write-once", "<td class=\"n\">298</td>"] {
-        assert!(page.contains(part), "'{part}' is not in\n{page}");
-    }
-    has(&page, "<tr><td>block 2</td><td>sector 296</td><td>recorded</td></tr>");
-    has(&page, "<tr><td>block 1</td><td>-</td><td>unused</td></tr>");
-    for part in ["<script", "<link", "src=", "href=", "url("] {
-        assert!(!page.contains(part), "'{part}' is in\n{page}");
-    }
-    assert_eq!(page.matches("<tr>").count(), page.matches("</tr>").count());
-    folder.does(&["report", "d.img", "--output", "page.html"]);
-    assert_eq!(folder.bytes("page.html"), page.as_bytes());
-    assert!(!page.contains("passed over above"), "{page}");
-    folder.does(&["save", "d.img", "new", "c", "--no-commit"]);
-    assert!(folder.does(&["report", "d.img"]).contains("<p>sector 299 was passed over above the last VAT ICB: "));
-    // the image is not written over
-    let before = folder.bytes("d.img");
-    folder.usage(&["report", "d.img", "--output", "d.img"]);
-    assert_eq!(folder.bytes("d.img"), before);
-    // names are words, not marks
-    folder.write("<b>&.img", &before);
-    let page = folder.does(&["report", "<b>&.img"]);
-    assert!(page.contains("<h1>&lt;b&gt;&amp;.img</h1>") && !page.contains("<b>"), "{page}");
-    make_rewritable(&folder, "r.img");
-    let page = folder.does(&["report", "r.img"]);
-    assert!(page.contains("<td>blocks 0 to 63</td><td>sectors 288 to 351</td>") && !page.contains("History"), "{page}");
-}
-
-#[test]
 fn a_disc_that_is_turned_down_is_drawn_from_its_marks() {
     let folder = with_commits("map-turned-down");
     let mut image = folder.bytes("d.img");
@@ -283,7 +251,7 @@ fn a_map_has_labels_live_blocks_and_runs() {
     let out = folder.does(&["map", "d.img", "d.svg"]);
     has(&out, "d.svg: 101 blank, 291 recorded, 2 live, 6 VAT ICB");
     let svg = String::from_utf8(folder.bytes("d.svg")).expect("text");
-    assert!(svg.contains("viewBox=\"0 0 ") && svg.contains(">live: 2</text>"), "{svg}");
+    assert!(svg.contains("viewBox=\"0 0 ") && svg.contains(">live: 2<tspan"), "{svg}");
     for label in [">0</text>", ">32</text>", ">384</text>"] {
         assert!(svg.contains(label), "{label} is not in\n{svg}");
     }

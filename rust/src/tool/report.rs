@@ -100,7 +100,8 @@ impl Shelf {
             };
             if let Some(words) = &part.warning {
                 progress.clear();
-                out.say(format_args!("warning: {}: {words}", path.display()));
+                let of = if paths.len() == 1 { String::new() } else { format!("{}: ", path.display()) };
+                out.say(format_args!("warning: {of}{words}"));
             }
             parts.push(part);
         }
