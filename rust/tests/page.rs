@@ -285,7 +285,7 @@ fn the_legend_names_what_is_drawn_and_no_more() {
     legend_is("w.img", &format!("blank: 536; recorded: 36; live: 1,408; defective spare: 32; used spare: 32; {tables}"));
     folder.does(&["spare", "x.img", "64"]);
     let page = page(&folder, &["x.img"]);
-    contains(&page, &["Before the partition, enlarged: sectors 0 to 351", "After the partition, enlarged: ", "The whole disc: "]);
+    contains(&page, &["The beginning of the disc, enlarged: sectors 0 to 351<", "The end of the disc, enlarged: ", "The whole disc: "]);
     contains(&page, &["has the blocks of a packet that was moved: sectors 288 to 319"]);
 }
 

@@ -262,8 +262,7 @@ impl Picture {
         let (used, all) = (self.used(), self.kinds.len());
         let whole = |row| Panel::new(self, "The whole disc", 0..all, row);
         if self.is_enlarged(&(0..used)) {
-            let end = used.next_multiple_of(row(used)).min(all);
-            return vec![Panel::enlarged(self, "What is used, enlarged", 0..end), whole(2 * row(all))];
+            return vec![Panel::enlarged(self, "What is used, enlarged", 0..used), whole(2 * row(all))];
         }
         let mut panels = self.around();
         panels.push(whole(row(all)));
@@ -282,8 +281,9 @@ impl Picture {
         if self.kinds.len() <= SMALL || !self.kinds.contains(&Kind::Table) {
             return Vec::new();
         }
-        let (start, length) = (self.volume.start as usize, self.volume.length as usize);
-        let parts = [("Before the partition, enlarged", 0..start), ("After the partition, enlarged", start + length..self.used())];
+        let start = self.volume.start as usize;
+        let (before, after) = (0..start, start + self.volume.length as usize..self.kinds.len());
+        let parts = [("The beginning of the disc, enlarged", before), ("The end of the disc, enlarged", after)];
         let enlarged = parts.into_iter().filter(|(_, sectors)| self.is_enlarged(sectors));
         enlarged.map(|(what, sectors)| Panel::enlarged(self, what, sectors)).collect()
     }
@@ -374,13 +374,12 @@ mod tests {
             let mut disc = picture(vec![Kind::Live; all]);
             disc.kinds[..288].fill(Kind::FreeSpare);
             disc.kinds[all - 256..].fill(Kind::FreeSpare);
-            disc.kinds[all - 1] = Kind::Blank;
             disc.kinds[96] = Kind::Table;
             disc.volume.length = all as u32 - 288 - 256;
             sizes_of(&disc)
         };
         assert_eq!(sizes(8192), [(0..8192, 128)]);
-        assert_eq!(sizes(20_000), [(0..288, 32), (19_744..19_999, 32), (0..20_000, 256)]);
+        assert_eq!(sizes(20_000), [(0..288, 32), (19_744..20_000, 32), (0..20_000, 256)]);
     }
 
     #[test]

@@ -1,6 +1,6 @@
 //! Sectors as rows of fields, and what stands at their left and right.
 
-use super::{colour, hex, runs, Kind, Picture, LOOKS, POSSIBLE};
+use super::{colour, hex, runs, Kind, Look, Picture, LOOKS, POSSIBLE};
 use crate::tool::words::{from_to, grouped};
 use std::fmt::Write;
 use std::ops::Range;
@@ -41,10 +41,11 @@ impl Panel<'_> {
         Panel { picture, what, sectors, row, side: (768 / row).clamp(2, 16) }
     }
 
-    /// Some sectors, with as many in a row as their number asks for.
-    pub fn enlarged<'a>(picture: &'a Picture, what: &'static str, sectors: Range<usize>) -> Panel<'a> {
-        let row = row(sectors.len());
-        Panel::new(picture, what, sectors, row)
+    /// Some sectors, with as many in a row as their number asks for, and as many more as fill the last row.
+    pub fn enlarged<'a>(picture: &'a Picture, what: &'static str, Range { start, end }: Range<usize>) -> Panel<'a> {
+        let row = row(end - start);
+        let end = start + (end - start).next_multiple_of(row);
+        Panel::new(picture, what, start..end.min(picture.kinds.len()), row)
     }
 
     pub fn rows(&self) -> usize {
@@ -67,18 +68,25 @@ impl Panel<'_> {
     pub fn fields(&self) -> String {
         let mut text = String::new();
         for look in &LOOKS {
-            let fields = path(self.kinds(), look.kind, self.row);
-            if !fields.is_empty() {
-                let colour = hex(look.colour);
-                let edge = if is_notable(look.kind) { outlined(&colour, 1) } else { String::new() };
-                let _ = writeln!(text, r#"<path fill="{colour}"{edge} d="{fields}"/>"#);
+            if look.kind == Kind::Unreadable {
+                // around an unreadable sector, not over it
+                self.put_possible(&mut text);
             }
+            self.put_kind(&mut text, look);
         }
         self.put_crosses(&mut text);
         let edge = edge(self.partition(), self.row);
         let _ = writeln!(text, r#"<path fill="none"{} d="{edge}"/>"#, outlined("#000", 2));
-        self.put_possible(&mut text);
         text
+    }
+
+    fn put_kind(&self, text: &mut String, look: &Look) {
+        let fields = path(self.kinds(), look.kind, self.row);
+        if !fields.is_empty() {
+            let colour = hex(look.colour);
+            let edge = if is_notable(look.kind) { outlined(&colour, 1) } else { String::new() };
+            let _ = writeln!(text, r#"<path fill="{colour}"{edge} d="{fields}"/>"#);
+        }
     }
 
     /// A cross in each unreadable field, so that it is told from others without its colour.
@@ -101,7 +109,7 @@ impl Panel<'_> {
             put_run(&mut fields, from, from + count, self.row);
         }
         if !fields.is_empty() {
-            let _ = writeln!(text, r#"<path fill="none"{} d="{fields}"/>"#, outlined(&hex(POSSIBLE), 3));
+            let _ = writeln!(text, r#"<path fill="none"{} d="{fields}"/>"#, outlined(&hex(POSSIBLE), 5));
         }
     }
 
