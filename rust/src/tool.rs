@@ -7,6 +7,7 @@ mod date;
 mod demo;
 mod diff;
 mod entry;
+mod evidence;
 mod export;
 mod fit;
 mod found;

@@ -1,8 +1,8 @@
 //! A page of HTML, whole in itself: its head, its tables, and what is folded.
 
+use super::letters::meaning;
 use super::picture;
 use super::words::counted;
-use std::fmt::Write;
 
 const STYLE: &str = "
 :root { color-scheme: light; }
@@ -53,23 +53,31 @@ pub fn escaped(words: &str) -> String {
 }
 
 /// A page with a title and what it has.
-pub fn whole(title: &str, body: &str) -> String {
-    let (title, figure) = (escaped(title), picture::STYLE);
+pub fn whole(title: &str, body: Body) -> String {
+    let (title, figure, Body { html, .. }) = (escaped(title), picture::STYLE, body);
     format!(
         "<!DOCTYPE html>\n<html lang=\"en\">\n<head>\n<meta charset=\"utf-8\">\n<meta name=\"viewport\" content=\"width=device-width\">\n\
-         <title>{title}</title>\n<style>{STYLE}{figure}</style>\n</head>\n<body>\n{body}</body>\n</html>\n"
+         <title>{title}</title>\n<style>{STYLE}{figure}</style>\n</head>\n<body>\n{html}</body>\n</html>\n"
     )
 }
 
-/// A heading of a level from 1 on.
-pub fn put_heading(text: &mut String, level: usize, words: &str) {
-    let _ = writeln!(text, "<h{level}>{}</h{level}>", escaped(words));
+/// A name, what there is to say of it, and what it means where it is no plain word.
+pub struct Fact {
+    name: String,
+    words: String,
+    meaning: Option<&'static str>,
+    is_digest: bool,
 }
 
-/// Words as a paragraph, of a class where one is named.
-pub fn put_words(text: &mut String, class: &str, words: &str) {
-    let class = if class.is_empty() { String::new() } else { format!(" class=\"{class}\"") };
-    let _ = writeln!(text, "<p{class}>{}</p>", escaped(words));
+impl Fact {
+    pub fn new(name: &str, words: impl Into<String>) -> Fact {
+        Fact { name: name.to_string(), words: words.into(), meaning: meaning(name), is_digest: false }
+    }
+
+    /// The SHA-256 of a file.
+    pub fn digest(words: String) -> Fact {
+        Fact { is_digest: true, ..Fact::new("SHA-256", words) }
+    }
 }
 
 /// A row of a table.
@@ -86,51 +94,80 @@ impl Row {
     }
 }
 
-/// Names with what there is to say of each, and why it is said where that is no plain word.
-pub fn put_facts(text: &mut String, facts: &[(String, String, Option<&str>)]) {
-    text.push_str("<table>\n");
-    for (name, words, why) in facts {
-        let why = why.map_or(String::new(), |why| format!("<span class=\"why\"> \u{2013} {}</span>", escaped(why)));
-        let class = if name == "SHA-256" { " class=\"digest\"" } else { "" };
-        let _ = writeln!(text, "<tr><th scope=\"row\">{}</th><td{class}>{}{why}</td></tr>", escaped(name), escaped(words));
-    }
-    text.push_str("</table>\n");
-}
-
-/// A table under its heads; cells of digits stand to the right.
-pub fn put_table(text: &mut String, heads: &[&str], rows: &[Row]) {
-    let is_number = |cell: &str| cell.bytes().all(|b| b.is_ascii_digit() || b == b',');
-    text.push_str("<table>\n<thead><tr>");
-    for head in heads {
-        let _ = write!(text, "<th scope=\"col\">{}</th>", escaped(head));
-    }
-    text.push_str("</tr></thead>\n<tbody>\n");
-    for row in rows {
-        text.push_str(if row.is_lost { "<tr class=\"lost\">" } else { "<tr>" });
-        for cell in &row.cells {
-            let class = if is_number(cell) { " class=\"n\"" } else { "" };
-            let _ = write!(text, "<td{class}>{}</td>", escaped(cell));
-        }
-        text.push_str("</tr>\n");
-    }
-    text.push_str("</tbody>\n</table>\n");
-}
-
 /// Whether a table is so long that its end is folded.
 pub fn is_long(rows: &[Row]) -> bool {
     const SHORT: usize = 20;
     rows.len() > SHORT
 }
 
-/// A table of which the rows after the first ones are folded where they are many; a print has them all.
-pub fn put_long_table(text: &mut String, thing: &str, heads: &[&str], rows: &[Row]) {
-    const SHOWN: usize = 12;
-    if !is_long(rows) {
-        return put_table(text, heads, rows);
+/// What a page has, written piece by piece, under headings of a level.
+pub struct Body {
+    html: String,
+    level: usize,
+}
+
+impl Body {
+    pub fn new(level: usize) -> Body {
+        Body { html: String::new(), level }
     }
-    let (first, others) = rows.split_at(SHOWN);
-    put_table(text, heads, first);
-    let _ = writeln!(text, "<details>\n<summary>{} more</summary>\n<div class=\"folded\">", counted(others.len(), thing));
-    put_table(text, heads, others);
-    text.push_str("</div>\n</details>\n");
+
+    /// What is HTML already.
+    pub fn put(&mut self, html: impl AsRef<str>) {
+        self.html.push_str(html.as_ref());
+    }
+
+    /// What another body has.
+    pub fn put_all(&mut self, other: Body) {
+        self.put(other.html);
+    }
+
+    pub fn put_heading(&mut self, words: &str) {
+        let level = self.level;
+        self.put(format!("<h{level}>{}</h{level}>\n", escaped(words)));
+    }
+
+    pub fn put_words(&mut self, words: &str) {
+        self.put(format!("<p>{}</p>\n", escaped(words)));
+    }
+
+    /// Words that have a look of their own.
+    pub fn put_words_as(&mut self, class: &str, words: &str) {
+        self.put(format!("<p class=\"{class}\">{}</p>\n", escaped(words)));
+    }
+
+    pub fn put_facts(&mut self, facts: &[Fact]) {
+        self.put("<table>\n");
+        for Fact { name, words, meaning, is_digest } in facts {
+            let why = meaning.map_or(String::new(), |meaning| format!("<span class=\"why\"> \u{2013} {}</span>", escaped(meaning)));
+            let class = if *is_digest { " class=\"digest\"" } else { "" };
+            self.put(format!("<tr><th scope=\"row\">{}</th><td{class}>{}{why}</td></tr>\n", escaped(name), escaped(words)));
+        }
+        self.put("</table>\n");
+    }
+
+    /// A table under its heads; cells of digits stand to the right.
+    fn put_table(&mut self, heads: &[&str], rows: &[Row]) {
+        let head = |head: &&str| format!("<th scope=\"col\">{}</th>", escaped(head));
+        self.put(format!("<table>\n<thead><tr>{}</tr></thead>\n<tbody>\n", heads.iter().map(head).collect::<String>()));
+        let is_number = |cell: &str| cell.bytes().all(|b| b.is_ascii_digit() || b == b',');
+        let cell = |cell: &String| format!("<td{}>{}</td>", if is_number(cell) { " class=\"n\"" } else { "" }, escaped(cell));
+        for Row { cells, is_lost } in rows {
+            let class = if *is_lost { " class=\"lost\"" } else { "" };
+            self.put(format!("<tr{class}>{}</tr>\n", cells.iter().map(cell).collect::<String>()));
+        }
+        self.put("</tbody>\n</table>\n");
+    }
+
+    /// A table of things; where they are many the rows after the first ones are folded, but in print.
+    pub fn put_long_table(&mut self, thing: &str, heads: &[&str], rows: &[Row]) {
+        const SHOWN: usize = 12;
+        if !is_long(rows) {
+            return self.put_table(heads, rows);
+        }
+        let (first, others) = rows.split_at(SHOWN);
+        self.put_table(heads, first);
+        self.put(format!("<details>\n<summary>{} more</summary>\n<div class=\"folded\">\n", counted(others.len(), thing)));
+        self.put_table(heads, others);
+        self.put("</div>\n</details>\n");
+    }
 }

@@ -4,25 +4,19 @@
 use super::args::Args;
 use super::commits::{self, Commit};
 use super::entry::{Choice, Entry};
+use super::evidence::{file_name, put_files, put_files_on_disk};
 use super::images::{images, load};
-use super::letters::meaning;
 use super::output::Outputs;
-use super::page::{self, escaped, is_long, put_facts, put_heading, put_long_table, put_words, Row};
+use super::page::{self, escaped, is_long, Body, Fact, Row};
 use super::picture::Picture;
 use super::progress::Progress;
-use super::sha256::sha256_text;
 use super::states::{Run, State, View};
 use super::summary::Summary;
 use super::verify::{self, Standing, Verdict};
 use super::words::{counted, from_to};
 use super::{date, status, version, Done, Failure};
-use std::ffi::OsString;
-use std::fmt::Write as _;
-use std::fs;
-use std::os::unix::fs::MetadataExt;
 use std::path::{Path, PathBuf};
 use tuormik::image::{need_output, write_file, Image};
-use tuormik::{MOST_SECTORS, SECTOR};
 
 pub const ENTRY: Entry = Entry {
     name: "report",
@@ -72,35 +66,31 @@ struct Part {
     has_disc: bool,
     /// What an opening passed over, where it did.
     warning: Option<String>,
-    text: String,
-}
-
-/// The name of a file, without its folders.
-fn name(path: &Path) -> String {
-    path.file_name().unwrap_or(path.as_os_str()).to_string_lossy().into_owned()
+    body: Body,
 }
 
 impl Shelf {
     /// The parts of the images, and the status: an image that cannot be loaded does not keep the others from being told of.
     fn new(args: &Args, paths: &[PathBuf], out: &mut Outputs) -> Result<(Shelf, u8), Failure> {
         let (mut parts, mut status) = (Vec::new(), status::DONE);
-        // a page of one image has its name as its heading
-        let level = if paths.len() == 1 { 2 } else { 3 };
+        let is_one = paths.len() == 1;
         let mut progress = Progress::new("images told of");
         for (i, path) in paths.iter().enumerate() {
             progress.tell(i, paths.len());
+            // a page of one image has its name as its heading
+            let body = Body::new(if is_one { 2 } else { 3 });
             let part = match load(args, path) {
-                Ok(image) => Part::new(path, &image, level)?,
+                Ok(image) => Part::new(path, &image, body)?,
                 Err(failure @ (Failure::File(_) | Failure::NoVolume(_) | Failure::Refused(..))) => {
                     progress.clear();
                     status = status.max(failure.tell(out));
-                    Part::of_none(args, path, level)?
+                    Part::of_none(args, path, body)?
                 }
                 Err(other) => return Err(other),
             };
             if let Some(words) = &part.warning {
                 progress.clear();
-                let of = if paths.len() == 1 { String::new() } else { format!("{}: ", path.display()) };
+                let of = if is_one { String::new() } else { format!("{}: ", path.display()) };
                 out.say(format_args!("warning: {of}{words}"));
             }
             parts.push(part);
@@ -108,186 +98,135 @@ impl Shelf {
         Ok((Shelf { parts }, status))
     }
 
-    fn page(&self, made: &str) -> String {
+    fn page(self, made: &str) -> String {
+        let is_one = self.parts.len() == 1;
         let title = match &self.parts[..] {
-            [part] => name(&part.path),
+            [part] => file_name(&part.path),
             parts => counted(parts.len(), "image"),
         };
-        let mut body = String::new();
-        put_heading(&mut body, 1, &title);
-        put_words(&mut body, "made", made);
-        if self.parts.len() > 1 {
+        let mut body = Body::new(1);
+        body.put_heading(&title);
+        body.put_words_as("made", made);
+        if !is_one {
             self.put_lines(&mut body);
         }
-        for (i, part) in self.parts.iter().enumerate() {
-            let class = if part.has_disc { " class=\"disc\"" } else { "" };
-            let _ = writeln!(body, "<section{class} id=\"image-{}\">", i + 1);
-            if self.parts.len() > 1 {
-                put_heading(&mut body, 2, &name(&part.path));
-            }
-            let class = if part.verdict.is_clean() { "verdict" } else { "verdict bad" };
-            put_words(&mut body, class, &part.verdict.words());
-            body.push_str(&part.text);
-            if self.parts.len() > 1 {
-                body.push_str("<p class=\"back\"><a href=\"#shelf\">All images</a></p>\n");
-            }
-            body.push_str("</section>\n");
+        for (i, part) in self.parts.into_iter().enumerate() {
+            part.put(&mut body, i + 1, !is_one);
         }
-        page::whole(&format!("Report on {title}"), &body)
+        page::whole(&format!("Report on {title}"), body)
     }
 
-    /// A line an image, which leads to its part, and how many are clean.
-    fn put_lines(&self, text: &mut String) {
-        text.push_str("<table class=\"shelf\" id=\"shelf\">\n<thead><tr><th scope=\"col\">image</th><th scope=\"col\">state</th></tr></thead>\n<tbody>\n");
-        for (i, part) in self.parts.iter().enumerate() {
-            let class = if part.verdict.is_clean() { "" } else { " class=\"lost\"" };
-            let (link, verdict) = (escaped(&part.path.to_string_lossy()), escaped(&part.verdict.words()));
-            let _ = writeln!(text, "<tr{class}><td><a href=\"#image-{}\">{link}</a></td><td>{verdict}</td></tr>", i + 1);
+    /// A line an image, which leads to its part, and how many there are of each standing.
+    fn put_lines(&self, body: &mut Body) {
+        body.put(
+            "<table class=\"shelf\" id=\"shelf\">\n<thead><tr><th scope=\"col\">image</th><th scope=\"col\">state</th></tr></thead>\n",
+        );
+        body.put("<tbody>\n");
+        for (i, Part { path, verdict, .. }) in self.parts.iter().enumerate() {
+            let class = if verdict.is_clean() { "" } else { " class=\"lost\"" };
+            let (link, words) = (escaped(&path.to_string_lossy()), escaped(&verdict.words()));
+            body.put(format!("<tr{class}><td><a href=\"#image-{}\">{link}</a></td><td>{words}</td></tr>\n", i + 1));
         }
-        text.push_str("</tbody>\n</table>\n");
+        body.put("</tbody>\n</table>\n");
         let standings: Vec<Standing> = self.parts.iter().map(|part| part.verdict.standing).collect();
-        put_words(text, "", &verify::counts(&standings));
+        body.put_words(&verify::counts(&standings));
     }
-}
-
-type Fact = (String, String, Option<&'static str>);
-
-fn fact(name: &str, words: impl Into<String>) -> Fact {
-    (name.to_string(), words.into(), meaning(name))
 }
 
 impl Part {
-    fn new(path: &Path, image: &Image, level: usize) -> Result<Part, Failure> {
+    fn new(path: &Path, image: &Image, mut body: Body) -> Result<Part, Failure> {
         let verdict = verify::verdict(image, false)?;
         let summary = Summary::new(image)?;
-        let mut text = String::new();
         let warning = summary.opened.as_ref().ok().and_then(|opened| opened.passed()).and_then(|passed| passed.warning());
         if let Some(words) = &warning {
-            put_words(&mut text, "warning", &format!("Warning: {words}."));
+            body.put_words_as("warning", &format!("Warning: {words}."));
         }
-        put_files(&mut text, level, &files_of(path, image));
-        put_heading(&mut text, level, "The disc");
-        let facts: Vec<Fact> = summary.lines().into_iter().map(|(name, words)| fact(name, words)).collect();
-        put_facts(&mut text, &facts);
+        put_files(&mut body, path, image);
+        body.put_heading("The disc");
+        let facts: Vec<Fact> = summary.lines().into_iter().map(|(name, words)| Fact::new(name, words)).collect();
+        body.put_facts(&facts);
         match &summary.opened {
-            Ok(_) => put_open(&mut text, level, image)?,
-            Err((words, why)) => put_picture(&mut text, level, &Picture::of_marks(image, format!("{words} ({})", why.place()))),
+            Ok(_) => put_open(&mut body, image)?,
+            Err((words, why)) => put_picture(&mut body, &Picture::of_marks(image, format!("{words} ({})", why.place()))),
         }
-        Ok(Part { path: path.to_owned(), verdict, has_disc: true, warning, text })
+        Ok(Part { path: path.to_owned(), verdict, has_disc: true, warning, body })
     }
 
     /// The part of an image that cannot be loaded: why it cannot, and its files as far as they can be read.
-    fn of_none(args: &Args, path: &Path, level: usize) -> Result<Part, Failure> {
-        let mut text = String::new();
-        put_files(&mut text, level, &files_on_disk(path, args.path("--marks")));
-        Ok(Part { path: path.to_owned(), verdict: verify::verdict_of(args, path)?, has_disc: false, warning: None, text })
+    fn of_none(args: &Args, path: &Path, mut body: Body) -> Result<Part, Failure> {
+        put_files_on_disk(&mut body, path, args.path("--marks"));
+        Ok(Part { path: path.to_owned(), verdict: verify::verdict_of(args, path)?, has_disc: false, warning: None, body })
+    }
+
+    /// Puts the part at its place, under its name where it is one of several.
+    fn put(self, body: &mut Body, place: usize, is_named: bool) {
+        let class = if self.has_disc { " class=\"disc\"" } else { "" };
+        body.put(format!("<section{class} id=\"image-{place}\">\n"));
+        if is_named {
+            let mut named = Body::new(2);
+            named.put_heading(&file_name(&self.path));
+            body.put_all(named);
+        }
+        body.put_words_as(if self.verdict.is_clean() { "verdict" } else { "verdict bad" }, &self.verdict.words());
+        body.put_all(self.body);
+        if is_named {
+            body.put("<p class=\"back\"><a href=\"#shelf\">All images</a></p>\n");
+        }
+        body.put("</section>\n");
     }
 }
 
-/// A file, by what it can be told from others.
-fn file_facts(what: &str, path: &Path, length: usize, digest: Option<String>) -> Vec<Fact> {
-    let sectors = match what {
-        "image" => format!(" ({})", counted(length / SECTOR, "sector")),
-        _ => String::new(),
-    };
-    let mut facts = vec![fact(what, name(path)), fact("length", format!("{}{sectors}", counted(length, "byte")))];
-    if let Ok(found) = fs::metadata(path) {
-        facts.push(fact("last changed", date::utc(found.mtime())));
-    }
-    facts.extend(digest.map(|digest| fact("SHA-256", digest)));
-    facts
-}
-
-/// The files of an image, as they were read.
-fn files_of(path: &Path, image: &Image) -> Vec<Vec<Fact>> {
-    let bytes = image.file_bytes();
-    let marks = match image.marks_file() {
-        Some((path, text)) => file_facts("marks file", path, text.len(), Some(sha256_text(text))),
-        None => vec![fact("marks file", "none")],
-    };
-    vec![file_facts("image", path, bytes.len(), Some(sha256_text(bytes))), marks]
-}
-
-/// The files of an image that cannot be opened, those that are there; such as are longer than a disc have no digest.
-fn files_on_disk(path: &Path, marks_path: Option<&Path>) -> Vec<Vec<Fact>> {
-    let beside = || {
-        let mut name = OsString::from(path);
-        name.push(".marks");
-        PathBuf::from(name)
-    };
-    let marks = marks_path.map_or_else(beside, Path::to_owned);
-    let mut files = Vec::new();
-    for (what, path) in [("image", path), ("marks file", &marks)] {
-        let Some(found) = fs::metadata(path).ok().filter(fs::Metadata::is_file) else {
-            continue;
-        };
-        let is_read = found.len() <= (MOST_SECTORS * SECTOR) as u64;
-        let digest = is_read.then(|| fs::read(path).ok()).flatten().map(|bytes| sha256_text(&bytes));
-        files.push(file_facts(what, path, found.len() as usize, digest));
-    }
-    files
-}
-
-fn put_files(text: &mut String, level: usize, files: &[Vec<Fact>]) {
-    if !files.is_empty() {
-        put_heading(text, level, "The files");
-    }
-    for facts in files {
-        put_facts(text, facts);
-    }
-}
-
-fn put_picture(text: &mut String, level: usize, picture: &Picture) {
-    put_heading(text, level, "The picture");
-    let from = match picture.from_marks {
+fn put_picture(body: &mut Body, picture: &Picture) {
+    body.put_heading("The picture");
+    body.put_words(match picture.from_marks {
         Some(_) => "Each field is a sector, as the marks tell it: the disc is turned down.",
         None => "Each field is a sector; the numbers at the left are the first sectors of their rows.",
-    };
-    put_words(text, "", from);
-    text.push_str(&picture.figure());
+    });
+    body.put(picture.figure());
 }
 
 /// The picture of a disc that opens, the history of a write-once one, and the blocks of either.
-fn put_open(text: &mut String, level: usize, image: &Image) -> Done {
+fn put_open(body: &mut Body, image: &Image) -> Done {
     let open = commits::open(image)?;
     let view = View::from(&open);
     let found = if view.is_write_once() { commits::chain(image)? } else { Vec::new() };
-    put_picture(text, level, &Picture::of_open(image, view, &found));
+    put_picture(body, &Picture::of_open(image, view, &found));
     if view.is_write_once() {
-        put_history(text, level, &found, image.volume.start);
+        put_history(body, &found, image.volume.start);
     }
-    put_blocks(text, level, &view.runs());
+    put_blocks(body, &view.runs());
     Ok(())
 }
 
-fn put_history(text: &mut String, level: usize, found: &[Commit], start: u32) {
-    put_heading(text, level, "History");
-    let words = "The commits, the newest first. Each has a VAT (virtual allocation table: where each block is) and its ICB (information \
-                 control block: where that VAT is), which is written last.";
-    put_words(text, "", words);
+fn put_history(body: &mut Body, found: &[Commit], start: u32) {
+    body.put_heading("History");
+    body.put_words(
+        "The commits, the newest first. Each has a VAT (virtual allocation table: where each block is) and its ICB (information control \
+         block: where that VAT is), which is written last.",
+    );
     let heads = ["VAT ICB, from S", "its sector", "blocks", "sectors between it and the next"];
     let rows: Vec<Row> = found.iter().map(|commit| Row::new(commit.numbers(start))).collect();
-    put_long_table(text, "commit", &heads, &rows);
+    body.put_long_table("commit", &heads, &rows);
 }
 
-const BLOCK_HEADS: [&str; 3] = ["blocks", "where", "state"];
-
-/// The blocks, by runs; before them those that are lost, where they would be searched for.
-fn put_blocks(text: &mut String, level: usize, runs: &[Run]) {
-    put_heading(text, level, "Blocks");
+/// The blocks, by runs. Where these are many, those that are lost stand before them too.
+fn put_blocks(body: &mut Body, runs: &[Run]) {
+    const HEADS: [&str; 3] = ["blocks", "where", "state"];
+    body.put_heading("Blocks");
     if runs.is_empty() {
-        return put_words(text, "", "The disc has no blocks yet.");
+        return body.put_words("The disc has no blocks yet.");
     }
     let rows: Vec<Row> = runs.iter().map(run_row).collect();
     let lost: Vec<Row> = rows.iter().filter(|row| row.is_lost).cloned().collect();
     if is_long(&rows) && !lost.is_empty() {
-        put_words(text, "", "Those that cannot be read or were never recorded:");
-        put_long_table(text, "run", &BLOCK_HEADS, &lost);
-        put_words(text, "", "All:");
+        body.put_words("Those that cannot be read or were never recorded:");
+        body.put_long_table("run", &HEADS, &lost);
+        body.put_words("All:");
     }
-    put_long_table(text, "run", &BLOCK_HEADS, &rows);
+    body.put_long_table("run", &HEADS, &rows);
 }
 
+/// A run of blocks; what is lost has a sign, so that it is seen without colours.
 fn run_row(run: &Run) -> Row {
     let place = run.first.place.map_or("-".to_string(), |(_, sector)| from_to(sector, sector + run.count - 1, "sector"));
     let (sign, also) = match run.first.state {
