@@ -43,6 +43,7 @@
 //! # Ok::<(), Error>(())
 //! ```
 
+mod ddrescue;
 mod files;
 mod journal;
 mod lock;
@@ -61,6 +62,7 @@ use std::io::{self, ErrorKind};
 use std::os::unix::fs::{FileTypeExt, MetadataExt};
 use std::path::{Path, PathBuf};
 
+pub use ddrescue::marks_from_ddrescue;
 pub use marks_file::{mark_name, MARKS_FORMAT};
 
 /// Why an image is not read or not replaced, or a call on its disc did not come to its end.
