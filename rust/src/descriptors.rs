@@ -1,8 +1,12 @@
 //! The volume descriptors of an image (ECMA-167, part 3), as far as they tell a volume's map list, S and L. They are no part of document
 //! 01: what they say is handed to its calls, which examine it. The CRC of their tags is the proved one.
 
+mod recognized;
+
 use crate::numbers::grouped;
 use crate::{crc, read_maps, Maps, SECTOR};
+
+pub use recognized::recognized;
 
 /// The map list, S and L of a volume.
 #[derive(Clone, Debug, PartialEq, Eq)]
@@ -62,7 +66,7 @@ fn anchor_places(sectors: usize) -> impl Iterator<Item = usize> {
 
 /// The volume that an image's descriptors tell; where they tell none, why.
 pub fn find_volume(image: &[u8]) -> Result<Volume, String> {
-    let mut why = "no anchor volume descriptor pointer stands at sector 256, 512 or n - 256".to_string();
+    let mut why = no_anchor(image);
     for at in anchor_places(image.len() / SECTOR) {
         let Some(anchor) = sector(image, at).filter(|a| identifier(a, at) == Some(ANCHOR)) else {
             continue;
@@ -76,6 +80,17 @@ pub fn find_volume(image: &[u8]) -> Result<Volume, String> {
         }
     }
     Err(why)
+}
+
+/// That an image has no anchor, and whether it should have one.
+fn no_anchor(image: &[u8]) -> String {
+    let words = "no anchor volume descriptor pointer stands at sector 256, 512 or n - 256";
+    match recognized::udf_identifier(image) {
+        Some(name) => {
+            format!("{words}, though the volume recognition sequence tells of UDF ({name}): it was lost, or the image is not whole")
+        }
+        None => words.to_string(),
+    }
 }
 
 /// The volume that a volume descriptor sequence tells.

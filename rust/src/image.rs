@@ -49,7 +49,7 @@ mod journal;
 mod lock;
 mod marks_file;
 
-use crate::descriptors::{find_volume, Volume};
+use crate::descriptors::{find_volume, recognized, Volume};
 use crate::numbers::grouped;
 use crate::{marks_by_rule, read_maps, Disc, DiscRef, Maps, BLANK, MOST_SECTORS, PACKET, SECTOR};
 use files::{folder_of, if_there, with_ending, Files, Stamp, System, MOST_BYTES};
@@ -418,7 +418,7 @@ fn read_image<E: From<Error>>(pair: Pair, must_have_marks: bool, find: impl FnOn
     let contents = journal::read_pair(&System, &pair)?;
     let wrong = |words: String| Error::wrong(&pair.image, words);
     let mut bytes = contents.image.ok_or_else(|| wrong("there is no such file".into()))?;
-    need_sectors(bytes.len()).map_err(wrong)?;
+    need_sectors(bytes.len()).map_err(|words| wrong(words + &what_it_is(&bytes)))?;
     if must_have_marks && contents.marks.is_none() {
         return Err(Error::wrong(&pair.marks, "there is no such file").into());
     }
@@ -452,6 +452,11 @@ fn need_sectors(length: usize) -> Result<(), String> {
         )),
         _ => Ok(()),
     }
+}
+
+/// What a file that is no image is, where its bytes tell.
+fn what_it_is(bytes: &[u8]) -> String {
+    recognized(bytes).map_or(String::new(), |words| format!("; it is {words}"))
 }
 
 /// A rewritable disc is not shorter than its partition and its sparing tables: what is cut off there is lost, not blank.

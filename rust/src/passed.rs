@@ -2,11 +2,12 @@
 
 use crate::{Held, Record, RECORDED, SECTOR, UNREADABLE};
 
-const FILE_ENTRY: [u8; 2] = 261u16.to_le_bytes();
-const EXTENDED_FILE_ENTRY: [u8; 2] = 266u16.to_le_bytes();
-const FILE_TYPE_AT: usize = 27;
+pub(crate) const FILE_ENTRY: [u8; 2] = 261u16.to_le_bytes();
+pub(crate) const EXTENDED_FILE_ENTRY: [u8; 2] = 266u16.to_le_bytes();
+pub(crate) const FILE_TYPE_AT: usize = 27;
 /// The file type of a VAT, as CD UDF and UDF 1.50 have it, and as UDF 2.00 and later do.
-const VAT_FILE_TYPES: [u8; 2] = [0, 248];
+const VAT_FILE_TYPES: [u8; 2] = [0, LATER_VAT_FILE_TYPE];
+const LATER_VAT_FILE_TYPE: u8 = 248;
 
 /// The logical blocks between the last VAT ICB and NWA that may be a newer VAT. Each holds a File Entry of file type 0, as the ICB of a VAT
 /// is, or one as later versions of UDF have it, an Extended File Entry or file type 248, and breaks a rule of document 01; or it is
@@ -28,8 +29,14 @@ pub fn possible_icbs(bytes: &[u8], marks: &[u8], start: u32, record: Record) -> 
     (last.saturating_add(1)..next).filter(is_possible).collect()
 }
 
-fn may_be_icb(sector: &[u8]) -> bool {
+/// Whether a sector may be the ICB of a VAT, of any version of UDF.
+pub(crate) fn may_be_icb(sector: &[u8]) -> bool {
     (sector[..2] == FILE_ENTRY || sector[..2] == EXTENDED_FILE_ENTRY) && VAT_FILE_TYPES.contains(&sector[FILE_TYPE_AT])
+}
+
+/// Whether one that may be is as UDF 2.00 and later have it.
+pub(crate) fn is_later_icb(sector: &[u8]) -> bool {
+    sector[FILE_TYPE_AT] == LATER_VAT_FILE_TYPE
 }
 
 #[cfg(test)]

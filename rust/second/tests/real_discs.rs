@@ -9,7 +9,7 @@ mod reading;
 
 use lists::{Call, Kind, Slot, Store, World, CUT, OPEN};
 use reading::holds;
-use tuormik::descriptors::find_volume;
+use tuormik::descriptors::{find_volume, recognized};
 use tuormik::{calls, marks_by_rule, read_maps, Disc, Error, Held, Maps, Open, Record, Refusal};
 use tuormik::{BLANK, DEFECTIVE, MOST_ENTRIES, NONE, PACKET, PACKET_BYTES, RECORDED, SECTOR};
 use tuormik_second::layer::{Layer, PLAIN, PROVED};
@@ -228,6 +228,23 @@ fn cdr_201_is_refused() {
     let icb = &loaded.bytes[SECTOR * 299..SECTOR * 300];
     assert_eq!((u16_at(icb, 0), u16_at(icb, 2), icb[27]), (266, 3, 248));
     assert_eq!(loaded.open().err(), Some(Error::Refused(Refusal::NoTable)));
+    let words = "a volume of UDF 2.00 or later: so is its VAT, whose ICB is at sector 299";
+    assert_eq!(recognized(&loaded.bytes).as_deref(), Some(words));
+}
+
+/// No disc of this format is taken for another one.
+#[test]
+fn discs_of_the_format_are_not_recognized_as_others() {
+    for file in [
+        include_bytes!("discs/real-cdr-1.50-512.sectors").as_slice(),
+        include_bytes!("discs/real-cdr-1.50-4096.sectors"),
+        include_bytes!("discs/real-cdr-1.50-4096-closed.sectors"),
+        include_bytes!("discs/real-wrudf-mid.sectors"),
+        include_bytes!("discs/real-cdrw-1.50-1000-R3.sectors"),
+        TAB2,
+    ] {
+        assert_eq!(recognized(&unpack(file)), None);
+    }
 }
 
 // ---- rewritable discs
