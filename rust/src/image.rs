@@ -47,6 +47,7 @@ mod ddrescue;
 mod files;
 mod journal;
 mod lock;
+mod marking;
 mod marks_file;
 
 use crate::descriptors::{find_volume, recognized, Volume};
@@ -63,6 +64,7 @@ use std::os::unix::fs::{FileTypeExt, MetadataExt};
 use std::path::{Path, PathBuf};
 
 pub use ddrescue::marks_from_ddrescue;
+pub use marking::Marking;
 pub use marks_file::{mark_name, MARKS_FORMAT};
 
 /// Why an image is not read or not replaced, or a call on its disc did not come to its end.

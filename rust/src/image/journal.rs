@@ -61,6 +61,14 @@ const NEW_ENDING: &str = ".tuormik-new-";
 const HEAD: &[u8] = b"tuormik store";
 
 impl Note {
+    fn new(pair: &Pair, was: Option<u64>, is: u64, marks: NewMarks) -> Result<Note, Error> {
+        if pair.marks.as_os_str().as_bytes().contains(&b'\n') {
+            return Err(Error::wrong(&pair.marks, "a marks file's name has no line breaks"));
+        }
+        let ending = format!("{NEW_ENDING}{}", std::process::id());
+        Ok(Note { ending, was, is, marks_path: pair.marks.clone(), marks })
+    }
+
     fn path(image: &Path) -> PathBuf {
         with_ending(image, NOTE_ENDING)
     }
@@ -148,13 +156,18 @@ fn write(files: &dyn Files, path: &Path, bytes: &[u8], like: &Path) -> Result<()
 
 /// Replaces image and marks. The caller holds the image's lock, and has finished what was stopped before.
 pub(super) fn store(files: &dyn Files, pair: &Pair, was: Option<u64>, bytes: &[u8], marks: NewMarks) -> Result<(), Error> {
-    if pair.marks.as_os_str().as_bytes().contains(&b'\n') {
-        return Err(Error::wrong(&pair.marks, "a marks file's name has no line breaks"));
-    }
-    let ending = format!("{NEW_ENDING}{}", std::process::id());
-    let note = Note { ending, was, is: fingerprint(bytes), marks_path: pair.marks.clone(), marks };
+    bring(files, pair, &Note::new(pair, was, fingerprint(bytes), marks)?, Some(bytes))
+}
+
+/// Replaces the marks alone, of an image with this fingerprint. The caller has done as for [`store`].
+pub(super) fn store_marks(files: &dyn Files, pair: &Pair, image: u64, text: Vec<u8>) -> Result<(), Error> {
+    bring(files, pair, &Note::new(pair, Some(image), image, NewMarks::Text(text))?, None)
+}
+
+/// Writes the new image, if there is one, and the note, and does what the note asks for.
+fn bring(files: &dyn Files, pair: &Pair, note: &Note, bytes: Option<&[u8]>) -> Result<(), Error> {
     let (new, new_note) = (with_ending(&pair.image, &note.ending), with_ending(&pair.image, &format!("{}.store", note.ending)));
-    let prepared = prepare(files, &pair.image, bytes, &note, &new, &new_note);
+    let prepared = prepare(files, &pair.image, bytes, note, &new, &new_note);
     if let Err(error) = prepared {
         // what was half written is of no use
         for path in [new, new_note] {
@@ -163,12 +176,15 @@ pub(super) fn store(files: &dyn Files, pair: &Pair, was: Option<u64>, bytes: &[u
         return Err(error);
     }
     // from here on the new pair is the pair
-    put_in_place(files, &pair.image, &note, true).map_err(|error| Error::Unfinished { path: pair.image.clone(), error: Box::new(error) })
+    put_in_place(files, &pair.image, note, bytes.is_some())
+        .map_err(|error| Error::Unfinished { path: pair.image.clone(), error: Box::new(error) })
 }
 
 /// Writes the new image and the note, and brings the note to its name.
-fn prepare(files: &dyn Files, image: &Path, bytes: &[u8], note: &Note, new: &Path, new_note: &Path) -> Result<(), Error> {
-    write(files, new, bytes, image)?;
+fn prepare(files: &dyn Files, image: &Path, bytes: Option<&[u8]>, note: &Note, new: &Path, new_note: &Path) -> Result<(), Error> {
+    if let Some(bytes) = bytes {
+        write(files, new, bytes, image)?;
+    }
     write(files, new_note, &note.bytes(), image)?;
     sync(files, image)?;
     rename(files, new_note, &Note::path(image))
@@ -486,12 +502,14 @@ mod tests {
     struct Version {
         bytes: Vec<u8>,
         marks: NewMarks,
+        /// whether its marks alone are stored
+        is_marks_alone: bool,
     }
 
     impl Version {
         fn new(byte: u8, marks: Option<&str>) -> Version {
             let marks = marks.map_or(NewMarks::Removed, |text| NewMarks::Text(text.into()));
-            Version { bytes: vec![byte; 16], marks }
+            Version { bytes: vec![byte; 16], marks, is_marks_alone: false }
         }
 
         fn contents(&self) -> Contents {
@@ -506,7 +524,10 @@ mod tests {
         fn store(&self, files: &dyn Files, pair: &Pair) -> Result<(), Error> {
             finish(files, &pair.image)?;
             let was = read_pair(files, pair)?.image.as_deref().map(fingerprint);
-            store(files, pair, was, &self.bytes, self.marks.clone())
+            match (&self.marks, was) {
+                (NewMarks::Text(text), Some(was)) if self.is_marks_alone => store_marks(files, pair, was, text.clone()),
+                _ => store(files, pair, was, &self.bytes, self.marks.clone()),
+            }
         }
     }
 
@@ -540,7 +561,8 @@ mod tests {
 
     /// The power fails, or the process is killed, at any call of a store and at any call of the next one.
     fn stopped_twice(pair: &Pair, versions: [Option<Version>; 3]) {
-        let [old, new, newer] = versions.map(|version| version.unwrap_or(Version { bytes: vec![], marks: NewMarks::Kept }));
+        let [old, new, newer] =
+            versions.map(|version| version.unwrap_or(Version { bytes: vec![], marks: NewMarks::Kept, is_marks_alone: false }));
         let mut contents = old.contents();
         if old.bytes.is_empty() {
             contents.image = None;
@@ -571,11 +593,25 @@ mod tests {
     }
 
     #[test]
-    fn marks_in_another_folder_too() {
-        let pair = Pair { marks: "elsewhere/marks".into(), ..beside() };
+    fn two_stops_leave_marks_that_are_stored_alone_old_or_new() {
+        let marks = |text| Some(Version { is_marks_alone: true, ..Version::new(1, Some(text)) });
         let version = |byte, marks| Some(Version::new(byte, marks));
-        stopped_twice(&pair, [version(1, Some("one")), version(2, Some("two")), version(3, Some("three"))]);
-        stopped_twice(&pair, [version(1, None), version(2, Some("two")), version(3, Some("three"))]);
+        for old in [None, Some("one")] {
+            stopped_twice(&beside(), [version(1, old), marks("two"), marks("three")]);
+            stopped_twice(&beside(), [version(1, old), marks("two"), version(3, Some("three"))]);
+            stopped_twice(&elsewhere(), [version(1, old), marks("two"), marks("three")]);
+        }
+    }
+
+    fn elsewhere() -> Pair {
+        Pair { marks: "elsewhere/marks".into(), ..beside() }
+    }
+
+    #[test]
+    fn marks_in_another_folder_too() {
+        let version = |byte, marks| Some(Version::new(byte, marks));
+        stopped_twice(&elsewhere(), [version(1, Some("one")), version(2, Some("two")), version(3, Some("three"))]);
+        stopped_twice(&elsewhere(), [version(1, None), version(2, Some("two")), version(3, Some("three"))]);
     }
 
     /// The same on the file system itself, without the power failing: a store is killed at every call, and the next one too.

@@ -57,10 +57,16 @@ pub(super) fn read_marks(text: &[u8], bytes: &[u8]) -> Result<Vec<u8>, String> {
     for (i, line) in lines {
         read_line(line, &mut marks, bytes).map_err(|words| format!("line {}: {words}", i + 1))?;
     }
+    need_zeros(&marks, bytes)?;
+    Ok(marks)
+}
+
+/// Sectors that are called blank have zeros.
+pub(super) fn need_zeros(marks: &[u8], bytes: &[u8]) -> Result<(), String> {
     let is_written = |sector: &[u8]| sector.iter().any(|&b| b != 0);
-    match bytes.chunks(SECTOR).zip(&marks).position(|(sector, &mark)| mark == BLANK && is_written(sector)) {
+    match bytes.chunks(SECTOR).zip(marks).position(|(sector, &mark)| mark == BLANK && is_written(sector)) {
         Some(at) => Err(format!("sector {} is called blank, and its bytes are not zeros", grouped(at))),
-        None => Ok(marks),
+        None => Ok(()),
     }
 }
 
