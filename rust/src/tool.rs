@@ -21,6 +21,7 @@ mod list;
 mod make;
 mod manual;
 mod map;
+mod marks;
 mod media;
 mod output;
 mod page;
@@ -48,9 +49,10 @@ use std::path::Path;
 use tuormik::Refusal;
 
 /// The commands, in the order in which they are listed.
-const ENTRIES: [&Entry; 16] = [
+const ENTRIES: [&Entry; 17] = [
     &info::ENTRY,
     &verify::ENTRY,
+    &marks::ENTRY,
     &list::ENTRY,
     &read::ENTRY,
     &fit::ENTRY,

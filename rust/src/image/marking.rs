@@ -61,7 +61,12 @@ impl Marking {
         Ok((Marking { marks: marks_by_rule(&bytes), bytes, pair, stamps, _lock: lock }, contents.marks))
     }
 
-    /// The marks of the sectors of the image file.
+    /// The bytes of the image file.
+    pub fn bytes(&self) -> &[u8] {
+        &self.bytes
+    }
+
+    /// The marks of its sectors.
     pub fn marks(&self) -> &[u8] {
         &self.marks
     }
