@@ -40,6 +40,7 @@ mod summary;
 mod verify;
 mod volume;
 mod words;
+mod zeros;
 
 use args::Args;
 use entry::{nearest, Entry};

@@ -190,3 +190,36 @@ fn ddrescue_itself() {
         assert_eq!(runs(&folder, "rescued.img.marks"), BY_MAP);
     }
 }
+
+#[test]
+fn zeros_without_marks_are_doubted() {
+    let folder = with_copy("marks-zeros");
+    let warning =
+        "warning: 10 blocks are all zeros (the first is block 11, sector 300), and there is no marks file: they may not have been read";
+    let (status, out, err) = folder.run(&["verify", "copy.img", "disc.img"]);
+    assert_eq!((status, err.as_str()), (0, ""), "it is no fault");
+    let told: Vec<&str> = out.lines().map(str::trim).collect();
+    assert_eq!(told[1], warning, "{out}");
+    assert!(told[0].starts_with("copy.img  clean") && told[2].starts_with("disc.img  clean") && told[3] == "2 images: 2 clean", "{out}");
+    has(&folder.does(&["info", "copy.img"]), &warning.replace("warning:", "warning"));
+    assert!(folder.does(&["info", "--json", "copy.img"]).contains(r#""blocks_in_doubt": 10"#));
+    assert!(folder.does(&["verify", "--json", "copy.img"]).contains(r#""warnings": ["10 blocks are all zeros"#));
+    assert!(!folder.does(&["info", "disc.img"]).contains("warning"));
+    // with marks nothing is in doubt: who wrote them knows
+    folder.does(&["marks", "copy.img", "--set", "recorded", "300", "10"]);
+    assert!(!folder.does(&["verify", "copy.img"]).contains("warning"));
+    assert!(folder.does(&["info", "--json", "copy.img"]).contains(r#""blocks_in_doubt": 0"#));
+}
+
+#[test]
+fn zeros_of_a_rewritable_disc_are_doubted_too() {
+    let folder = Folder::with_spares("marks-rewritable", "96,128", "64", "3");
+    // as it has a marks file, it is known that its zeros were written
+    assert!(!folder.does(&["verify", "d.img"]).contains("warning"));
+    // without one, those before the last sector that is not zeros are in doubt
+    std::fs::remove_file(folder.path("d.img.marks")).expect("a marks file");
+    let words =
+        "warning: 3 blocks are all zeros (the first is block 0, sector 288), and there is no marks file: they may not have been read";
+    let (_, out, _) = folder.run(&["verify", "d.img"]);
+    has(&out, words);
+}

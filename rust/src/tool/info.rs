@@ -19,7 +19,8 @@ more fit and how full it is, then in the letters of document 01 S, L, N, NWA, th
 what they are; of a rewritable disc how many blocks belong to spares inside the partition, R, the sequence, the spares that are used, \
 defective and free, and by which identifier its sparing tables are read: the newer one (UDF 1.50) or the older one (CD UDF 1.82). On a \
 write-once disc 0 passed over says that the last sector of the partition that is not blank is a VAT ICB; once an opening has told 0, \
-later ones tell at most the number of sector writes begun since the last whole VAT ICB, wherever the power failed.
+later ones tell at most the number of sector writes begun since the last whole VAT ICB, wherever the power failed. Where there is no \
+marks file a warning tells of blocks that are all zeros: they may be sectors that were not read.
 ",
     choices: &[Choice::flag("--json", "a JSON list with an object an image, its numbers without commas")],
     takes_volume: true,

@@ -5,6 +5,7 @@ use super::passed::{Passed, Possible};
 use super::room::new_blocks;
 use super::states::{Counts, SpareCounts, View};
 use super::words::{counted, grouped, joined, parts};
+use super::zeros::Zeros;
 use super::{commits, found, refused, Failure};
 use tuormik::image::{mark_name, Image};
 use tuormik::{read_maps, Held, Maps, OpenRef, Refusal, BLANK, RECORDED, UNREADABLE};
@@ -33,6 +34,7 @@ pub struct Summary {
     length: u32,
     maps: Option<Maps>,
     pub opened: Result<Opened, (String, Refusal)>,
+    pub zeros: Option<Zeros>,
 }
 
 /// What an opening gave.
@@ -104,8 +106,12 @@ impl Summary {
     /// Opens the disc of an image; that it is turned down is told too.
     pub fn new(image: &Image) -> Result<Summary, Failure> {
         let maps = read_maps(&image.volume.maps).ok();
+        let mut zeros = None;
         let opened = match commits::open(image) {
-            Ok(open) => Ok(Opened::new(&open, tables(maps.as_ref()), image.file_sectors())?),
+            Ok(open) => {
+                zeros = Some(Zeros::new(image, (&open).into()));
+                Ok(Opened::new(&open, tables(maps.as_ref()), image.file_sectors())?)
+            }
             Err(Failure::Refused(words, why)) => Err((words, why)),
             Err(other) => return Err(other),
         };
@@ -119,6 +125,7 @@ impl Summary {
             length: image.volume.length,
             maps,
             opened,
+            zeros,
         })
     }
 
@@ -139,6 +146,7 @@ impl Summary {
             lines.push(("note", format!("the image file has {has}, and S + L is {end}: those that it does not have are taken as blank")));
         }
         lines.push(("marks", self.marks_source.clone()));
+        lines.extend(self.zeros.as_ref().and_then(Zeros::warning).map(|words| ("warning", words)));
         if let Some(Maps::Rewritable { table_bytes, tables, .. }) = &self.maps {
             let places: Vec<String> = tables.iter().map(|&t| grouped(t)).collect();
             lines.push(("tables", format!("in sectors {} ({} bytes each)", joined(&places), grouped(*table_bytes))));
@@ -177,6 +185,7 @@ impl Summary {
             parts.push(("tables", Json::numbers(tables.iter().copied())));
             parts.push(("table_bytes", Json::number(*table_bytes)));
         }
+        parts.extend(self.zeros.as_ref().map(|zeros| ("blocks_in_doubt", Json::number(zeros.count))));
         match &self.opened {
             Ok(opened) => parts.extend(opened.json()),
             Err((words, why)) => parts.extend([("line", Json::number(why.number())), ("words", Json::text(words))]),

@@ -10,6 +10,7 @@ use super::progress::Progress;
 use super::states::{Run, State, View};
 use super::summary::Summary;
 use super::words::{counted, from_to, grouped, parts};
+use super::zeros::Zeros;
 use super::{found, status, Done, Failure};
 use std::path::Path;
 use tuormik::image::Image;
@@ -27,7 +28,8 @@ unreadable), or were never recorded (they are blank); a copy of the sparing tabl
 read any more (status 1)
   CANNOT BE OPENED            the file cannot be read, or this layer cannot open its disc (status 2)
   NOT A DISC OF THIS FORMAT   it is something else, and what, where that can be told (status 5)
-That blocks belong to spares inside the partition is no fault: they are not read, and counted apart. The last line counts the images. \
+That blocks belong to spares inside the partition is no fault: they are not read, and counted apart. Nor are blocks of zeros, but where \
+there is no marks file a warning tells of them: they may be sectors that were not read. The last line counts the images. \
 Of several images the highest status is given.
 ",
     choices: &[
@@ -80,16 +82,17 @@ impl Standing {
     }
 }
 
-/// What there is to say of an image: what it comes to, in a few words what it is, and what is wrong with it.
+/// What there is to say of an image: what it comes to, in a few words what it is, what is wrong with it, and what may be.
 pub struct Verdict {
     pub standing: Standing,
     pub gist: String,
     pub faults: Vec<String>,
+    pub warnings: Vec<String>,
 }
 
 impl Verdict {
     fn new(standing: Standing, fault: String) -> Verdict {
-        Verdict { standing, gist: String::new(), faults: vec![fault] }
+        Verdict { standing, gist: String::new(), faults: vec![fault], warnings: Vec::new() }
     }
 
     pub fn is_clean(&self) -> bool {
@@ -110,6 +113,7 @@ impl Verdict {
             ("status", Json::number(self.standing.status())),
             ("disc", if self.gist.is_empty() { Json::None } else { Json::text(&self.gist) }),
             ("faults", Json::List(self.faults.iter().map(Json::text).collect())),
+            ("warnings", Json::List(self.warnings.iter().map(Json::text).collect())),
         ])
     }
 }
@@ -128,6 +132,9 @@ fn verify(args: &mut Args, out: &mut Outputs) -> Done {
             objects.push(verdict.json(path));
         } else {
             out.line(format_args!("{:<widest$}  {}", path.to_string_lossy(), verdict.words()));
+            for words in &verdict.warnings {
+                out.line(format_args!("{:<widest$}  warning: {words}", ""));
+            }
             out.flush();
         }
     }
@@ -171,6 +178,7 @@ fn without_name(words: &str, path: &Path) -> String {
 /// also every block that an older commit used.
 pub fn verdict(image: &Image, with_history: bool) -> Result<Verdict, Failure> {
     let summary = Summary::new(image)?;
+    let warnings = summary.zeros.iter().filter_map(Zeros::warning).collect();
     let opened = match summary.opened {
         Ok(opened) => opened,
         Err((words, why)) => return Ok(Verdict::new(Standing::of_refusal(image, why), format!("{words} ({})", why.place()))),
@@ -183,7 +191,7 @@ pub fn verdict(image: &Image, with_history: bool) -> Result<Verdict, Failure> {
         faults.extend(history_faults(image)?);
     }
     let standing = if faults.is_empty() { Standing::Clean } else { Standing::Damaged };
-    Ok(Verdict { standing, gist: opened.gist(), faults })
+    Ok(Verdict { standing, gist: opened.gist(), faults, warnings })
 }
 
 /// The blocks that cannot be read, or were never recorded.
