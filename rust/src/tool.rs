@@ -265,7 +265,7 @@ pub fn run(words: impl Iterator<Item = OsString>, out: &mut Outputs) -> u8 {
     let done = dispatch(&words, out);
     out.flush();
     let status = done.map_or_else(|failure| failure.tell(out), |()| status::DONE);
-    let is_writing = find(&words).is_some_and(|(entry, _)| entry.writes.is_some());
+    let is_writing = find(&words).is_some_and(|(entry, _)| entry.writes.is_some()) && !out.is_only_read();
     match out.lost() {
         Some(error) if is_writing || !out.is_closed() => {
             let what =
@@ -388,7 +388,7 @@ mod tests {
     }
 
     /// Every command, done, turned down, cut and wrong.
-    const LINES: [&str; 40] = [
+    const LINES: [&str; 43] = [
         "help",
         "help save",
         "help volume",
@@ -399,6 +399,9 @@ mod tests {
         "verify ./d.img ./r.img",
         "verify ./d.img ./e.img --history",
         "verify --json ./d.img ./e.img",
+        "marks ./e.img",
+        "marks ./d.img --set unreadable 290 1",
+        "marks ./d.img --set blank 288 1",
         "list ./d.img",
         "list ./r.img --all",
         "read ./d.img 0 3",
@@ -440,7 +443,7 @@ mod tests {
             let (out, err) = (Counted::new(None), Counted::new(None));
             let status = folder.run(line, &out, &err);
             let files = folder.files();
-            let writes = ["save", "free", "commit", "spare", "make"].iter().any(|name| line.starts_with(name));
+            let writes = ["save", "free", "commit", "spare", "make", "marks ./d.img"].iter().any(|name| line.starts_with(name));
             assert!(!writes || status != 0 || files != discs, "{line} has changed nothing");
             for kind in [ErrorKind::BrokenPipe, ErrorKind::StorageFull] {
                 let untold = if status == 0 && (writes || kind != ErrorKind::BrokenPipe) { status::UNTOLD } else { status };

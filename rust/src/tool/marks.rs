@@ -118,6 +118,7 @@ fn change(values: &[OsString]) -> Result<Change, Failure> {
 
 /// Tells the marks of the image file.
 fn show(args: &Args, path: &Path, out: &mut Outputs) -> Done {
+    out.only_reads();
     let waiting = Waiting::new(format!("reading {}", path.display()));
     let none = Volume { maps: Vec::new(), start: 0, length: 0 };
     let image = Image::load(path, args.path("--marks"), |_| Ok::<_, Failure>(none))?;

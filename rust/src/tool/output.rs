@@ -12,6 +12,7 @@ pub struct Outputs<'a> {
     err: Box<dyn Write + 'a>,
     /// why the standard output took no more
     lost: Option<io::Error>,
+    is_only_read: bool,
 }
 
 impl Outputs<'static> {
@@ -23,7 +24,7 @@ impl Outputs<'static> {
 
 impl<'a> Outputs<'a> {
     pub fn new(out: impl Write + 'a, err: impl Write + 'a) -> Outputs<'a> {
-        Outputs { out: Box::new(out), err: Box::new(err), lost: None }
+        Outputs { out: Box::new(out), err: Box::new(err), lost: None, is_only_read: false }
     }
 
     /// A line of the report.
@@ -58,6 +59,15 @@ impl<'a> Outputs<'a> {
         let line = format!("tuormik: {words}\n");
         // where nobody reads the messages there is nothing more to say
         let _ = self.err.write_all(line.as_bytes()).and_then(|()| self.err.flush());
+    }
+
+    /// A command that may write only reads this time: what it says is all that is asked of it.
+    pub fn only_reads(&mut self) {
+        self.is_only_read = true;
+    }
+
+    pub fn is_only_read(&self) -> bool {
+        self.is_only_read
     }
 
     /// Whether the standard output was closed by who read it.
