@@ -5,8 +5,8 @@
 
 mod folder;
 
-use folder::{has, Folder};
-use std::process::{Command, Stdio};
+use folder::{has, is_installed, Folder};
+use std::process::Command;
 
 const SECTOR: usize = 2048;
 /// The sectors that could not be read.
@@ -145,6 +145,23 @@ fn no_volume_is_needed() {
 }
 
 #[test]
+fn an_image_that_is_write_protected_is_marked() {
+    let folder = with_copy("marks-protected");
+    let protected = |name: &str| {
+        let path = folder.path(name);
+        let mut permissions = std::fs::metadata(&path).expect("a file").permissions();
+        permissions.set_readonly(true);
+        std::fs::set_permissions(path, permissions).expect("permissions");
+    };
+    protected("copy.img");
+    folder.does(&["marks", "copy.img", "--set", "unreadable", "300", "10"]);
+    folder.turns_away(&["save", "copy.img", "new", "blocks"], &["copy.img: it is read-only"]);
+    // its marks can be write-protected too
+    protected("copy.img.marks");
+    folder.turns_away(&["marks", "copy.img", "--set", "recorded", "300", "1"], &["copy.img.marks: it is read-only"]);
+}
+
+#[test]
 fn what_is_not_marked() {
     let folder = with_copy("marks-refused");
     folder.write("copy.map", RETRIED.as_bytes());
@@ -164,11 +181,6 @@ fn what_is_not_marked() {
     folder.turns_away(&by_map("copy.img", "short"), &["short: line 1: "]);
     folder.turns_away(&by_map("short", "copy.map"), &["short: its 2,049 bytes are no multiple of 2,048"]);
     folder.turns_away(&by_map("none.img", "copy.map"), &["none.img: "]);
-}
-
-/// Whether a program is installed.
-fn is_installed(program: &str) -> bool {
-    Command::new(program).arg("--version").stdout(Stdio::null()).status().is_ok_and(|status| status.success())
 }
 
 /// The real program over a disc of which some sectors cannot be read, as its test mode has it, where it is installed.

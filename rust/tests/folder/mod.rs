@@ -129,6 +129,11 @@ pub fn ended(child: Child) -> (i32, String, String) {
     (status.code().expect("a status"), out, err)
 }
 
+/// Whether a program is installed.
+pub fn is_installed(program: &str) -> bool {
+    Command::new(program).arg("--version").stdout(Stdio::null()).status().is_ok_and(|status| status.success())
+}
+
 /// One of the lines of a text is this, but for its spaces.
 pub fn has(text: &str, line: &str) {
     let squeezed = |l: &str| l.split_whitespace().collect::<Vec<_>>().join(" ");
