@@ -5,6 +5,7 @@ mod recognized;
 
 use crate::numbers::grouped;
 use crate::{crc, read_maps, Maps, SECTOR};
+use std::fmt;
 
 pub use recognized::recognized;
 
@@ -64,8 +65,27 @@ fn anchor_places(sectors: usize) -> impl Iterator<Item = usize> {
     [Some(256), Some(512), sectors.checked_sub(256)].into_iter().flatten()
 }
 
+/// Why no volume is found in an image, in words.
+#[derive(Clone, Debug, PartialEq, Eq)]
+pub enum NoVolume {
+    /// Nothing in it tells of a volume with sectors of 2,048 bytes.
+    Other(String),
+    /// Something tells of one, and the descriptors that lead to it are not all there.
+    Lost(String),
+}
+
+impl fmt::Display for NoVolume {
+    fn fmt(&self, f: &mut fmt::Formatter) -> fmt::Result {
+        match self {
+            NoVolume::Other(words) | NoVolume::Lost(words) => f.write_str(words),
+        }
+    }
+}
+
+impl std::error::Error for NoVolume {}
+
 /// The volume that an image's descriptors tell; where they tell none, why.
-pub fn find_volume(image: &[u8]) -> Result<Volume, String> {
+pub fn find_volume(image: &[u8]) -> Result<Volume, NoVolume> {
     let mut why = no_anchor(image);
     for at in anchor_places(image.len() / SECTOR) {
         let Some(anchor) = sector(image, at).filter(|a| identifier(a, at) == Some(ANCHOR)) else {
@@ -75,7 +95,7 @@ pub fn find_volume(image: &[u8]) -> Result<Volume, String> {
             let count = u32_at(anchor, extent) as usize / SECTOR;
             match read_sequence(image, u32_at(anchor, extent + 4) as usize, count) {
                 Ok(volume) => return Ok(volume),
-                Err(words) => why = words,
+                Err(other) => why = other,
             }
         }
     }
@@ -83,18 +103,18 @@ pub fn find_volume(image: &[u8]) -> Result<Volume, String> {
 }
 
 /// That an image has no anchor, and whether it should have one.
-fn no_anchor(image: &[u8]) -> String {
+fn no_anchor(image: &[u8]) -> NoVolume {
     let words = "no anchor volume descriptor pointer stands at sector 256, 512 or n - 256";
     match recognized::udf_identifier(image) {
-        Some(name) => {
-            format!("{words}, though the volume recognition sequence tells of UDF ({name}): it was lost, or the image is not whole")
-        }
-        None => words.to_string(),
+        Some(name) => NoVolume::Lost(format!(
+            "{words}, though the volume recognition sequence tells of UDF ({name}): it was lost, or the image is not whole"
+        )),
+        None => NoVolume::Other(words.to_string()),
     }
 }
 
 /// The volume that a volume descriptor sequence tells.
-fn read_sequence(image: &[u8], from: usize, count: usize) -> Result<Volume, String> {
+fn read_sequence(image: &[u8], from: usize, count: usize) -> Result<Volume, NoVolume> {
     let mut logical: Option<&[u8]> = None;
     let mut partitions: Vec<&[u8]> = Vec::new();
     let prevails = |new: &[u8], old: &[u8]| u32_at(new, SEQUENCE_AT) >= u32_at(old, SEQUENCE_AT);
@@ -116,19 +136,22 @@ fn read_sequence(image: &[u8], from: usize, count: usize) -> Result<Volume, Stri
             _ => {}
         }
     }
-    let logical = logical.ok_or("the volume descriptor sequence has no logical volume descriptor")?;
-    if u32_at(logical, BLOCK_SIZE_AT) as usize != SECTOR {
-        return Err(format!("the logical volume has blocks of {} bytes, not 2,048", grouped(u32_at(logical, BLOCK_SIZE_AT))));
+    let lost = |words: &str| NoVolume::Lost(words.to_string());
+    let logical = logical.ok_or_else(|| lost("the volume descriptor sequence has no logical volume descriptor"))?;
+    let block_size = u32_at(logical, BLOCK_SIZE_AT);
+    if block_size as usize != SECTOR {
+        return Err(NoVolume::Other(format!("the logical volume has blocks of {} bytes, not 2,048", grouped(block_size))));
     }
     let length = u32_at(logical, MAP_LENGTH_AT) as usize;
-    let maps = logical[MAPS_AT..].get(..length).ok_or("the map list does not fit its logical volume descriptor")?;
+    let maps = logical[MAPS_AT..].get(..length).ok_or_else(|| lost("the map list does not fit its logical volume descriptor"))?;
     // a list of neither kind still names a partition, for the calls to turn it down by
     let number = match read_maps(maps) {
         Ok(Maps::WriteOnce { partition } | Maps::Rewritable { partition, .. }) => Some(partition),
         Err(_) => None,
     };
     let named = partitions.iter().find(|p| number.is_none_or(|n| u16_at(p, PARTITION_NUMBER_AT) == n));
-    let partition = named.ok_or("the volume descriptor sequence has no descriptor of the partition that the map list names")?;
+    let partition =
+        named.ok_or_else(|| lost("the volume descriptor sequence has no descriptor of the partition that the map list names"))?;
     Ok(Volume { maps: maps.to_vec(), start: u32_at(partition, PARTITION_START_AT), length: u32_at(partition, PARTITION_LENGTH_AT) })
 }
 

@@ -84,6 +84,13 @@ pub enum Error {
         /// What is wrong with it.
         words: String,
     },
+    /// A file that is no image of a disc, by what its bytes tell.
+    NoImage {
+        /// The file.
+        path: PathBuf,
+        /// What it is.
+        what: String,
+    },
     /// A file that is there already, where a new one is to be made.
     Exists {
         /// The file.
@@ -123,6 +130,7 @@ impl fmt::Display for Error {
         match self {
             Error::File { path, error } => write!(f, "{}: {error}", path.display()),
             Error::Wrong { path, words } => write!(f, "{}: {words}", path.display()),
+            Error::NoImage { path, what } => write!(f, "{}: it is {what}", path.display()),
             Error::Exists { path } => write!(f, "{}: it is there already", path.display()),
             Error::Held { path, by: Some(by) } => write!(f, "{}: process {by} is writing it; nothing was done here", path.display()),
             Error::Held { path, by: None } => write!(f, "{}: another process is writing it; nothing was done here", path.display()),
@@ -412,7 +420,7 @@ fn need_replaceable(path: &Path) -> Result<(), Error> {
 
 /// The volume that the descriptors of an image tell.
 fn described(path: &Path, bytes: &[u8]) -> Result<Volume, Error> {
-    find_volume(bytes).map_err(|words| Error::wrong(path, words))
+    find_volume(bytes).map_err(|why| Error::wrong(path, why.to_string()))
 }
 
 /// Reads image and marks, and finds the volume.
@@ -420,7 +428,7 @@ fn read_image<E: From<Error>>(pair: Pair, must_have_marks: bool, find: impl FnOn
     let contents = journal::read_pair(&System, &pair)?;
     let wrong = |words: String| Error::wrong(&pair.image, words);
     let mut bytes = contents.image.ok_or_else(|| wrong("there is no such file".into()))?;
-    need_sectors(bytes.len()).map_err(|words| wrong(words + &what_it_is(&bytes)))?;
+    need_image(&pair.image, &bytes)?;
     if must_have_marks && contents.marks.is_none() {
         return Err(Error::wrong(&pair.marks, "there is no such file").into());
     }
@@ -456,9 +464,12 @@ fn need_sectors(length: usize) -> Result<(), String> {
     }
 }
 
-/// What a file that is no image is, where its bytes tell.
-fn what_it_is(bytes: &[u8]) -> String {
-    recognized(bytes).map_or(String::new(), |words| format!("; it is {words}"))
+/// A file has the bytes of an image; where it has not, what it is, if they tell.
+fn need_image(path: &Path, bytes: &[u8]) -> Result<(), Error> {
+    need_sectors(bytes.len()).map_err(|words| match recognized(bytes) {
+        Some(what) => Error::NoImage { path: path.to_owned(), what },
+        None => Error::wrong(path, words),
+    })
 }
 
 /// A rewritable disc is not shorter than its partition and its sparing tables: what is cut off there is lost, not blank.

@@ -102,6 +102,8 @@ pub enum Failure {
     File(String),
     /// An image whose descriptors tell no volume.
     NoVolume(String),
+    /// An image that should have a volume, and whose descriptors are not all there.
+    LostVolume(String),
     /// A disc that is stored, with files that are not all in their places yet.
     Unfinished(String),
     /// All is said, and this is the status.
@@ -125,7 +127,7 @@ impl Failure {
     fn status(&self) -> u8 {
         match self {
             Failure::Refused(..) => status::NO,
-            Failure::Usage(_) | Failure::File(_) | Failure::NoVolume(_) | Failure::Unfinished(_) => status::WRONG,
+            Failure::Usage(_) | Failure::File(_) | Failure::NoVolume(_) | Failure::LostVolume(_) | Failure::Unfinished(_) => status::WRONG,
             Failure::Cut(_) => status::CUT,
             Failure::Told(status) => *status,
         }
@@ -135,9 +137,12 @@ impl Failure {
     fn words(&self) -> String {
         match self {
             Failure::Refused(words, why) => format!("{words} ({})", why.place()),
-            Failure::Usage(words) | Failure::File(words) | Failure::NoVolume(words) | Failure::Unfinished(words) | Failure::Cut(words) => {
-                words.clone()
-            }
+            Failure::Usage(words)
+            | Failure::File(words)
+            | Failure::NoVolume(words)
+            | Failure::LostVolume(words)
+            | Failure::Unfinished(words)
+            | Failure::Cut(words) => words.clone(),
             Failure::Told(_) => String::new(),
         }
     }
@@ -158,6 +163,7 @@ impl Failure {
             (Failure::Usage(words), _) => Failure::Usage(format!("{words}\n('tuormik help {}' tells how it is called)", entry.name)),
             (Failure::File(words), Some(kept)) => Failure::File(format!("{words}; {kept}")),
             (Failure::NoVolume(words), Some(kept)) => Failure::NoVolume(format!("{words}; {kept}")),
+            (Failure::LostVolume(words), Some(kept)) => Failure::LostVolume(format!("{words}; {kept}")),
             (other, _) => other,
         }
     }
@@ -167,6 +173,7 @@ impl From<tuormik::image::Error> for Failure {
     fn from(error: tuormik::image::Error) -> Failure {
         match error {
             tuormik::image::Error::Exists { .. } => Failure::File(format!("{error} (--force replaces it)")),
+            tuormik::image::Error::NoImage { .. } => Failure::NoVolume(error.to_string()),
             tuormik::image::Error::Unfinished { .. } => Failure::Unfinished(error.to_string()),
             _ => Failure::File(error.to_string()),
         }

@@ -53,7 +53,7 @@ fn who_holds_an_image_is_named() {
 
 /// The volume of `d.img`.
 fn find(bytes: &[u8]) -> Result<Volume, Error> {
-    find_volume(bytes).map_err(|words| Error::Wrong { path: "d.img".into(), words })
+    find_volume(bytes).map_err(|why| Error::Wrong { path: "d.img".into(), words: why.to_string() })
 }
 
 /// From a path to what is stored, by one error.

@@ -95,7 +95,7 @@ fn later_udf(bytes: &[u8], volume: &Volume) -> Option<String> {
 #[cfg(test)]
 mod tests {
     use super::*;
-    use crate::descriptors::{put, put_tag, write_volume};
+    use crate::descriptors::{put, put_tag, write_volume, NoVolume};
     use crate::passed::{EXTENDED_FILE_ENTRY, FILE_ENTRY, FILE_TYPE_AT};
     use crate::{write_maps, SECTOR};
 
@@ -139,7 +139,9 @@ mod tests {
     fn udf_without_an_anchor() {
         let mut bytes = with_names(&[b"BEA01", b"NSR03", b"TEA01"]);
         assert_eq!((udf_identifier(&bytes), recognized(&bytes)), (Some("NSR03"), None));
-        let words = find_volume(&bytes).expect_err("no anchor");
+        let NoVolume::Lost(words) = find_volume(&bytes).expect_err("no anchor") else {
+            panic!("it was there");
+        };
         assert!(
             words.ends_with("though the volume recognition sequence tells of UDF (NSR03): it was lost, or the image is not whole"),
             "{words}"

@@ -4,7 +4,7 @@ use super::files::{Stamp, System};
 use super::journal::{self, Pair};
 use super::lock::Lock;
 use super::marks_file::{fingerprint, is_marks_file, marks_text, need_zeros, read_marks};
-use super::{located, need_replaceable, need_sectors, stamps, what_it_is, Error};
+use super::{located, need_image, need_replaceable, stamps, Error};
 use crate::numbers::grouped;
 use crate::{marks_by_rule, BLANK, RECORDED, UNREADABLE};
 use std::path::Path;
@@ -57,7 +57,7 @@ impl Marking {
         let stamps = stamps(&pair)?;
         let contents = journal::read_pair(&System, &pair)?;
         let bytes = contents.image.ok_or_else(|| Error::wrong(&pair.image, "there is no such file"))?;
-        need_sectors(bytes.len()).map_err(|words| Error::wrong(&pair.image, words + &what_it_is(&bytes)))?;
+        need_image(&pair.image, &bytes)?;
         Ok((Marking { marks: marks_by_rule(&bytes), bytes, pair, stamps, _lock: lock }, contents.marks))
     }
 
@@ -225,7 +225,7 @@ mod tests {
         let folder = Folder::new("none");
         folder.write("d.img", b"\xfd7zXZ\0 and so on");
         let words = folder.begin().err().expect("it is no image").to_string();
-        assert!(words.ends_with("0 sectors and 16 bytes; it is a file compressed by xz"), "{words}");
+        assert!(words.ends_with("d.img: it is a file compressed by xz"), "{words}");
         assert!(Marking::begin(&folder.path("e.img"), None).is_err());
         assert!(Marking::begin(&folder.path("d.img"), Some(&folder.path("d.img"))).is_err());
     }

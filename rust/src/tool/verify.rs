@@ -25,7 +25,7 @@ Opens the disc of each image and reads every block that is used. A line an image
   clean                       all that is used can be read (status 0)
   DAMAGED                     opening passed over sectors above the last commit; blocks that are used cannot be read (they are \
 unreadable), or were never recorded (they are blank); a copy of the sparing table is not current; no VAT, or no sparing table, can be \
-read any more (status 1)
+read any more; descriptors that lead to the volume are lost (status 1)
   CANNOT BE OPENED            the file cannot be read, or this layer cannot open its disc (status 2)
   NOT A DISC OF THIS FORMAT   it is something else, and what, where that can be told (status 5)
 That blocks belong to spares inside the partition is no fault: they are not read, and counted apart. Nor are blocks of zeros, but where \
@@ -156,11 +156,12 @@ pub fn counts(standings: &[Standing]) -> String {
 pub fn verdict_of(args: &Args, path: &Path) -> Result<Verdict, Failure> {
     let verdict = load(args, path).and_then(|image| verdict(&image, args.has("--history")));
     let failure = match verdict {
-        Err(failure @ (Failure::File(_) | Failure::NoVolume(_) | Failure::Refused(..))) => failure,
+        Err(failure @ (Failure::File(_) | Failure::NoVolume(_) | Failure::LostVolume(_) | Failure::Refused(..))) => failure,
         other => return other,
     };
     let standing = match failure {
         Failure::NoVolume(_) => Standing::OtherFormat,
+        Failure::LostVolume(_) => Standing::Damaged,
         _ => Standing::Unopened,
     };
     Ok(Verdict::new(standing, without_name(&failure.words(), path)))

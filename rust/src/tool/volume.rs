@@ -2,7 +2,7 @@
 
 use super::args::Args;
 use super::{refused, words, Failure};
-use tuormik::descriptors::{find_volume, Volume};
+use tuormik::descriptors::{find_volume, recognized, NoVolume, Volume};
 use tuormik::{write_maps, Maps};
 
 fn usage(words: String) -> Failure {
@@ -39,8 +39,15 @@ pub fn volume(args: &Args, image: &[u8]) -> Result<Volume, Failure> {
     if let (Some(maps), Some(start), Some(length)) = (&maps, start, length) {
         return Ok(Volume { maps: maps.clone(), start, length });
     }
-    let found = find_volume(image).map_err(|why| {
-        Failure::NoVolume(format!("{why}; give the volume by hand: --start S --length L and --write-once, --tables T,.. or --maps FILE"))
-    })?;
+    let found = find_volume(image).map_err(|why| no_volume(image, &why))?;
     Ok(Volume { maps: maps.unwrap_or(found.maps), start: start.unwrap_or(found.start), length: length.unwrap_or(found.length) })
+}
+
+/// That an image tells no volume: what it is, where that can be told, or else how a volume is given.
+fn no_volume(image: &[u8], why: &NoVolume) -> Failure {
+    let by_hand = || format!("{why}; give the volume by hand: --start S --length L and --write-once, --tables T,.. or --maps FILE");
+    match why {
+        NoVolume::Lost(_) => Failure::LostVolume(by_hand()),
+        NoVolume::Other(_) => Failure::NoVolume(recognized(image).map_or_else(by_hand, |what| format!("it is {what}"))),
+    }
 }
