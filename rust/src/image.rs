@@ -5,7 +5,8 @@
 //!
 //! [`Image::load`] reads the pair of files and writes nothing, so that a folder may be read-only. [`Image::load_to_write`] takes the
 //! image's lock before, and holds it until the image is dropped: two processes cannot store over each other. [`Image::store`] replaces
-//! both files so that whoever is stopped in it, at any call of the file system, leaves the old pair or the new one.
+//! both files so that whoever is stopped in it, at any call of the file system, leaves the old pair or the new one. [`Marking`] replaces
+//! the marks alone, in the same way; [`marks_from_ddrescue`] tells which they are by the map of an imaging program.
 //!
 //! [`Image::open`] and [`Image::open_to_write`] do so with an image whose own descriptors tell its volume, as the tool makes them. [`Error`]
 //! takes the answers of the layer too, so that `?` leads from a path to what is stored:

@@ -45,7 +45,7 @@ fn sectors_that_ddrescue_did_not_read_are_unreadable() {
         folder.write("copy.map", map.as_bytes());
         let told = folder.does(&["marks", "copy.img", "--from-ddrescue", "copy.map"]);
         has(&told, "400 sectors: 390 recorded, 10 unreadable, 0 blank");
-        has(&told, "those from 340 on are zeros and count as written: where nothing was recorded there, --blank-from 340 says so");
+        has(&told, "those from 340 on are zeros and not called blank: where nothing was recorded there, --blank-from 340 says so");
         assert_eq!(runs(&folder, "copy.img.marks"), BY_MAP);
         let told = folder.does(&["marks", "copy.img", "--from-ddrescue", "copy.map", "--force", "--blank-from", "340"]);
         assert_eq!(told, "400 sectors: 330 recorded, 10 unreadable, 60 blank\n");
@@ -83,7 +83,7 @@ fn a_marks_file_is_replaced_by_force_alone() {
     folder.write("copy.map", RETRIED.as_bytes());
     let by_map = ["marks", "copy.img", "--from-ddrescue", "copy.map"];
     folder.does(&by_map);
-    // a retry reads one sector more: the marks belong to other bytes now
+    // a retry reads one sector more, and the marks belong to the bytes before it
     let mut copy = folder.bytes("copy.img");
     copy[SECTOR * 300..SECTOR * 301].fill(7);
     folder.write("copy.img", &copy);

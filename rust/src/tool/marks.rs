@@ -55,7 +55,7 @@ fn marks(args: &mut Args, out: &mut Outputs) -> Done {
     out.line(format_args!("{}: {}", counted(marking.marks().len(), "sector"), mark_words(marking.marks())));
     if let Some(from) = zeros_from(&marking).filter(|_| args.has("--from-ddrescue")) {
         out.line(format_args!(
-            "those from {0} on are zeros and count as written: where nothing was recorded there, --blank-from {0} says so",
+            "those from {0} on are zeros and not called blank: where nothing was recorded there, --blank-from {0} says so",
             grouped(from)
         ));
     }
