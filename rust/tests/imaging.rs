@@ -66,7 +66,9 @@ fn the_page_is_as_it_is_written() {
         let is_told = !shown.is_empty() || !command.starts_with("tuormik");
         assert!(!is_told || printed.lines().eq(shown.iter().copied()), "{command}\n{printed}");
     }
-    for name in ["disc-001.img", "disc-001.img.marks", "disc-001.map", "disc-001/list.csv", "disc-001.html", "disc-001.sha256"] {
+    for name in
+        ["disc-001.img", "disc-001.img.marks", "disc-001.map", "disc-001/list.csv", "disc-001.html", "disc-001.sha256", "shelf.html"]
+    {
         assert!(folder.path(name).is_file(), "{name} is not there");
     }
 }
