@@ -15,7 +15,7 @@ pub struct Zeros {
 
 impl Zeros {
     pub fn new(image: &Image, view: View) -> Zeros {
-        let mut blocks = view.blocks().filter(|block| !image.has_marks_file() && block.is_readable() && is_zeros(view, block));
+        let mut blocks = view.blocks().filter(|block| image.marks_file().is_none() && block.is_readable() && is_zeros(view, block));
         let first = blocks.next();
         Zeros { count: usize::from(first.is_some()) + blocks.count(), first }
     }
