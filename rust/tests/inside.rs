@@ -125,7 +125,7 @@ fn what_is_told_while_packets_are_spared() {
         has(&folder.does(&["map", "d.img", "d.ppm"]), &format!("d.ppm: {}", told.legend));
         let page = folder.does(&["report", "d.img"]);
         has(&page, &format!("<p class=\"verdict\">{}</p>", told.verdict));
-        has(&page, "<tr><td>blocks</td><td>64 readable, 0 unreadable, 0 blank; 64 more belong to spares</td></tr>");
+        has(&page, "<tr><th scope=\"row\">blocks</th><td>64 readable, 0 unreadable, 0 blank; 64 more belong to spares</td></tr>");
         has(&page, "<tr><td>blocks 32 to 63</td><td>sectors 320 to 351</td><td>of a spare</td></tr>");
         has(&page, "<tr><td>blocks 64 to 95</td><td>sectors 352 to 383</td><td>recorded</td></tr>");
         has(&page, "<tr><td>blocks 96 to 127</td><td>sectors 384 to 415</td><td>of a spare</td></tr>");
@@ -150,7 +150,7 @@ fn a_map_of_spares_inside() {
         "d.svg: 509 recorded, 32 live, 63 free spare, 32 used spare, 3 sparing table, 1 unreadable",
     );
     let svg = String::from_utf8(folder.bytes("d.svg")).expect("text");
-    for part in [">free spare: 63</text>", ">used spare: 32</text>", ">live: 32</text>"] {
+    for part in [">free spare: 63<tspan", ">used spare: 32<tspan", ">live: 32<tspan"] {
         assert!(svg.contains(part), "'{part}' is not in\n{svg}");
     }
     // rows of 64 sectors: the used spare is sectors 320 to 351, row 5, and the live packet sectors 352 to 383, the rest of the row

@@ -67,9 +67,9 @@ fn a_packet_is_spared_twice() {
         has(&folder.does(&["map", "d.img", picture]), &format!("{picture}: {legend}"));
     }
     let svg = String::from_utf8(folder.bytes("d.svg")).expect("text");
-    assert!(svg.contains(">defective spare: 32</text>"), "{svg}");
+    assert!(svg.contains(">defective spare: 32<tspan"), "{svg}");
     let page = folder.does(&["report", "d.img"]);
-    assert!(page.contains(">defective spare: 32</text>") && page.contains("<td>1 used, 1 defective, 1 free</td>"), "{page}");
+    assert!(page.contains(">defective spare: 32<span") && page.contains("<td>1 used, 1 defective, 1 free</td>"), "{page}");
     has(&folder.does(&["verify", "d.img"]), "d.img clean: rewritable, 64 blocks, 1 of 3 spares used, 1 defective");
     folder.does(&["export", "d.img", "out"]);
     has(&String::from_utf8_lossy(&folder.bytes("out/list.csv")), "40,40,136,recorded,block-0040.bin");

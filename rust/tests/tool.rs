@@ -31,7 +31,7 @@ fn every_command_has_help() {
     folder.usage(&["dance"]);
     for command in COMMANDS {
         folder.usage(&[command, "--no-such-option"]);
-        if !["info", "verify"].contains(&command) {
+        if !["info", "verify", "report"].contains(&command) {
             folder.usage(&[command, "a", "b", "c", "d", "e"]);
         }
         if command != "demo" {

@@ -15,7 +15,8 @@ pub const ENTRY: Entry = Entry {
     about: "\
 Draws the sectors of the disc, row by row: blank (never recorded), recorded, live (a block of the current table), unreadable, VAT \
 ICBs, sparing tables, spares that are used, defective or free, also those inside the partition, and a line around the partition. What \
-is used is drawn enlarged too where it is a quarter of the disc at most. Rows with an unreadable sector have a bar, those with a sector \
+is used is drawn enlarged too where it is a quarter of the disc at most, and of a large rewritable disc what stands around the \
+partition. Rows with an unreadable sector have a bar, those with a sector \
 that may be a newer VAT an arrow. Where the disc is turned down it is drawn from its marks alone. PICTURE ends in .svg or in .ppm, which \
 has the fields of the whole disc alone.
 ",
