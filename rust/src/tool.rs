@@ -133,6 +133,11 @@ impl Failure {
         }
     }
 
+    /// Whether it is about an image: others can still be told of.
+    fn is_of_image(&self) -> bool {
+        matches!(self, Failure::File(_) | Failure::NoVolume(_) | Failure::LostVolume(_) | Failure::Refused(..))
+    }
+
     /// In a line.
     fn words(&self) -> String {
         match self {

@@ -81,7 +81,7 @@ impl Shelf {
             let body = Body::new(if is_one { 2 } else { 3 });
             let part = match load(args, path) {
                 Ok(image) => Part::new(path, &image, body)?,
-                Err(failure @ (Failure::File(_) | Failure::NoVolume(_) | Failure::Refused(..))) => {
+                Err(failure) if failure.is_of_image() => {
                     progress.clear();
                     status = status.max(failure.tell(out));
                     Part::of_none(args, path, body)?

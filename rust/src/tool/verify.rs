@@ -156,7 +156,7 @@ pub fn counts(standings: &[Standing]) -> String {
 pub fn verdict_of(args: &Args, path: &Path) -> Result<Verdict, Failure> {
     let verdict = load(args, path).and_then(|image| verdict(&image, args.has("--history")));
     let failure = match verdict {
-        Err(failure @ (Failure::File(_) | Failure::NoVolume(_) | Failure::LostVolume(_) | Failure::Refused(..))) => failure,
+        Err(failure) if failure.is_of_image() => failure,
         other => return other,
     };
     let standing = match failure {
