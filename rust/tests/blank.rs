@@ -90,9 +90,11 @@ fn what_a_write_once_disc_is_told_as() {
         &verified,
         "d.img DAMAGED: 1 block cannot be read: block 2 (sector 293, unreadable); 1 block was never recorded: block 1 (sector 291, blank)",
     );
-    let exported = folder.does(&["export", "d.img", "out", "--marks", "m"]);
+    let (status, exported, _) = folder.run(&["export", "d.img", "out", "--marks", "m"]);
+    assert_eq!(status, 1);
     has(&exported, "exported 1 of 4 blocks to out; skipped: 1 unused, 1 unreadable, 1 blank (never recorded); list.csv lists all");
-    let list = "block,logical,sector,state,file\n0,1,289,recorded,block-0000.bin\n1,3,291,blank,\n2,5,293,unreadable,\n3,,,unused,\n";
+    let list =
+        "block,logical,sector,state,file,offset\n0,1,289,recorded,block-0000.bin,0\n1,3,291,blank,,\n2,5,293,unreadable,,\n3,,,unused,,\n";
     assert_eq!(String::from_utf8_lossy(&folder.bytes("out/list.csv")), list);
     let page = folder.does(&["report", "d.img", "--marks", "m"]);
     has(&page, "<tr class=\"lost\"><td>block 1</td><td>sector 291</td><td>\u{25b3} blank (never recorded)</td></tr>");
@@ -108,12 +110,12 @@ fn a_blank_block_alone() {
     let (_, verified, _) = folder.run(&["verify", "d.img", "--marks", "m"]);
     has(&verified, "d.img DAMAGED: 1 block was never recorded: block 1 (sector 291, blank)");
     let map = folder.does(&["map", "d.img", "d.svg", "--marks", "m"]);
-    let exported = folder.does(&["export", "d.img", "out", "--marks", "m"]);
+    let (_, exported, missing) = folder.run(&["export", "d.img", "out", "--marks", "m"]);
     let list = folder.does(&["list", "d.img", "--marks", "m"]);
     let page = folder.does(&["report", "d.img", "--marks", "m"]);
     let table = page.split_once("<h2>Blocks</h2>").expect("the blocks").1;
     let (_, _, read) = folder.run(&["read", "d.img", "1", "--marks", "m"]);
-    for told in [&verified, &map, &exported, &list, table, &read] {
+    for told in [&verified, &map, &exported, &missing, &list, table, &read] {
         assert!(told.contains("blank"), "{told}");
         assert!(!told.contains("unreadable") && !told.contains("cannot be read"), "{told}");
     }
@@ -237,7 +239,8 @@ fn what_a_rewritable_disc_is_told_as() {
         "d.img DAMAGED: 1 block cannot be read: block 8 (sector 296, unreadable); 3 blocks were never recorded: blocks 3 to 4 (sectors \
          291 to 292, blank), block 63 (sector 351, blank)",
     );
-    let exported = folder.does(&["export", "d.img", "out"]);
+    let (status, exported, _) = folder.run(&["export", "d.img", "out"]);
+    assert_eq!(status, 1);
     has(&exported, "exported 60 of 64 blocks to out; skipped: 1 unreadable, 3 blank (never recorded); list.csv lists all");
     let row = "<tr class=\"lost\"><td>blocks 3 to 4</td><td>sectors 291 to 292</td><td>\u{25b3} blank (never recorded)</td></tr>";
     has(&folder.does(&["report", "d.img"]), row);

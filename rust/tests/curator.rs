@@ -151,7 +151,8 @@ fn verify_goes_through_a_shelf() {
 fn export_of_any_commit() {
     let folder = with_commits("export");
     has(&folder.does(&["export", "d.img", "now"]), "exported 2 of 3 blocks to now; skipped: 1 unused; list.csv lists all");
-    let list = "block,logical,sector,state,file\n0,6,294,recorded,block-0000.bin\n1,,,unused,\n2,8,296,recorded,block-0002.bin\n";
+    let list =
+        "block,logical,sector,state,file,offset\n0,6,294,recorded,block-0000.bin,0\n1,,,unused,,\n2,8,296,recorded,block-0002.bin,0\n";
     assert_eq!(String::from_utf8_lossy(&folder.bytes("now/list.csv")), list);
     assert!(folder.bytes("now/block-0000.bin").starts_with(b"c\0"));
     assert_eq!(std::fs::read_dir(folder.path("now")).expect("a folder").count(), 3);
@@ -162,16 +163,17 @@ fn export_of_any_commit() {
     assert!(folder.usage(&["export", "d.img", "now"]).starts_with("now: the folder is not empty"));
     std::fs::create_dir(folder.path("empty")).expect("a folder");
     folder.does(&["export", "d.img", "empty", "--at", "0"]);
-    assert_eq!(folder.bytes("empty/list.csv"), b"block,logical,sector,state,file\n");
+    assert_eq!(folder.bytes("empty/list.csv"), b"block,logical,sector,state,file,offset\n");
     assert!(folder
         .usage(&["export", "d.img", "other", "--at", "2"])
         .starts_with("no commit has its VAT ICB at block 2: the disc has 6 commits"));
     assert!(!folder.path("other").exists());
     // unreadable blocks are listed and skipped
     folder.write("m", b"tuormik marks\nrecorded 0 299\nunreadable 296 1\n");
-    let out = folder.does(&["export", "d.img", "damaged", "--marks", "m"]);
+    let (status, out, _) = folder.run(&["export", "d.img", "damaged", "--marks", "m"]);
+    assert_eq!(status, 1);
     has(&out, "exported 1 of 3 blocks to damaged; skipped: 1 unused, 1 unreadable; list.csv lists all");
-    assert!(String::from_utf8_lossy(&folder.bytes("damaged/list.csv")).ends_with("\n2,8,296,unreadable,\n"));
+    assert!(String::from_utf8_lossy(&folder.bytes("damaged/list.csv")).ends_with("\n2,8,296,unreadable,,\n"));
 }
 
 #[test]
@@ -185,8 +187,8 @@ fn export_of_a_rewritable_disc() {
     assert!(folder.bytes("out/block-0040.bin").starts_with(b"text\0"));
     let list = folder.bytes("out/list.csv");
     let list = String::from_utf8_lossy(&list);
-    has(&list, "31,31,319,recorded,block-0031.bin");
-    has(&list, "40,40,104,recorded,block-0040.bin");
+    has(&list, "31,31,319,recorded,block-0031.bin,0");
+    has(&list, "40,40,104,recorded,block-0040.bin,0");
 }
 
 #[test]

@@ -165,8 +165,10 @@ fn an_export_skips_blocks_of_spares() {
     let told = "exported 64 of 128 blocks to out; skipped: 64 of spares; list.csv lists all\n";
     assert_eq!(folder.does(&["export", "d.img", "out"]), told);
     let list = String::from_utf8(folder.bytes("out/list.csv")).expect("text");
-    assert_eq!(list.lines().filter(|line| line.ends_with(",of a spare,")).count(), 64);
-    for line in ["5,5,325,recorded,block-0005.bin", "32,32,320,of a spare,", "63,63,351,of a spare,", "64,64,352,recorded,block-0064.bin"] {
+    assert_eq!(list.lines().filter(|line| line.ends_with(",of a spare,,")).count(), 64);
+    for line in
+        ["5,5,325,recorded,block-0005.bin,0", "32,32,320,of a spare,,", "63,63,351,of a spare,,", "64,64,352,recorded,block-0064.bin,0"]
+    {
         has(&list, line);
     }
     assert!(folder.bytes("out/block-0005.bin").starts_with(b"a block\0"));

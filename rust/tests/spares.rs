@@ -72,7 +72,7 @@ fn a_packet_is_spared_twice() {
     assert!(page.contains(">defective spare: 32<span") && page.contains("<td>1 used, 1 defective, 1 free</td>"), "{page}");
     has(&folder.does(&["verify", "d.img"]), "d.img clean: rewritable, 64 blocks, 1 of 3 spares used, 1 defective");
     folder.does(&["export", "d.img", "out"]);
-    has(&String::from_utf8_lossy(&folder.bytes("out/list.csv")), "40,40,136,recorded,block-0040.bin");
+    has(&String::from_utf8_lossy(&folder.bytes("out/list.csv")), "40,40,136,recorded,block-0040.bin,0");
 
     // once more, with other bytes, and then no spare is left, for any packet
     let again = "spared the packet of block 32: it is now at sector 160, and its old spare, at sector 128, is defective";

@@ -97,6 +97,10 @@ impl Counts {
         self.recorded + self.unreadable + self.blank
     }
 
+    pub fn all(self) -> usize {
+        self.used() + self.unused + self.of_spare
+    }
+
     /// Those that have a sector of their own which is not recorded, in words; empty where there are none.
     pub fn not_recorded(self) -> String {
         parts(&[(self.unreadable, "unreadable"), (self.blank, "blank (never recorded)")])

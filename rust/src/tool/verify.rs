@@ -196,7 +196,7 @@ pub fn verdict(image: &Image, with_history: bool) -> Result<Verdict, Failure> {
 }
 
 /// The blocks that cannot be read, or were never recorded.
-fn faults_of(runs: &[Run]) -> impl Iterator<Item = String> {
+pub fn faults_of(runs: &[Run]) -> impl Iterator<Item = String> {
     let unreadable = state_words(runs, State::Unreadable, ["cannot be read", "cannot be read"]);
     let blank = state_words(runs, State::Blank, ["was never recorded", "were never recorded"]);
     unreadable.into_iter().chain(blank)
