@@ -68,7 +68,7 @@ fn info_tells_what_was_passed_over() {
     folder.write("d.img", &image);
     std::fs::remove_file(folder.path("d.img.marks")).expect("a marks file");
     let info = folder.does(&["info", "d.img"]);
-    has(&info, "which are 3 recorded sectors and sector 302 with a File Entry of file type 0 that breaks a rule for a VAT ICB");
+    has(&info, "which are 3 recorded sectors and sector 302 with a File Entry of file type 0 whose tag's checksum is 97 and should be 98");
     // so is one of a later version of UDF, and no commit goes over it
     image[SECTOR * 302..][..2].copy_from_slice(&266u16.to_le_bytes());
     image[SECTOR * 302 + 27] = 248;

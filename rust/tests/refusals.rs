@@ -396,7 +396,7 @@ fn what_a_write_once_disc_has_instead_of_a_vat() {
     refuse(&folder, 8, &[(&info, sentence)]);
     patch(&folder, "d.img", 288, 27, &[0]);
     patch(&folder, "d.img", 288, 8, &[1, 2]);
-    let sentence = "no VAT of CD UDF was found: sector 288 has a File Entry of file type 0 that breaks a rule for a VAT ICB";
+    let sentence = "no VAT of CD UDF was found: sector 288 has a File Entry of file type 0 whose tag's checksum is 21 and should be 207";
     refuse(&folder, 8, &[(&info, sentence)]);
     patch(&folder, "d.img", 288, 0, &[7; 40]);
     let sentence =

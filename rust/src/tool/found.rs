@@ -1,24 +1,10 @@
 //! What an image has in the place of what document 01 asks for.
 
+use super::fields::{number_at, sector, Identifier};
+use super::rules;
 use super::words::{are, counted, from_to, grouped, joined};
 use tuormik::image::mark_name;
-use tuormik::{DiscRef, Held, Maps, BLANK, DEFECTIVE, MOST_ENTRIES, PACKET, RECORDED, SECTOR, UNREADABLE};
-
-/// A number of so many bytes, the lowest first.
-fn number_at(bytes: &[u8], at: usize, count: usize) -> u64 {
-    bytes.get(at..at + count).map_or(0, |part| part.iter().rev().fold(0, |n, &b| n << 8 | u64::from(b)))
-}
-
-fn sector(disc: DiscRef<'_>, at: usize) -> &[u8] {
-    disc.bytes.get(SECTOR * at..SECTOR * (at + 1)).unwrap_or_default()
-}
-
-/// The identifier of a regid, without the zeros that fill it up.
-fn identifier(regid: &[u8]) -> String {
-    let name = regid.get(1..24).unwrap_or_default();
-    let end = name.iter().rposition(|&b| b != 0).map_or(0, |last| last + 1);
-    name[..end].iter().map(|&b| if (32..127).contains(&b) { b as char } else { '?' }).collect()
-}
+use tuormik::{DiscRef, Held, Maps, BLANK, DEFECTIVE, MOST_ENTRIES, PACKET, RECORDED, UNREADABLE};
 
 const MAP_REGID_AT: usize = 4;
 const PACKET_LENGTH_AT: usize = 40;
@@ -32,17 +18,18 @@ fn map_words(map: &[u8]) -> String {
     match (map[0], map.len()) {
         (1, 6) => "an ordinary partition (type 1)".to_string(),
         (2, 64) => {
-            let name = identifier(&map[MAP_REGID_AT..]);
+            let name = Identifier::of(&map[MAP_REGID_AT..]);
             let (packet, tables) = (number_at(map, PACKET_LENGTH_AT, 2), map[TABLE_COUNT_AT].into());
             let bytes = number_at(map, TABLE_BYTES_AT, 4);
-            match name.as_str() {
-                SPARABLE => format!(
-                    "{name} with packets of {} and {} of {}",
+            match name.text() {
+                Some(SPARABLE) => format!(
+                    "{SPARABLE} with packets of {} and {} of {}",
                     counted(packet as usize, "sector"),
                     counted(tables, "table"),
                     counted(bytes as usize, "byte")
                 ),
-                _ => format!("{name} (type 2)"),
+                Some(text) => format!("{text} (type 2)"),
+                None => format!("a map of type 2 with {}", name.words()),
             }
         }
         (kind, length) => format!("a map of type {kind} and {}", counted(length, "byte")),
@@ -197,13 +184,13 @@ pub fn older_identifier() -> String {
 }
 
 /// The identifier of the sparing table in a sector.
-fn table_name(disc: DiscRef, at: u32) -> String {
-    identifier(sector(disc, at as usize).get(REGID_AT..).unwrap_or_default())
+fn table_name(disc: DiscRef<'_>, at: u32) -> Identifier<'_> {
+    Identifier::of(sector(disc, at as usize).get(REGID_AT..).unwrap_or_default())
 }
 
 /// Whether a copy of the sparing table has the newer identifier.
 pub fn has_newer_identifier(disc: DiscRef, at: u32) -> bool {
-    table_name(disc, at) == NEWER_NAME
+    table_name(disc, at).text() == Some(NEWER_NAME)
 }
 
 /// Line 8 of a rewritable disc: what stands where the tables should be.
@@ -241,20 +228,20 @@ fn copy_words(disc: DiscRef, at: u32, table_bytes: u32) -> String {
     let entries = entries_of(bytes);
     let needed = ENTRIES_AT + ENTRY * entries.len();
     let has_defective = || entries.iter().any(|&[original, _]| original == u64::from(DEFECTIVE));
-    match table_name(disc, at).as_str() {
-        NEWER_NAME | OLDER_NAME if needed > table_bytes as usize => {
+    let name = table_name(disc, at);
+    match name.text() {
+        Some(NEWER_NAME | OLDER_NAME) if needed > table_bytes as usize => {
             format!("has a table of {}, and the map list gives it {}", counted(needed, "byte"), grouped(table_bytes))
         }
-        OLDER_NAME if has_defective() => format!(
+        Some(OLDER_NAME) if has_defective() => format!(
             "has a table with a defective spare (0xfffffff0) and the older identifier, {OLDER_NAME}, where only the newer one, \
              {NEWER_NAME}, has that mark"
         ),
-        NEWER_NAME | OLDER_NAME => match spared_spare(disc, &entries) {
+        Some(NEWER_NAME | OLDER_NAME) => match spared_spare(disc, &entries) {
             Some(original) => format!("has a table that spares the packet of block {}, which is a spare itself", grouped(original)),
             None => "has a table that breaks the rule for a copy".to_string(),
         },
-        "" => "has no identifier".to_string(),
-        other => format!("has the identifier {other}"),
+        _ => format!("has {}", name.words()),
     }
 }
 
@@ -288,20 +275,30 @@ fn version_of(bytes: &[u8]) -> Option<Version> {
 }
 
 /// What a sector has that may be, or was meant to be, the ICB of a VAT.
-fn icb_words(bytes: &[u8]) -> Option<&'static str> {
-    Some(match (version_of(bytes)?, number_at(bytes, 0, 2), bytes.get(FILE_TYPE_AT).copied()?) {
-        (Version::Own, ..) => "a File Entry of file type 0 that breaks a rule for a VAT ICB",
+fn icb_words(disc: DiscRef, at: usize) -> Option<String> {
+    let bytes = sector(disc, at);
+    let words = match (version_of(bytes)?, number_at(bytes, 0, 2), bytes.get(FILE_TYPE_AT).copied()?) {
+        (Version::Own, ..) => {
+            let rule = rules::broken(disc, block_of(disc, at)).unwrap_or_else(|| "that is a VAT ICB".to_string());
+            return Some(format!("a File Entry of file type 0 {rule}"));
+        }
         (_, EXTENDED_FILE_ENTRY, VAT_FILE_TYPE_200) => "a VAT of UDF 2.01: an Extended File Entry (tag 266) of file type 248",
         (_, FILE_ENTRY, _) => "a VAT of UDF 2.00 or later: a File Entry of file type 248",
         _ => "an Extended File Entry (tag 266) of file type 0, as UDF 2.00 and later have them",
-    })
+    };
+    Some(words.to_string())
+}
+
+/// The logical block of a sector of the partition.
+fn block_of(disc: DiscRef, at: usize) -> u32 {
+    at.saturating_sub(disc.start as usize) as u32
 }
 
 /// What is to be said of a sector that may be the ICB of a VAT.
 pub fn possible_words(disc: DiscRef, at: usize) -> String {
     match disc.marks.get(at) {
         Some(&UNREADABLE) => "cannot be read".to_string(),
-        _ => format!("has {}", icb_words(sector(disc, at)).unwrap_or("no File Entry")),
+        _ => format!("has {}", icb_words(disc, at).unwrap_or_else(|| "no File Entry".to_string())),
     }
 }
 
@@ -319,7 +316,7 @@ pub fn no_vat(disc: DiscRef) -> String {
     let Some((last, _)) = written(disc).next() else {
         return format!("the partition, {partition}, is blank: it has no VAT yet");
     };
-    let found = written(disc).filter(|(_, mark)| *mark == RECORDED).find_map(|(at, _)| Some((at, icb_words(sector(disc, at))?)));
+    let found = written(disc).filter(|(_, mark)| *mark == RECORDED).find_map(|(at, _)| Some((at, icb_words(disc, at)?)));
     match found {
         Some((at, words)) => format!("no VAT of CD UDF was found: sector {} has {words}", grouped(at)),
         None => {
@@ -357,10 +354,8 @@ pub fn is_blank(disc: DiscRef) -> bool {
 
 /// Line 9: the newest VAT, which has too many entries.
 pub fn too_many_entries(disc: DiscRef) -> String {
-    let icb = written(disc).filter(|(_, mark)| *mark == RECORDED).find(|(at, _)| {
-        let bytes = sector(disc, *at);
-        (number_at(bytes, 0, 2), bytes.get(FILE_TYPE_AT)) == (FILE_ENTRY, Some(&0))
-    });
+    let is_icb = |at: usize| rules::broken(disc, block_of(disc, at)).is_none();
+    let icb = written(disc).find(|&(at, mark)| mark == RECORDED && is_icb(at));
     let most = grouped(MOST_ENTRIES);
     match icb {
         Some((at, _)) => {
@@ -380,16 +375,18 @@ pub fn passed_over(disc: DiscRef, from: usize, to: usize) -> String {
     let mut named = Vec::new();
     let mut counts = [0; 3];
     for (at, &mark) in (from..to).zip(marks) {
-        match icb_words(sector(disc, at)).filter(|_| mark == RECORDED) {
-            Some(words) => named.push(format!("sector {} with {words}", grouped(at))),
-            None => counts[usize::from(mark.min(UNREADABLE))] += 1,
+        if mark == RECORDED && version_of(sector(disc, at)).is_some() {
+            named.push(at);
+        } else {
+            counts[usize::from(mark.min(UNREADABLE))] += 1;
         }
     }
     let [blank, recorded, unreadable] = counts;
     let kinds = [(recorded, "recorded sector"), (unreadable, "unreadable sector"), (blank, "blank sector")];
     let mut words: Vec<String> = kinds.iter().filter(|(n, _)| *n > 0).map(|(n, what)| counted(*n, what)).collect();
     let more = named.len().saturating_sub(MOST_NAMED);
-    words.extend(named.into_iter().rev().take(MOST_NAMED));
+    let named_words = |&at: &usize| Some(format!("sector {} with {}", grouped(at), icb_words(disc, at)?));
+    words.extend(named.iter().rev().take(MOST_NAMED).filter_map(named_words));
     words.extend((more > 0).then(|| format!("{} more of these", grouped(more))));
     joined(&words)
 }
