@@ -6,9 +6,8 @@ use super::entry::Entry;
 use super::images::load_next;
 use super::output::Outputs;
 use super::refused::{self, Asked};
-use super::room::{commit_sectors, new_blocks};
+use super::room::{commit_sectors, Room};
 use super::states::View;
-use super::summary::room_words;
 use super::words::{counted, grouped, joined, number};
 use super::{Done, Failure};
 use tuormik::{Error, Forecast, Held, Record, Refusal, COMMIT, MOST_ENTRIES};
@@ -145,8 +144,7 @@ pub fn takes_words(open: View, calls: &[Asked], next: u32) -> String {
 /// And what they leave.
 fn leaves_words(open: View, calls: &[Asked], next: u32, entries: u32) -> String {
     let left = open.disc.length.saturating_sub(next) as usize;
-    let fits = new_blocks(entries as usize, next as usize, open.disc.length as usize);
-    let room = room_words(entries as usize, fits);
+    let room = Room::new(entries as usize, next as usize, open.disc.length as usize).words();
     let mut text = format!("then: N {}, NWA {}, {} left, {room}\n", grouped(entries), grouped(next), counted(left, "sector"));
     if matches!(calls.last(), Some(Asked::SaveVirtual(_))) {
         let more = counted(commit_sectors(entries as usize), "sector");

@@ -2,7 +2,7 @@
 
 use super::json::Json;
 use super::passed::{Passed, Possible};
-use super::room::new_blocks;
+use super::room::{Bound, Room};
 use super::states::{Counts, SpareCounts, View};
 use super::words::{counted, grouped, joined, parts};
 use super::zeros::Zeros;
@@ -39,7 +39,7 @@ pub struct Summary {
 
 /// What an opening gave.
 pub enum Opened {
-    WriteOnce { blocks: Counts, entries: u32, next: u32, last: u32, fits: usize, per_mille: u32, passed: Passed },
+    WriteOnce { blocks: Counts, entries: u32, next: u32, last: u32, room: Room, per_mille: u32, passed: Passed },
     Rewritable { blocks: Counts, spares: SpareCounts, sequence: u32, tables: Tables },
 }
 
@@ -206,7 +206,7 @@ impl Opened {
                     entries,
                     next,
                     last,
-                    fits: new_blocks(entries as usize, next as usize, view.disc.length as usize),
+                    room: Room::new(entries as usize, next as usize, view.disc.length as usize),
                     per_mille,
                     passed: Passed::new(view, file_sectors),
                 }
@@ -220,9 +220,9 @@ impl Opened {
     /// In a curator's words.
     fn words(&self) -> Vec<(&'static str, String)> {
         match self {
-            Opened::WriteOnce { blocks, entries, fits, per_mille, .. } => vec![
+            Opened::WriteOnce { blocks, room, per_mille, .. } => vec![
                 ("blocks", blocks_words(*blocks)),
-                ("room", room_words(*entries as usize, *fits)),
+                ("room", room.words()),
                 ("fullness", format!("{}.{} %", per_mille / 10, per_mille % 10)),
             ],
             Opened::Rewritable { blocks, spares, tables, .. } => {
@@ -259,11 +259,12 @@ impl Opened {
 
     fn json(&self) -> Vec<(&'static str, Json)> {
         match self {
-            Opened::WriteOnce { blocks, entries, next, last, fits, per_mille, passed } => {
+            Opened::WriteOnce { blocks, entries, next, last, room, per_mille, passed } => {
                 let mut parts = vec![("n", Json::number(*entries)), ("used", Json::number(blocks.used()))];
                 parts.extend(blocks_json(*blocks));
                 parts.extend([
-                    ("new_blocks_that_fit", Json::number(*fits)),
+                    ("new_blocks_that_fit", Json::number(room.fits)),
+                    ("room_bounded_by", bound_json(room.bound)),
                     ("fullness_per_mille", Json::number(*per_mille)),
                     ("nwa", Json::number(*next)),
                     ("last_icb", Json::number(*last)),
@@ -345,6 +346,14 @@ fn logical_words(Counts { recorded, unreadable, blank, of_spare, .. }: Counts) -
     }
 }
 
+/// What bounds the room of a write-once disc.
+fn bound_json(bound: Bound) -> Json {
+    Json::text(match bound {
+        Bound::Sectors => "sectors",
+        Bound::Blocks => "blocks",
+    })
+}
+
 /// The blocks that have a sector of their own, by their states.
 fn blocks_json(blocks: Counts) -> [(&'static str, Json); 3] {
     [
@@ -352,14 +361,4 @@ fn blocks_json(blocks: Counts) -> [(&'static str, Json); 3] {
         ("blocks_unreadable", Json::number(blocks.unreadable)),
         ("blocks_blank", Json::number(blocks.blank)),
     ]
-}
-
-/// How many new blocks fit.
-pub fn room_words(entries: usize, fits: usize) -> String {
-    match fits {
-        0 if entries == tuormik::MOST_ENTRIES => format!("no new block: a disc holds at most {}", grouped(entries)),
-        0 => "no new block fits".to_string(),
-        1 => "1 new block fits".to_string(),
-        n => format!("{} new blocks fit, committed together", grouped(n)),
-    }
 }
