@@ -140,7 +140,9 @@ fn verify_goes_through_a_shelf() {
         "r.img DAMAGED: the copies of the sparing table in sectors 32 and 64 are not current; 1 block cannot be read: block 8 (sector 296, \
          unreadable)",
     );
-    has(&out, "e.img DAMAGED: 1 sector passed over above the last commit: 1 recorded sector");
+    let passed =
+        "sector 299 was passed over above the last VAT ICB: 1 recorded sector; blocks saved and not committed, or a write that was cut";
+    has(&out, &format!("e.img DAMAGED: {passed}"));
     has(&out, "f.img CANNOT BE OPENED: the partition, sectors 288 to 399, is blank: it has no VAT yet (01, line 8)");
     has(&out, "m.img DAMAGED: 1 block cannot be read: block 2 (sector 296, unreadable)");
     assert!(out.lines().any(|line| line.starts_with("g.img  CANNOT BE OPENED: there is no such file")), "{out}");

@@ -3,9 +3,8 @@
 
 mod folder;
 
+use folder::written::{examples, printed, Example};
 use folder::{is_installed, Folder};
-use std::path::Path;
-use std::process::Command;
 
 const PAGE: &str = include_str!("../../docs/IMAGING.md");
 const SECTOR: usize = 2048;
@@ -14,37 +13,6 @@ const SECTOR: usize = 2048;
 const DRIVE: &str = "drive=/dev/sr0";
 const STAND_IN: &str = "drive=disc; ddrescue() { command ddrescue -q -H bad \"$@\"; }";
 const BAD: &str = "0 + 1\n0 1433600 +\n1433600 8192 -\n1441792 6946816 +\n";
-
-/// Printed between the outputs of commands.
-const BETWEEN: &str = "-- the next command --";
-
-/// A command of the page, and the lines that stand below it.
-struct Example {
-    command: &'static str,
-    shown: Vec<&'static str>,
-}
-
-fn examples() -> Vec<Example> {
-    let mut examples: Vec<Example> = Vec::new();
-    for line in PAGE.lines().filter_map(|line| line.strip_prefix("    ")) {
-        match (line.strip_prefix("$ "), examples.last_mut()) {
-            (Some(command), _) => examples.push(Example { command, shown: Vec::new() }),
-            (None, Some(example)) => example.shown.push(line),
-            (None, None) => panic!("{line} stands below no command"),
-        }
-    }
-    examples
-}
-
-/// Runs commands in one shell, and gives what each prints.
-fn printed(folder: &Folder, commands: &[&str]) -> Vec<String> {
-    let tool = Path::new(env!("CARGO_BIN_EXE_tuormik")).parent().expect("a folder");
-    let path = format!("{}:{}", tool.display(), std::env::var("PATH").unwrap_or_default());
-    let script = commands.join(&format!("\necho '{BETWEEN}'\n"));
-    let output = Command::new("sh").args(["-c", &format!("exec 2>&1\n{script}")]).env("PATH", path).current_dir(&folder.0).output();
-    let text = String::from_utf8(output.expect("a shell").stdout).expect("text");
-    text.split(&format!("{BETWEEN}\n")).map(str::to_string).collect()
-}
 
 #[test]
 fn the_page_is_as_it_is_written() {
@@ -57,11 +25,10 @@ fn the_page_is_as_it_is_written() {
     folder.write("blocks", &[b'a'; 600 * SECTOR]);
     folder.does(&["save", "disc", "new", "blocks"]);
     folder.write("bad", BAD.as_bytes());
-    let examples = examples();
+    let examples = examples(PAGE);
     let commands: Vec<&str> = examples.iter().map(|example| if example.command == DRIVE { STAND_IN } else { example.command }).collect();
     assert_eq!(commands.iter().filter(|&&command| command == STAND_IN).count(), 1);
     let printed = printed(&folder, &commands);
-    assert_eq!(printed.len(), examples.len(), "{printed:?}");
     for (Example { command, shown }, printed) in examples.iter().zip(&printed) {
         let is_told = !shown.is_empty() || !command.starts_with("tuormik");
         assert!(!is_told || printed.lines().eq(shown.iter().copied()), "{command}\n{printed}");

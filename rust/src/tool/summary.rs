@@ -302,10 +302,7 @@ impl Opened {
     /// What stands against calling a disc clean, beside blocks that are unreadable or blank.
     pub fn faults(&self) -> Vec<String> {
         match self {
-            Opened::WriteOnce { passed, .. } if passed.count == 0 => Vec::new(),
-            Opened::WriteOnce { passed, .. } => {
-                vec![format!("{} passed over above the last commit: {}", counted(passed.count as usize, "sector"), passed.words)]
-            }
+            Opened::WriteOnce { passed, .. } => passed.warning().into_iter().collect(),
             Opened::Rewritable { tables, .. } => tables.stale_words().into_iter().collect(),
         }
     }

@@ -2,6 +2,8 @@
 
 #![allow(dead_code, reason = "each file of tests uses its part")]
 
+pub mod written;
+
 use std::path::PathBuf;
 use std::process::{Child, Command, Output, Stdio};
 
