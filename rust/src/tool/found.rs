@@ -1,7 +1,7 @@
 //! What an image has in the place of what document 01 asks for.
 
 use super::fields::{number_at, sector, Identifier};
-use super::rules;
+use super::rules::{self, FILE_ENTRY, FILE_TYPE_AT, INFORMATION_LENGTH_AT, TAIL};
 use super::words::{are, counted, from_to, grouped, joined};
 use tuormik::image::mark_name;
 use tuormik::{DiscRef, Held, Maps, BLANK, DEFECTIVE, MOST_ENTRIES, PACKET, RECORDED, UNREADABLE};
@@ -253,10 +253,7 @@ pub fn copies_differ(disc: DiscRef, tables: &[u32]) -> String {
     format!("the copies of the sparing table in sectors {} have sequence {} and differ in their entries", joined(&places), grouped(highest))
 }
 
-const FILE_ENTRY: u64 = 261;
 const EXTENDED_FILE_ENTRY: u64 = 266;
-const FILE_TYPE_AT: usize = 27;
-const INFORMATION_LENGTH_AT: usize = 56;
 const VAT_FILE_TYPE_200: u8 = 248;
 
 /// The version of UDF whose VAT ICB a sector may be, or was meant to be.
@@ -359,7 +356,7 @@ pub fn too_many_entries(disc: DiscRef) -> String {
     let most = grouped(MOST_ENTRIES);
     match icb {
         Some((at, _)) => {
-            let entries = number_at(sector(disc, at), INFORMATION_LENGTH_AT, 8).saturating_sub(36) / 4;
+            let entries = number_at(sector(disc, at), INFORMATION_LENGTH_AT, 8).saturating_sub(TAIL as u64) / 4;
             format!("the VAT in sector {} has {} entries, and at most {most} are taken", grouped(at), grouped(entries))
         }
         None => format!("the VAT has more than {most} entries"),

@@ -1,17 +1,13 @@
 //! How much room a write-once disc has.
 
+use super::rules::{ATTRIBUTES_AT, TAIL};
 use super::words::grouped;
 use tuormik::{MOST_ENTRIES, SECTOR};
 
-/// Bytes of a VAT file beside its entries.
-const REGID_AND_PREVIOUS: usize = 36;
-/// Where the file begins in an ICB that it is embedded in.
-const EMBEDDED_AT: usize = 176;
-
 /// The sectors that a commit of so many blocks writes: d for the data of the VAT, 1 for its ICB.
 pub fn commit_sectors(entries: usize) -> usize {
-    let file = 4 * entries + REGID_AND_PREVIOUS;
-    let data = if EMBEDDED_AT + file < SECTOR { 0 } else { file.div_ceil(SECTOR) };
+    let file = 4 * entries + TAIL;
+    let data = if ATTRIBUTES_AT + file < SECTOR { 0 } else { file.div_ceil(SECTOR) };
     data + 1
 }
 

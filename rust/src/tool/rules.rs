@@ -15,13 +15,17 @@ const CRC_LENGTH_AT: usize = 10;
 const LOCATION_AT: usize = 12;
 const TAG: usize = 16;
 
+/// The identifier of a File Entry's tag.
+pub const FILE_ENTRY: u64 = 261;
+
 const STRATEGY_AT: usize = 20;
-const FILE_TYPE_AT: usize = 27;
+pub const FILE_TYPE_AT: usize = 27;
 const FORM_AT: usize = 34;
-const INFORMATION_LENGTH_AT: usize = 56;
+pub const INFORMATION_LENGTH_AT: usize = 56;
 const ATTRIBUTE_LENGTH_AT: usize = 168;
 const ALLOCATION_LENGTH_AT: usize = 172;
-const ATTRIBUTES_AT: usize = 176;
+/// Where the attributes begin, and where there are none an embedded file.
+pub const ATTRIBUTES_AT: usize = 176;
 
 const SHORT_ADS: u8 = 0;
 const EMBEDDED: u8 = 3;
@@ -32,7 +36,7 @@ const UPPER_TWO: u64 = 0xc000_0000;
 const NAME: &str = "*UDF Virtual Alloc Tbl";
 const REGID: usize = 32;
 /// The regid and the previous ICB, behind the entries.
-const TAIL: usize = REGID + 4;
+pub const TAIL: usize = REGID + 4;
 
 /// The first rule that the recorded sector of a logical block breaks, as a clause that goes on from what it is: "whose CRC is .."; none
 /// where it is a VAT ICB.
@@ -98,7 +102,7 @@ impl<'a> Icb<'a> {
         let [identifier, version, found_crc, crc_length] =
             [TAG_IDENTIFIER_AT, VERSION_AT, CRC_AT, CRC_LENGTH_AT].map(|at| self.number(at, 2));
         let location = self.number(LOCATION_AT, 4);
-        rule(identifier == 261, || format!("whose tag has identifier {} and not 261", grouped(identifier)))?;
+        rule(identifier == FILE_ENTRY, || format!("whose tag has identifier {} and not 261", grouped(identifier)))?;
         rule(version == 2, || format!("whose tag has version {} and not 2", grouped(version)))?;
         let reserved = self.bytes[RESERVED_AT];
         rule(reserved == 0, || format!("whose tag has {reserved} in its byte 5 and not 0"))?;
@@ -250,7 +254,7 @@ mod tests {
 
     const START: usize = 3;
     const SECTORS: usize = 24;
-    const FILE_AT: usize = 176;
+    const FILE_AT: usize = ATTRIBUTES_AT;
 
     /// A disc, and the logical block of what may be its VAT ICB, which is its last sector that is not blank.
     #[derive(Clone)]
