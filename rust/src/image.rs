@@ -50,18 +50,19 @@ mod journal;
 mod lock;
 mod marking;
 mod marks_file;
+mod places;
 
 use crate::descriptors::{find_volume, recognized, Volume};
 use crate::numbers::grouped;
 use crate::{marks_by_rule, read_maps, Disc, DiscRef, Maps, BLANK, MOST_SECTORS, PACKET, SECTOR};
-use files::{folder_of, if_there, with_ending, Files, Stamp, System, MOST_BYTES};
+use files::{folder_of, with_ending, Files, Stamp, System, MOST_BYTES};
 use journal::{NewMarks, Pair};
 use lock::Lock;
 use marks_file::{fingerprint, is_marks_file, marks_text, read_marks};
+use places::{is_same_file, located, need_readable, need_replaceable, settled};
 use std::fmt;
-use std::fs::{self, OpenOptions};
-use std::io::{self, ErrorKind};
-use std::os::unix::fs::{FileTypeExt, MetadataExt};
+use std::fs;
+use std::io;
 use std::path::{Path, PathBuf};
 
 pub use ddrescue::marks_from_ddrescue;
@@ -91,6 +92,18 @@ pub enum Error {
         path: PathBuf,
         /// What it is.
         what: String,
+    },
+    /// A file that is not there.
+    Missing {
+        /// The file.
+        path: PathBuf,
+    },
+    /// A file that is not replaced.
+    NotReplaced {
+        /// The file.
+        path: PathBuf,
+        /// Why it is not, and what became of it.
+        words: String,
     },
     /// A file that is there already, where a new one is to be made.
     Exists {
@@ -124,14 +137,23 @@ impl Error {
     fn wrong(path: &Path, words: impl Into<String>) -> Error {
         Error::Wrong { path: path.to_owned(), words: words.into() }
     }
+
+    fn missing(path: &Path) -> Error {
+        Error::Missing { path: path.to_owned() }
+    }
+
+    fn not_replaced(path: &Path, words: impl Into<String>) -> Error {
+        Error::NotReplaced { path: path.to_owned(), words: words.into() }
+    }
 }
 
 impl fmt::Display for Error {
     fn fmt(&self, f: &mut fmt::Formatter) -> fmt::Result {
         match self {
             Error::File { path, error } => write!(f, "{}: {error}", path.display()),
-            Error::Wrong { path, words } => write!(f, "{}: {words}", path.display()),
+            Error::Wrong { path, words } | Error::NotReplaced { path, words } => write!(f, "{}: {words}", path.display()),
             Error::NoImage { path, what } => write!(f, "{}: it is {what}", path.display()),
+            Error::Missing { path } => write!(f, "{}: there is no such file", path.display()),
             Error::Exists { path } => write!(f, "{}: it is there already", path.display()),
             Error::Held { path, by: Some(by) } => write!(f, "{}: process {by} is writing it; nothing was done here", path.display()),
             Error::Held { path, by: None } => write!(f, "{}: another process is writing it; nothing was done here", path.display()),
@@ -185,12 +207,10 @@ impl Image {
     /// Makes an image that is not a file yet, of blank sectors, and takes its lock. A file of that name, or its marks, are replaced only
     /// where `replaces` says so.
     pub fn create(path: &Path, marks_path: Option<&Path>, sectors: usize, volume: Volume, replaces: bool) -> Result<Image, Error> {
-        let image = settled(path)?;
-        let marks = marks_path.map_or_else(|| Ok(with_ending(&image, ".marks")), settled)?;
-        if image == marks {
+        let pair = located(path, marks_path)?;
+        if pair.image == pair.marks {
             return Err(Error::wrong(path, "the image cannot be its own marks file"));
         }
-        let pair = Pair { image, marks };
         need_replaceable(&pair.image)?;
         need_replaceable(&pair.marks)?;
         let lock = Lock::take(&pair.image)?;
@@ -202,7 +222,7 @@ impl Image {
             }
         }
         if there.marks.as_deref().is_some_and(|text| !is_marks_file(text)) {
-            return Err(Error::wrong(&pair.marks, "it is there, is no marks file, and stays as it is"));
+            return Err(Error::not_replaced(&pair.marks, "it is there, is no marks file, and stays as it is"));
         }
         let hold = Hold { _lock: lock, was: there.image.as_deref().map(fingerprint), stamps: stamps(&pair)? };
         let (bytes, marks) = (vec![0; SECTOR * sectors], vec![BLANK; sectors]);
@@ -292,10 +312,11 @@ impl Image {
         let recorded = self.marks.iter().rposition(|&m| m != BLANK).map_or(0, |last| last + 1);
         self.sectors = self.sectors.max(recorded);
         let Some(hold) = &self.hold else {
-            return Err(Error::wrong(&self.pair.image, "it was loaded to be read, and is not stored"));
+            return Err(Error::not_replaced(&self.pair.image, "it was loaded to be read, and is not stored"));
         };
         if stamps(&self.pair)? != hold.stamps {
-            return Err(Error::wrong(&self.pair.image, "it or its marks were changed by another program meanwhile; nothing was stored"));
+            let words = "it or its marks were changed by another program meanwhile; nothing was stored";
+            return Err(Error::not_replaced(&self.pair.image, words));
         }
         let (bytes, marks) = (self.file_bytes(), &self.marks[..self.sectors]);
         let print = fingerprint(bytes);
@@ -361,62 +382,9 @@ pub fn write_file(path: &Path, bytes: &[u8]) -> Result<(), Error> {
     })
 }
 
-/// The file that a name leads to, links followed; where there is none yet, the name in its folder.
-fn settled(path: &Path) -> Result<PathBuf, Error> {
-    let wrong = |e| Error::file(path, e);
-    if let Some(path) = if_there(fs::canonicalize(path)).map_err(wrong)? {
-        return Ok(path);
-    }
-    if fs::symlink_metadata(path).is_ok() {
-        return Err(Error::wrong(path, "it is a link to nothing"));
-    }
-    let name = path.file_name().ok_or_else(|| Error::wrong(path, "it is no name of a file"))?;
-    Ok(fs::canonicalize(folder_of(path)).map_err(wrong)?.join(name))
-}
-
-/// The files of an image that is there, or of which a store was stopped before it was, and of its marks.
-fn located(path: &Path, marks_path: Option<&Path>) -> Result<Pair, Error> {
-    let image = settled(path)?;
-    let marks = marks_path.map_or_else(|| Ok(with_ending(&image, ".marks")), settled)?;
-    Ok(Pair { image, marks })
-}
-
 fn stamps(pair: &Pair) -> Result<[Option<Stamp>; 2], Error> {
     let stamp = |path: &Path| System.stamp(path).map_err(|e| Error::file(path, e));
     Ok([stamp(&pair.image)?, stamp(&pair.marks)?])
-}
-
-fn is_same_file(a: &Path, b: &Path) -> Result<bool, Error> {
-    let found = |path: &Path| if_there(fs::metadata(path)).map_err(|e| Error::file(path, e));
-    Ok(match (found(a)?, found(b)?) {
-        (Some(a), Some(b)) => (a.dev(), a.ino()) == (b.dev(), b.ino()),
-        _ => false,
-    })
-}
-
-/// What is there may be replaced: a regular file that can be written to, or nothing.
-fn need_replaceable(path: &Path) -> Result<(), Error> {
-    let Some(there) = if_there(fs::metadata(path)).map_err(|e| Error::file(path, e))? else {
-        return Ok(());
-    };
-    if !there.is_file() {
-        let kind = there.file_type();
-        let what = match () {
-            () if kind.is_dir() => "a folder",
-            () if kind.is_block_device() || kind.is_char_device() => "a device",
-            () => "no regular file",
-        };
-        return Err(Error::wrong(path, format!("it is {what}, and nothing is written to it")));
-    }
-    let is_open_to_writing = || match OpenOptions::new().write(true).open(path) {
-        Ok(_) => Ok(true),
-        Err(e) if [ErrorKind::PermissionDenied, ErrorKind::ReadOnlyFilesystem].contains(&e.kind()) => Ok(false),
-        Err(e) => Err(Error::file(path, e)),
-    };
-    if there.permissions().readonly() || !is_open_to_writing()? {
-        return Err(Error::wrong(path, "it is read-only, and stays as it is"));
-    }
-    Ok(())
 }
 
 /// The volume that the descriptors of an image tell.
@@ -426,12 +394,14 @@ fn described(path: &Path, bytes: &[u8]) -> Result<Volume, Error> {
 
 /// Reads image and marks, and finds the volume.
 fn read_image<E: From<Error>>(pair: Pair, must_have_marks: bool, find: impl FnOnce(&[u8]) -> Result<Volume, E>) -> Result<Image, E> {
+    need_readable(&pair.image)?;
+    need_readable(&pair.marks)?;
     let contents = journal::read_pair(&System, &pair)?;
     let wrong = |words: String| Error::wrong(&pair.image, words);
-    let mut bytes = contents.image.ok_or_else(|| wrong("there is no such file".into()))?;
+    let mut bytes = contents.image.ok_or_else(|| Error::missing(&pair.image))?;
     need_image(&pair.image, &bytes)?;
     if must_have_marks && contents.marks.is_none() {
-        return Err(Error::wrong(&pair.marks, "there is no such file").into());
+        return Err(Error::missing(&pair.marks).into());
     }
     let (volume, sectors) = (find(&bytes)?, bytes.len() / SECTOR);
     need_whole(&volume, sectors).map_err(wrong)?;

@@ -102,12 +102,12 @@ pub enum Failure {
     Usage(String),
     /// A file that cannot be read or written, or is not what it should be.
     File(String),
+    /// The same, in words that say themselves what became of the image.
+    FileTold(String),
     /// An image whose descriptors tell no volume.
     NoVolume(String),
     /// An image that should have a volume, and whose descriptors are not all there.
     LostVolume(String),
-    /// A disc that is stored, with files that are not all in their places yet.
-    Unfinished(String),
     /// All is said, and this is the status.
     Told(u8),
 }
@@ -129,7 +129,7 @@ impl Failure {
     fn status(&self) -> u8 {
         match self {
             Failure::Refused(..) => status::NO,
-            Failure::Usage(_) | Failure::File(_) | Failure::NoVolume(_) | Failure::LostVolume(_) | Failure::Unfinished(_) => status::WRONG,
+            Failure::Usage(_) | Failure::File(_) | Failure::FileTold(_) | Failure::NoVolume(_) | Failure::LostVolume(_) => status::WRONG,
             Failure::Cut(_) => status::CUT,
             Failure::Told(status) => *status,
         }
@@ -137,7 +137,7 @@ impl Failure {
 
     /// Whether it is about an image: others can still be told of.
     fn is_of_image(&self) -> bool {
-        matches!(self, Failure::File(_) | Failure::NoVolume(_) | Failure::LostVolume(_) | Failure::Refused(..))
+        matches!(self, Failure::File(_) | Failure::FileTold(_) | Failure::NoVolume(_) | Failure::LostVolume(_) | Failure::Refused(..))
     }
 
     /// In a line.
@@ -146,9 +146,9 @@ impl Failure {
             Failure::Refused(words, why) => format!("{words} ({})", why.place()),
             Failure::Usage(words)
             | Failure::File(words)
+            | Failure::FileTold(words)
             | Failure::NoVolume(words)
             | Failure::LostVolume(words)
-            | Failure::Unfinished(words)
             | Failure::Cut(words) => words.clone(),
             Failure::Told(_) => String::new(),
         }
@@ -178,11 +178,13 @@ impl Failure {
 
 impl From<tuormik::image::Error> for Failure {
     fn from(error: tuormik::image::Error) -> Failure {
+        use tuormik::image::Error::*;
+        let words = error.to_string();
         match error {
-            tuormik::image::Error::Exists { .. } => Failure::File(format!("{error} (--force replaces it)")),
-            tuormik::image::Error::NoImage { .. } => Failure::NoVolume(error.to_string()),
-            tuormik::image::Error::Unfinished { .. } => Failure::Unfinished(error.to_string()),
-            _ => Failure::File(error.to_string()),
+            File { .. } | Wrong { .. } | Call(_) => Failure::File(words),
+            Exists { .. } => Failure::File(format!("{words} (--force replaces it)")),
+            NoImage { .. } => Failure::NoVolume(words),
+            Missing { .. } | NotReplaced { .. } | Held { .. } | Unfinished { .. } => Failure::FileTold(words),
         }
     }
 }

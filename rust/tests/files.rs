@@ -158,7 +158,7 @@ fn what_another_program_changed_meanwhile_stays() {
     std::thread::sleep(std::time::Duration::from_millis(20));
     let other = [image.bytes.as_slice(), &[1; 2048]].concat();
     folder.write("d.img", &other);
-    assert!(matches!(image.store(), Err(Error::Wrong { .. })));
+    assert!(matches!(image.store(), Err(Error::NotReplaced { .. })));
     assert_eq!(std::fs::read(folder.path("d.img")).expect("a file"), other);
     // and an image that was loaded to be read is not stored
     let mut image = Image::load(&folder.path("d.img"), None, find).expect("an image");
@@ -224,7 +224,7 @@ fn what_is_no_regular_file_is_not_replaced() {
     std::fs::create_dir(folder.path("folder")).expect("a folder");
     let made = Command::new("mkfifo").arg(folder.path("pipe")).status();
     let has_pipe = made.is_ok_and(|status| status.success());
-    for (name, what) in [("/dev/null", "a device"), ("folder", "a folder"), ("pipe", "no regular file")] {
+    for (name, what) in [("/dev/null", "a character device"), ("folder", "a folder"), ("pipe", "a pipe")] {
         if name == "pipe" && !has_pipe {
             continue;
         }
@@ -344,8 +344,9 @@ fn input_that_is_not_what_it_should_be() {
     folder.turns_away(&["save", "r.img", "0", "/dev/zero"], &["/dev/zero", "131,072", "64 blocks"]);
     folder.turns_away(&["read", "d.img", "0", "0"], &["COUNT"]);
     folder.turns_away(&["free", "d.img", "0", "0"], &["COUNT"]);
-    let endless = ["info", "/dev/zero", "--start", "0", "--length", "9", "--write-once"];
-    refuses_quickly(&folder, &endless, "more than 2,147,483,648 bytes");
+    let long = std::fs::File::create(folder.path("long")).expect("a file");
+    long.set_len(2_147_483_649).expect("a length");
+    refuses_quickly(&folder, &["info", "long"], "more than 2,147,483,648 bytes");
 }
 
 /// A disc that opens by an older VAT, with a newer one above it that breaks a rule.

@@ -31,7 +31,7 @@ impl Lock {
         loop {
             let wrong = |e: io::Error| match e.kind() {
                 ErrorKind::PermissionDenied | ErrorKind::ReadOnlyFilesystem => {
-                    Error::wrong(image, "nothing can be written in its folder, so it is not replaced")
+                    Error::not_replaced(image, "nothing can be written in its folder, so it is not replaced")
                 }
                 _ => Error::file(&path, e),
             };

@@ -4,7 +4,8 @@ use super::files::{Stamp, System};
 use super::journal::{self, Pair};
 use super::lock::Lock;
 use super::marks_file::{fingerprint, is_marks_file, marks_text, need_zeros, read_marks};
-use super::{located, need_image, need_replaceable, stamps, Error};
+use super::places::{located, need_readable, need_replaceable};
+use super::{need_image, stamps, Error};
 use crate::numbers::grouped;
 use crate::{marks_by_rule, BLANK, RECORDED, UNREADABLE};
 use std::path::Path;
@@ -51,12 +52,13 @@ impl Marking {
         if pair.image == pair.marks {
             return Err(Error::wrong(path, "the image cannot be its own marks file"));
         }
+        need_readable(&pair.image)?;
         need_replaceable(&pair.marks)?;
         let lock = Lock::take(&pair.image)?;
         journal::finish(&System, &pair.image)?;
         let stamps = stamps(&pair)?;
         let contents = journal::read_pair(&System, &pair)?;
-        let bytes = contents.image.ok_or_else(|| Error::wrong(&pair.image, "there is no such file"))?;
+        let bytes = contents.image.ok_or_else(|| Error::missing(&pair.image))?;
         need_image(&pair.image, &bytes)?;
         Ok((Marking { marks: marks_by_rule(&bytes), bytes, pair, stamps, _lock: lock }, contents.marks))
     }
