@@ -3,7 +3,7 @@
 
 mod recognized;
 
-use crate::numbers::grouped;
+use crate::numbers::counted;
 use crate::{crc, read_maps, Maps, SECTOR};
 use std::fmt;
 
@@ -138,9 +138,9 @@ fn read_sequence(image: &[u8], from: usize, count: usize) -> Result<Volume, NoVo
     }
     let lost = |words: &str| NoVolume::Lost(words.to_string());
     let logical = logical.ok_or_else(|| lost("the volume descriptor sequence has no logical volume descriptor"))?;
-    let block_size = u32_at(logical, BLOCK_SIZE_AT);
-    if block_size as usize != SECTOR {
-        return Err(NoVolume::Other(format!("the logical volume has blocks of {} bytes, not 2,048", grouped(block_size))));
+    let block_size = u32_at(logical, BLOCK_SIZE_AT) as usize;
+    if block_size != SECTOR {
+        return Err(NoVolume::Other(format!("the logical volume has blocks of {}, not 2,048", counted(block_size, "byte"))));
     }
     let length = u32_at(logical, MAP_LENGTH_AT) as usize;
     let maps = logical[MAPS_AT..].get(..length).ok_or_else(|| lost("the map list does not fit its logical volume descriptor"))?;

@@ -53,7 +53,7 @@ mod marks_file;
 mod places;
 
 use crate::descriptors::{find_volume, recognized, Volume};
-use crate::numbers::grouped;
+use crate::numbers::{counted, grouped};
 use crate::{marks_by_rule, read_maps, Disc, DiscRef, Maps, BLANK, MOST_SECTORS, PACKET, SECTOR};
 use files::{folder_of, with_ending, Files, Stamp, System, MOST_BYTES};
 use journal::{NewMarks, Pair};
@@ -426,10 +426,10 @@ fn need_sectors(length: usize) -> Result<(), String> {
             Err(format!("it has more than {} bytes, and so more sectors than a disc of 1,048,576", grouped(MOST_BYTES - 1)))
         }
         _ if !length.is_multiple_of(SECTOR) => Err(format!(
-            "its {} bytes are no multiple of 2,048: {} sectors and {} bytes",
-            grouped(length),
-            grouped(length / SECTOR),
-            grouped(length % SECTOR)
+            "it has {}, no multiple of 2,048: {} and {}",
+            counted(length, "byte"),
+            counted(length / SECTOR, "sector"),
+            counted(length % SECTOR, "byte")
         )),
         _ => Ok(()),
     }
@@ -455,8 +455,8 @@ fn need_whole(volume: &Volume, sectors: usize) -> Result<(), String> {
     // what is not aligned, or on no disc, the layer turns down
     if is_aligned && (sectors as u64) < end && end <= MOST_SECTORS as u64 {
         return Err(format!(
-            "it has {} sectors, and its partition and sparing tables end at {}: the rest was cut off",
-            grouped(sectors),
+            "it has {}, and its partition and sparing tables end at {}: the rest was cut off",
+            counted(sectors, "sector"),
             grouped(end)
         ));
     }

@@ -13,6 +13,12 @@ pub fn grouped(n: impl TryInto<u64>) -> String {
     text
 }
 
+/// So many of a thing: `1 block`, `2,048 blocks`.
+pub fn counted(n: usize, thing: &str) -> String {
+    let s = if n == 1 { "" } else { "s" };
+    format!("{} {thing}{s}", grouped(n))
+}
+
 /// A number in decimal, with or without commas between groups of three digits, or in hexadecimal after 0x.
 pub fn number(word: &str) -> Option<u32> {
     if let Some(hex) = word.strip_prefix("0x") {
@@ -32,6 +38,11 @@ pub fn number(word: &str) -> Option<u32> {
 #[cfg(test)]
 mod tests {
     use super::*;
+
+    #[test]
+    fn one_is_counted_in_the_singular() {
+        assert_eq!([counted(0, "block"), counted(1, "block"), counted(4096, "block")], ["0 blocks", "1 block", "4,096 blocks"]);
+    }
 
     #[test]
     fn numbers_are_taken_as_they_are_printed() {

@@ -170,7 +170,7 @@ fn what_is_not_marked() {
     let by_map = |image, map| ["marks", image, "--from-ddrescue", map];
     folder.turns_away(&set("spoilt", "0", "1"), &["--set: spoilt is no mark, which is blank, recorded or unreadable"]);
     folder.turns_away(&set("blank", "one", "1"), &["--set: one is no number"]);
-    folder.turns_away(&set("recorded", "390", "11"), &["copy.img: 11 sectors from 390 on are not all in it: it has 400"]);
+    folder.turns_away(&set("recorded", "390", "11"), &["copy.img: it has 400 sectors, too few for 11 from sector 390 on"]);
     folder.turns_away(&set("blank", "288", "1"), &["copy.img: sector 288 is called blank, and its bytes are not zeros"]);
     folder.turns_away(&["marks", "copy.img", "--set", "blank", "0"], &["--set needs COUNT"]);
     folder.turns_away(&["marks", "copy.img", "--blank-from", "340"], &["--blank-from goes with --from-ddrescue"]);

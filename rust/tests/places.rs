@@ -99,3 +99,21 @@ fn what_became_of_the_image_is_said_once() {
         assert!(said.ends_with(end), "{words:?}: {said}");
     }
 }
+
+#[test]
+fn one_is_not_put_in_the_plural() {
+    let folder = Folder::with_disc("one");
+    folder.does(&["make", "r.img", "--sectors", "640", "--tables", "0", "--spares", "96,128", "--length", "64"]);
+    let sectors = folder.bytes("r.img");
+    for (name, length) in [("byte", 1), ("sector", 2048), ("odd", 2049)] {
+        folder.write(name, &sectors[..length]);
+    }
+    let volume = ["--start", "288", "--length", "64", "--tables", "0"];
+    folder.turns_away(&["info", "byte"], &["it has 1 byte, no multiple of 2,048: 0 sectors and 1 byte\n"]);
+    folder.turns_away(&["info", "odd"], &["1 sector and 1 byte\n"]);
+    folder.turns_away(&[&["info", "sector"][..], &volume].concat(), &["it has 1 sector, and its partition"]);
+    folder.turns_away(&["save", "r.img", "0", "byte", "--packet"], &["it has 1 byte, no whole packets of 65,536"]);
+    folder.turns_away(&["save", "d.img", "new", "odd", "--start", "399", "--length", "1", "--write-once"], &["of the disc's 1 block;"]);
+    let info = folder.does(&["info", "r.img"]);
+    assert!(info.contains("in sector 0 (2,048 bytes each)"), "{info}");
+}

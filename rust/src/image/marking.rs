@@ -6,7 +6,7 @@ use super::lock::Lock;
 use super::marks_file::{fingerprint, is_marks_file, marks_text, need_zeros, read_marks};
 use super::places::{located, need_readable, need_replaceable};
 use super::{need_image, stamps, Error};
-use crate::numbers::grouped;
+use crate::numbers::{counted, grouped};
 use crate::{marks_by_rule, BLANK, RECORDED, UNREADABLE};
 use std::path::Path;
 
@@ -76,7 +76,7 @@ impl Marking {
     /// Gives all sectors their marks.
     pub fn set_all(&mut self, marks: Vec<u8>) -> Result<(), Error> {
         if marks.len() != self.marks.len() {
-            return Err(self.wrong(format!("it has {} sectors, and not {}", grouped(self.marks.len()), grouped(marks.len()))));
+            return Err(self.wrong(format!("it has {}, and not {}", counted(self.marks.len(), "sector"), grouped(marks.len()))));
         }
         self.marks = marks;
         Ok(())
@@ -93,10 +93,10 @@ impl Marking {
             }
             Some(_) => Err(self.wrong(format!("{mark} is no mark"))),
             None => Err(self.wrong(format!(
-                "{} sectors from {} on are not all in it: it has {}",
+                "it has {}, too few for {} from sector {} on",
+                counted(sectors, "sector"),
                 grouped(count),
-                grouped(from),
-                grouped(sectors)
+                grouped(from)
             ))),
         }
     }

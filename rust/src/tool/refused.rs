@@ -272,7 +272,8 @@ fn no_room_words(open: View, asked: Asked) -> String {
     let free = (open.disc.length as usize).saturating_sub(next as usize);
     let left = match free {
         0 => "no sector is free".to_string(),
-        n => format!("{} free", if n == 1 { "1 sector is".to_string() } else { format!("{} sectors are", grouped(n)) }),
+        1 => "1 sector is free".to_string(),
+        n => format!("{} are free", counted(n, "sector")),
     };
     let adds = matches!(asked, Asked::SaveVirtual(v) if v == entries);
     let commit = commit_sectors(entries as usize + usize::from(adds));

@@ -70,10 +70,10 @@ fn input_for(image: &Image, path: &Path, packet: bool) -> Result<Vec<u8>, Failur
     match bytes.len() {
         0 => wrong("it is empty: there is nothing to save".into()),
         n if n > SECTOR * blocks => {
-            wrong(format!("it has more than the {} bytes of all {} blocks", grouped(SECTOR * blocks), grouped(blocks)))
+            wrong(format!("it has more than the {} bytes of the disc's {}", grouped(SECTOR * blocks), counted(blocks, "block")))
         }
         n if packet && !n.is_multiple_of(PACKET_BYTES) => {
-            wrong(format!("its {} bytes are no whole packets of 65,536, which --packet saves", grouped(n)))
+            wrong(format!("it has {}, no whole packets of 65,536, which --packet saves", counted(n, "byte")))
         }
         _ => Ok(bytes),
     }

@@ -148,8 +148,7 @@ impl Summary {
         lines.push(("marks", self.marks_source.clone()));
         lines.extend(self.zeros.as_ref().and_then(Zeros::warning).map(|words| ("warning", words)));
         if let Some(Maps::Rewritable { table_bytes, tables, .. }) = &self.maps {
-            let places: Vec<String> = tables.iter().map(|&t| grouped(t)).collect();
-            lines.push(("tables", format!("in sectors {} ({} bytes each)", joined(&places), grouped(*table_bytes))));
+            lines.push(("tables", format!("in {} ({} each)", sectors_words(tables), counted(*table_bytes as usize, "byte"))));
         }
         if let Ok(Opened::Rewritable { tables, .. }) = &self.opened {
             lines.push(("identifier", tables.identifier_words()));

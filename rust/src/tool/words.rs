@@ -1,12 +1,6 @@
 //! Numbers, counts and ranges, as the tool prints them everywhere.
 
-pub use tuormik::numbers::{grouped, number};
-
-/// So many of a thing: `1 block`, `2,048 blocks`.
-pub fn counted(n: usize, thing: &str) -> String {
-    let s = if n == 1 { "" } else { "s" };
-    format!("{} {thing}{s}", grouped(n))
-}
+pub use tuormik::numbers::{counted, grouped, number};
 
 /// A thing, or those from one to another: `block 3`, `blocks 3 to 9`.
 pub fn from_to(first: usize, last: usize, thing: &str) -> String {
@@ -79,8 +73,7 @@ mod tests {
     }
 
     #[test]
-    fn counts_and_ranges() {
-        assert_eq!([counted(0, "block"), counted(1, "block"), counted(4096, "block")], ["0 blocks", "1 block", "4,096 blocks"]);
+    fn ranges_and_lists() {
         assert_eq!([from_to(3, 3, "block"), from_to(0, 1024, "block")], ["block 3", "blocks 0 to 1,024"]);
         let words: Vec<String> = ["a", "b", "c"].map(String::from).to_vec();
         assert_eq!([joined(&words[..1]), joined(&words[..2]), joined(&words)], ["a", "a and b", "a, b and c"]);
