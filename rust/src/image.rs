@@ -62,7 +62,7 @@ use marks_file::{fingerprint, is_marks_file, marks_text, read_marks};
 use places::{is_same_file, located, need_readable, need_replaceable, settled};
 use std::fmt;
 use std::fs;
-use std::io;
+use std::io::{self, ErrorKind};
 use std::path::{Path, PathBuf};
 
 pub use ddrescue::marks_from_ddrescue;
@@ -105,6 +105,15 @@ pub enum Error {
         /// Why it is not, and what became of it.
         words: String,
     },
+    /// A file system that has no room for what is to be stored; what was there is as it was.
+    NoRoom {
+        /// The file that was to be replaced.
+        path: PathBuf,
+        /// The bytes that storing takes beside what is there.
+        needs: usize,
+        /// What the system says.
+        error: io::Error,
+    },
     /// A file that is there already, where a new one is to be made.
     Exists {
         /// The file.
@@ -129,6 +138,9 @@ pub enum Error {
     Call(crate::Error),
 }
 
+/// What a system says that has no room.
+const NO_ROOM: [ErrorKind; 3] = [ErrorKind::StorageFull, ErrorKind::QuotaExceeded, ErrorKind::FileTooLarge];
+
 impl Error {
     fn file(path: &Path, error: io::Error) -> Error {
         Error::File { path: path.to_owned(), error }
@@ -142,6 +154,18 @@ impl Error {
         Error::Missing { path: path.to_owned() }
     }
 
+    fn unfinished(path: &Path, error: Error) -> Error {
+        Error::Unfinished { path: path.to_owned(), error: Box::new(error) }
+    }
+
+    /// What an error comes to in storing a file, which takes so many bytes beside what is there.
+    fn in_storing(self, path: &Path, needs: usize) -> Error {
+        match self {
+            Error::File { error, .. } if NO_ROOM.contains(&error.kind()) => Error::NoRoom { path: path.to_owned(), needs, error },
+            other => other,
+        }
+    }
+
     fn not_replaced(path: &Path, words: impl Into<String>) -> Error {
         Error::NotReplaced { path: path.to_owned(), words: words.into() }
     }
@@ -153,6 +177,9 @@ impl fmt::Display for Error {
             Error::File { path, error } => write!(f, "{}: {error}", path.display()),
             Error::Wrong { path, words } | Error::NotReplaced { path, words } => write!(f, "{}: {words}", path.display()),
             Error::NoImage { path, what } => write!(f, "{}: it is {what}", path.display()),
+            Error::NoRoom { path, needs, error } => {
+                write!(f, "{}: {error}: storing takes {} beside what is there", path.display(), counted(*needs, "byte"))
+            }
             Error::Missing { path } => write!(f, "{}: there is no such file", path.display()),
             Error::Exists { path } => write!(f, "{}: it is there already", path.display()),
             Error::Held { path, by: Some(by) } => write!(f, "{}: process {by} is writing it; nothing was done here", path.display()),
@@ -332,7 +359,8 @@ impl Image {
             NewMarks::Kept | NewMarks::Removed => None,
         };
         journal::store(&System, &self.pair, hold.was, bytes, new_marks)?;
-        let stamps = stamps(&self.pair)?;
+        // what follows does not undo the store
+        let stamps = stamps(&self.pair).map_err(|error| Error::unfinished(&self.pair.image, error))?;
         self.marks_text = marks_text;
         if let Some(hold) = &mut self.hold {
             (hold.was, hold.stamps) = (Some(print), stamps);
@@ -378,7 +406,7 @@ pub fn write_file(path: &Path, bytes: &[u8]) -> Result<(), Error> {
     write().map_err(|e| {
         // what was half written is of no use
         let _ = fs::remove_file(&new);
-        Error::file(path, e)
+        Error::file(path, e).in_storing(path, bytes.len())
     })
 }
 

@@ -181,7 +181,7 @@ impl From<tuormik::image::Error> for Failure {
         use tuormik::image::Error::*;
         let words = error.to_string();
         match error {
-            File { .. } | Wrong { .. } | Call(_) => Failure::File(words),
+            File { .. } | Wrong { .. } | NoRoom { .. } | Call(_) => Failure::File(words),
             Exists { .. } => Failure::File(format!("{words} (--force replaces it)")),
             NoImage { .. } => Failure::NoVolume(words),
             Missing { .. } | NotReplaced { .. } | Held { .. } | Unfinished { .. } => Failure::FileTold(words),

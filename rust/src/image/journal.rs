@@ -88,6 +88,15 @@ impl Note {
         bytes
     }
 
+    /// The bytes that its store takes beside what is there: those of the new image, of the note and of the new marks.
+    fn needs(&self, image: Option<&[u8]>) -> usize {
+        let marks = match &self.marks {
+            NewMarks::Text(text) => text.len(),
+            NewMarks::Kept | NewMarks::Removed => 0,
+        };
+        image.map_or(0, <[u8]>::len) + self.bytes().len() + marks
+    }
+
     fn from_bytes(bytes: &[u8]) -> Option<Note> {
         let (bytes, end) = bytes.split_at_checked(bytes.len().checked_sub("\nend 0123456789abcdef\n".len())?)?;
         if end != format!("\nend {:016x}\n", fingerprint(bytes)).as_bytes() {
@@ -173,11 +182,10 @@ fn bring(files: &dyn Files, pair: &Pair, note: &Note, bytes: Option<&[u8]>) -> R
         for path in [new, new_note] {
             let _ = files.remove(&path);
         }
-        return Err(error);
+        return Err(error.in_storing(&pair.image, note.needs(bytes)));
     }
     // from here on the new pair is the pair
-    put_in_place(files, &pair.image, note, bytes.is_some())
-        .map_err(|error| Error::Unfinished { path: pair.image.clone(), error: Box::new(error) })
+    put_in_place(files, &pair.image, note, bytes.is_some()).map_err(|error| Error::unfinished(&pair.image, error))
 }
 
 /// Writes the new image and the note, and brings the note to its name.
@@ -322,7 +330,7 @@ mod tests {
         }
     }
 
-    /// A file system in memory that stops after some calls: from then on every call fails.
+    /// A file system in memory that stops after some calls: from then on every call fails. It can be full, too.
     #[derive(Clone, Default)]
     struct Memory {
         files: RefCell<Vec<Bytes>>,
@@ -331,6 +339,8 @@ mod tests {
         changes: RefCell<Vec<Change>>,
         left: Cell<usize>,
         is_stopped: Cell<bool>,
+        /// the bytes that its files can have together, and what the system says of more
+        room: Option<(usize, io::ErrorKind)>,
     }
 
     impl Memory {
@@ -349,6 +359,18 @@ mod tests {
             let memory = self.clone();
             memory.left.set(calls);
             memory
+        }
+
+        /// The bytes of all files that have a name.
+        fn used(&self) -> usize {
+            self.names.borrow().values().map(|&file| self.files.borrow()[file].now.len()).sum()
+        }
+
+        fn need_room(&self) -> io::Result<()> {
+            match self.room {
+                Some((room, full)) if self.used() > room => Err(full.into()),
+                _ => Ok(()),
+            }
         }
 
         fn call(&self) -> io::Result<()> {
@@ -388,6 +410,7 @@ mod tests {
                         changes: RefCell::default(),
                         left: Cell::new(usize::MAX),
                         is_stopped: Cell::new(false),
+                        room: None,
                     });
                 }
             }
@@ -415,6 +438,7 @@ mod tests {
             });
             for part in [&bytes[..0], &bytes[..bytes.len() / 2], bytes] {
                 self.files.borrow_mut()[file].now = part.to_vec();
+                self.need_room()?;
                 self.call()?;
             }
             self.files.borrow_mut()[file].synced = bytes.to_vec();
@@ -665,6 +689,33 @@ mod tests {
         for _ in 0..2 {
             assert_eq!(seen(&memory, &beside()), Version::new(9, Some("nine")).contents());
             finish(&memory, &beside().image).expect("it is finished");
+        }
+    }
+
+    /// Where the room is not enough the pair is as it was, and nothing is left besides; with what is said to be needed it is enough.
+    #[test]
+    fn a_full_file_system_says_what_storing_needs() {
+        let (old, new) = (Version::new(1, Some("one")), Version { bytes: vec![2; 64], ..Version::new(2, Some("two")) });
+        for kind in [io::ErrorKind::StorageFull, io::ErrorKind::QuotaExceeded, io::ErrorKind::FileTooLarge] {
+            let memory = |room| Memory { room: Some((room, kind)), ..Memory::new(&beside(), &old.contents()) };
+            let used = memory(0).used();
+            let needs = match new.store(&memory(used), &beside()) {
+                Err(Error::NoRoom { path, needs, error }) if path == beside().image && error.kind() == kind => needs,
+                other => panic!("{other:?}"),
+            };
+            let first = (used..).find(|&room| {
+                let memory = memory(room);
+                match new.store(&memory, &beside()) {
+                    Ok(()) => return true,
+                    Err(Error::NoRoom { needs: again, .. }) => assert_eq!(again, needs),
+                    Err(other) => panic!("{other}"),
+                }
+                assert_eq!(seen(&memory, &beside()), old.contents());
+                assert_eq!(memory.used(), used, "something is left");
+                false
+            });
+            // the marks find room where the old image was
+            assert_eq!(first.map(|room| room + "two".len()), Some(used + needs));
         }
     }
 

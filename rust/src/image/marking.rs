@@ -114,7 +114,8 @@ impl Marking {
         need_zeros(&self.marks, &self.bytes).map_err(|words| self.wrong(words))?;
         let image = fingerprint(&self.bytes);
         journal::store_marks(&System, &self.pair, image, marks_text(&self.marks, image).into_bytes())?;
-        self.stamps = stamps(&self.pair)?;
+        // what follows does not undo the store
+        self.stamps = stamps(&self.pair).map_err(|error| Error::unfinished(&self.pair.image, error))?;
         Ok(())
     }
 }
