@@ -46,6 +46,7 @@
 
 mod ddrescue;
 mod files;
+mod holder;
 mod journal;
 mod lock;
 mod marking;
@@ -66,6 +67,7 @@ use std::io::{self, ErrorKind};
 use std::path::{Path, PathBuf};
 
 pub use ddrescue::marks_from_ddrescue;
+pub use holder::Waited;
 pub use marking::Marking;
 pub use marks_file::{mark_name, MARKS_FORMAT};
 
@@ -119,7 +121,7 @@ pub enum Error {
         /// The file.
         path: PathBuf,
     },
-    /// An image that another process has loaded to write it.
+    /// An image that another process has loaded to write it, and that does not seem to come to an end with it.
     Held {
         /// The image.
         path: PathBuf,
@@ -182,7 +184,9 @@ impl fmt::Display for Error {
             }
             Error::Missing { path } => write!(f, "{}: there is no such file", path.display()),
             Error::Exists { path } => write!(f, "{}: it is there already", path.display()),
-            Error::Held { path, by: Some(by) } => write!(f, "{}: process {by} is writing it; nothing was done here", path.display()),
+            Error::Held { path, by: Some(by) } => {
+                write!(f, "{}: process {by} is writing it, and no progress of it is seen; nothing was done here", path.display())
+            }
             Error::Held { path, by: None } => write!(f, "{}: another process is writing it; nothing was done here", path.display()),
             Error::Unfinished { path, error } => {
                 write!(
@@ -234,13 +238,25 @@ impl Image {
     /// Makes an image that is not a file yet, of blank sectors, and takes its lock. A file of that name, or its marks, are replaced only
     /// where `replaces` says so.
     pub fn create(path: &Path, marks_path: Option<&Path>, sectors: usize, volume: Volume, replaces: bool) -> Result<Image, Error> {
+        Image::create_waiting(path, marks_path, sectors, volume, replaces, &mut |_| {})
+    }
+
+    /// The same, telling of its waiting as [`Image::load_to_write_waiting`] does.
+    pub fn create_waiting(
+        path: &Path,
+        marks_path: Option<&Path>,
+        sectors: usize,
+        volume: Volume,
+        replaces: bool,
+        tell: &mut dyn FnMut(Waited),
+    ) -> Result<Image, Error> {
         let pair = located(path, marks_path)?;
         if pair.image == pair.marks {
             return Err(Error::wrong(path, "the image cannot be its own marks file"));
         }
         need_replaceable(&pair.image)?;
         need_replaceable(&pair.marks)?;
-        let lock = Lock::take(&pair.image)?;
+        let lock = Lock::take(&pair.image, tell)?;
         journal::finish(&System, &pair.image)?;
         let there = journal::read_pair(&System, &pair)?;
         for (is_there, path) in [(there.image.is_some(), &pair.image), (there.marks.is_some(), &pair.marks)] {
@@ -276,16 +292,27 @@ impl Image {
     }
 
     /// Takes the image's lock and reads it as [`Image::load`] does, to store it later. A store that was stopped is finished before. What
-    /// cannot be replaced is refused: what is no regular file, and what is read-only.
+    /// cannot be replaced is refused: what is no regular file, and what is read-only. Where another process has the lock this one waits:
+    /// on Linux as long as that one makes progress, and two seconds where none is seen.
     pub fn load_to_write<E: From<Error>>(
         path: &Path,
         marks_path: Option<&Path>,
         find: impl FnOnce(&[u8]) -> Result<Volume, E>,
     ) -> Result<Image, E> {
+        Image::load_to_write_waiting(path, marks_path, find, &mut |_| {})
+    }
+
+    /// The same; while it waits, `tell` is told again and again for whom, and for how long so far.
+    pub fn load_to_write_waiting<E: From<Error>>(
+        path: &Path,
+        marks_path: Option<&Path>,
+        find: impl FnOnce(&[u8]) -> Result<Volume, E>,
+        tell: &mut dyn FnMut(Waited),
+    ) -> Result<Image, E> {
         let pair = located(path, marks_path)?;
         need_replaceable(&pair.image)?;
         need_replaceable(&pair.marks)?;
-        let lock = Lock::take(&pair.image)?;
+        let lock = Lock::take(&pair.image, tell)?;
         journal::finish(&System, &pair.image)?;
         let stamps = stamps(&pair)?;
         let mut image = read_image(pair, marks_path.is_some(), find)?;

@@ -179,7 +179,7 @@ fn what_is_not_marked() {
     folder.turns_away(&by_map("copy.img", "none.map"), &["none.map: "]);
     folder.turns_away(&by_map("copy.img", "copy.img"), &["copy.img: "]);
     folder.turns_away(&by_map("copy.img", "short"), &["short: line 1: "]);
-    folder.turns_away(&by_map("short", "copy.map"), &["short: its 2,049 bytes are no multiple of 2,048"]);
+    folder.turns_away(&by_map("short", "copy.map"), &["short: it has 2,049 bytes, no multiple of 2,048"]);
     folder.turns_away(&by_map("none.img", "copy.map"), &["none.img: "]);
 }
 

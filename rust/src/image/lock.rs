@@ -5,29 +5,31 @@
 //! is locked by nobody, and the next one takes it.
 
 use super::files::{if_there, with_ending};
+use super::holder::{Waited, Watch};
 use super::Error;
 use std::fs::{self, File, OpenOptions, TryLockError};
 use std::io::{self, ErrorKind, Read, Write};
 use std::os::unix::fs::MetadataExt;
 use std::path::{Path, PathBuf};
-use std::time::{Duration, Instant};
+use std::time::Duration;
 
-/// How long a second process waits for the first.
-pub(super) const PATIENCE: Duration = Duration::from_secs(2);
+/// How long a second process waits for the first where that makes no progress.
+const PATIENCE: Duration = Duration::from_secs(2);
 const PAUSE: Duration = Duration::from_millis(10);
 
 /// A lock that is held until it is dropped.
 pub(super) struct Lock {
     path: PathBuf,
     /// closed, and so unlocked, after the file of this name is removed
-    _file: File,
+    file: File,
 }
 
 impl Lock {
-    /// Takes the lock of an image; where another process holds it for longer than the patience, says which.
-    pub(super) fn take(image: &Path) -> Result<Lock, Error> {
+    /// Takes the lock of an image. Where another process holds it, waits as long as that makes progress, and tells so at every look; then
+    /// says which it is.
+    pub(super) fn take(image: &Path, tell: &mut dyn FnMut(Waited)) -> Result<Lock, Error> {
         let path = with_ending(image, ".tuormik-lock");
-        let begun = Instant::now();
+        let mut watch = Watch::new();
         loop {
             let wrong = |e: io::Error| match e.kind() {
                 ErrorKind::PermissionDenied | ErrorKind::ReadOnlyFilesystem => {
@@ -37,18 +39,25 @@ impl Lock {
             };
             let mut file = OpenOptions::new().read(true).write(true).create(true).truncate(false).open(&path).map_err(wrong)?;
             match file.try_lock() {
-                Ok(()) if is_named(&file, &path).map_err(wrong)? => {
-                    file.set_len(0).and_then(|()| writeln!(file, "{}", std::process::id())).map_err(wrong)?;
-                    return Ok(Lock { path, _file: file });
-                }
+                Ok(()) if is_named(&file, &path).map_err(wrong)? => return Ok(Lock { path, file }.named()),
                 Ok(()) => {}
-                Err(TryLockError::WouldBlock) if begun.elapsed() >= PATIENCE => {
-                    return Err(Error::Held { path: image.to_owned(), by: holder(&mut file) });
+                Err(TryLockError::WouldBlock) => {
+                    let waited = watch.look(holder(&mut file));
+                    if watch.still() >= PATIENCE {
+                        return Err(Error::Held { path: image.to_owned(), by: waited.by });
+                    }
+                    tell(waited);
+                    std::thread::sleep(PAUSE);
                 }
-                Err(TryLockError::WouldBlock) => std::thread::sleep(PAUSE),
                 Err(TryLockError::Error(e)) => return Err(wrong(e)),
             }
         }
+    }
+
+    /// With the process that holds it in its file. Where there is no room for that the lock holds all the same.
+    fn named(mut self) -> Lock {
+        let _ = self.file.set_len(0).and_then(|()| writeln!(self.file, "{}", std::process::id()));
+        self
     }
 }
 

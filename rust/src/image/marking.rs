@@ -1,6 +1,7 @@
 //! Marks given to the sectors of an image: its marks file is written, and nothing else.
 
 use super::files::{Stamp, System};
+use super::holder::Waited;
 use super::journal::{self, Pair};
 use super::lock::Lock;
 use super::marks_file::{fingerprint, is_marks_file, marks_text, need_zeros, read_marks};
@@ -24,9 +25,10 @@ pub struct Marking {
 }
 
 impl Marking {
-    /// Takes the image's lock and reads its bytes and its marks.
-    pub fn begin(path: &Path, marks_path: Option<&Path>) -> Result<Marking, Error> {
-        let (mut marking, text) = Marking::with_text(path, marks_path)?;
+    /// Takes the image's lock and reads its bytes and its marks. While it waits for the lock, `tell` is told as by
+    /// [`Image::load_to_write_waiting`](super::Image::load_to_write_waiting).
+    pub fn begin(path: &Path, marks_path: Option<&Path>, tell: &mut dyn FnMut(Waited)) -> Result<Marking, Error> {
+        let (mut marking, text) = Marking::with_text(path, marks_path, tell)?;
         match text {
             Some(text) => marking.marks = read_marks(&text, &marking.bytes).map_err(|words| Error::wrong(&marking.pair.marks, words))?,
             None if marks_path.is_some() => return Err(Error::wrong(&marking.pair.marks, "there is no such file")),
@@ -37,8 +39,8 @@ impl Marking {
 
     /// The same for marks that are all new: at first they follow the rule. A marks file that is there is not read, since it may belong to
     /// bytes that the image had before; it is replaced only where `replaces` says so.
-    pub fn begin_anew(path: &Path, marks_path: Option<&Path>, replaces: bool) -> Result<Marking, Error> {
-        let (marking, text) = Marking::with_text(path, marks_path)?;
+    pub fn begin_anew(path: &Path, marks_path: Option<&Path>, replaces: bool, tell: &mut dyn FnMut(Waited)) -> Result<Marking, Error> {
+        let (marking, text) = Marking::with_text(path, marks_path, tell)?;
         match text {
             Some(_) if !replaces => Err(Error::Exists { path: marking.pair.marks }),
             Some(text) if !is_marks_file(&text) => Err(Error::wrong(&marking.pair.marks, "it is no marks file, and stays as it is")),
@@ -47,14 +49,14 @@ impl Marking {
     }
 
     /// The image with marks by the rule, and the text of its marks file.
-    fn with_text(path: &Path, marks_path: Option<&Path>) -> Result<(Marking, Option<Vec<u8>>), Error> {
+    fn with_text(path: &Path, marks_path: Option<&Path>, tell: &mut dyn FnMut(Waited)) -> Result<(Marking, Option<Vec<u8>>), Error> {
         let pair = located(path, marks_path)?;
         if pair.image == pair.marks {
             return Err(Error::wrong(path, "the image cannot be its own marks file"));
         }
         need_readable(&pair.image)?;
         need_replaceable(&pair.marks)?;
-        let lock = Lock::take(&pair.image)?;
+        let lock = Lock::take(&pair.image, tell)?;
         journal::finish(&System, &pair.image)?;
         let stamps = stamps(&pair)?;
         let contents = journal::read_pair(&System, &pair)?;
@@ -149,7 +151,7 @@ mod tests {
         }
 
         fn begin(&self) -> Result<Marking, Error> {
-            Marking::begin(&self.path("d.img"), None)
+            Marking::begin(&self.path("d.img"), None, &mut |_| {})
         }
 
         fn marks(&self) -> Vec<u8> {
@@ -201,7 +203,7 @@ mod tests {
     #[test]
     fn marks_of_other_bytes_are_replaced_where_it_is_asked_for() {
         let folder = Folder::new("anew");
-        let anew = |replaces| Marking::begin_anew(&folder.path("d.img"), None, replaces);
+        let anew = |replaces| Marking::begin_anew(&folder.path("d.img"), None, replaces, &mut |_| {});
         folder.write("d.img.marks", b"tuormik marks\nimage 0\n");
         assert!(folder.begin().is_err_and(|error| error.to_string().contains("other bytes")));
         assert!(matches!(anew(false), Err(Error::Exists { .. })));
@@ -229,7 +231,7 @@ mod tests {
         folder.write("d.img", b"\xfd7zXZ\0 and so on");
         let words = folder.begin().err().expect("it is no image").to_string();
         assert!(words.ends_with("d.img: it is a file compressed by xz"), "{words}");
-        assert!(Marking::begin(&folder.path("e.img"), None).is_err());
-        assert!(Marking::begin(&folder.path("d.img"), Some(&folder.path("d.img"))).is_err());
+        assert!(Marking::begin(&folder.path("e.img"), None, &mut |_| {}).is_err());
+        assert!(Marking::begin(&folder.path("d.img"), Some(&folder.path("d.img")), &mut |_| {}).is_err());
     }
 }

@@ -21,7 +21,7 @@ Opens a write-once disc and commits the table that was found: the disc then ends
 };
 
 fn commit(args: &mut Args, out: &mut Outputs) -> Done {
-    let mut image = load_to_write(args)?;
+    let mut image = load_to_write(args, out)?;
     args.end()?;
     let cut = args.cut()?;
     let answer = open_to_write(&mut image, args.has("--force"), out).and_then(|mut open| commit_and_tell(&mut open, cut));

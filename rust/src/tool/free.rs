@@ -22,7 +22,7 @@ pub const ENTRY: Entry = Entry {
 };
 
 fn free(args: &mut Args, out: &mut Outputs) -> Done {
-    let mut image = load_to_write(args)?;
+    let mut image = load_to_write(args, out)?;
     let first = args.next_number("NUMBER")?;
     let count = optional_count(args)?;
     args.end()?;

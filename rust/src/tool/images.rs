@@ -8,7 +8,8 @@ use super::words::{grouped, number};
 use super::{Done, Failure};
 use std::io::Read;
 use std::path::{Path, PathBuf};
-use tuormik::image::Image;
+use std::time::Duration;
+use tuormik::image::{Image, Waited};
 use tuormik::{Cut, MOST_SECTORS};
 
 /// The image of a path, with the marks and the volume that the options give.
@@ -24,10 +25,26 @@ pub fn load_next(args: &mut Args) -> Result<Image, Failure> {
 }
 
 /// The same, to be stored: it is locked from here on.
-pub fn load_to_write(args: &mut Args) -> Result<Image, Failure> {
+pub fn load_to_write(args: &mut Args, out: &mut Outputs) -> Result<Image, Failure> {
     let path = args.next_path("IMAGE")?;
     let _waiting = Waiting::new(format!("reading {}", path.display()));
-    Image::load_to_write(&path, args.path("--marks"), |bytes| volume(args, bytes))
+    let tell = &mut telling(&path, out);
+    Image::load_to_write_waiting(&path, args.path("--marks"), |bytes| volume(args, bytes), tell)
+}
+
+/// How long a command waits for another before it says so.
+const MOMENT: Duration = Duration::from_millis(200);
+
+/// Says once, after a moment, for whom a command waits that is to write an image.
+pub fn telling<'a, 'b>(path: &'a Path, out: &'a mut Outputs<'b>) -> impl FnMut(Waited) + use<'a, 'b> {
+    let mut is_told = false;
+    move |Waited { by, time }| {
+        if time >= MOMENT && !is_told {
+            let whom = by.map_or("another process".to_string(), |by| format!("process {by}"));
+            out.say(format_args!("waiting for {whom}, which is writing {}", path.display()));
+            is_told = true;
+        }
+    }
 }
 
 /// The images of a command that takes several.

@@ -2,7 +2,7 @@
 
 use super::args::Args;
 use super::entry::{Choice, Entry};
-use super::images::store;
+use super::images::{store, telling};
 use super::media::{layout, Layout, START};
 use super::output::Outputs;
 use super::states::{Counts, View};
@@ -108,7 +108,8 @@ fn make(args: &mut Args, out: &mut Outputs) -> Done {
     need_kind(args, &kind)?;
     let (Maps::WriteOnce { partition } | Maps::Rewritable { partition, .. }) = kind;
     let volume = Volume { maps, start, length };
-    let mut image = Image::create(&path, args.path("--marks"), sectors as usize, volume, args.has("--force"))?;
+    let (marks, replaces) = (args.path("--marks"), args.has("--force"));
+    let mut image = Image::create_waiting(&path, marks, sectors as usize, volume, replaces, &mut telling(&path, out))?;
     let mut disc = image.disc();
     disc.make(&spares).map_err(|error| refused::by_making(disc.to_read(), &spares, error))?;
     let is_described = !args.has("--no-descriptors") && describe(&mut image, partition);

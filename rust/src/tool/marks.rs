@@ -2,7 +2,7 @@
 
 use super::args::{number, Args};
 use super::entry::{Choice, Entry};
-use super::images::input;
+use super::images::{input, telling};
 use super::output::Outputs;
 use super::progress::Waiting;
 use super::summary::mark_words;
@@ -45,7 +45,7 @@ fn marks(args: &mut Args, out: &mut Outputs) -> Done {
     let path = args.next_path("IMAGE")?;
     args.end()?;
     let changes = args.all("--set").map(change).collect::<Result<Vec<_>, _>>()?;
-    let Some(mut marking) = begin(args, &path, !changes.is_empty())? else {
+    let Some(mut marking) = begin(args, &path, !changes.is_empty(), out)? else {
         return show(args, &path, out);
     };
     for Change { mark, from, count } in changes {
@@ -69,14 +69,14 @@ fn zeros_from(marking: &Marking) -> Option<usize> {
 }
 
 /// The image that is to be marked, with the marks of a map if one is given; none where the marks are only to be told.
-fn begin(args: &Args, path: &Path, has_changes: bool) -> Result<Option<Marking>, Failure> {
+fn begin(args: &Args, path: &Path, has_changes: bool, out: &mut Outputs) -> Result<Option<Marking>, Failure> {
     let _waiting = Waiting::new(format!("reading {}", path.display()));
-    let marks_path = args.path("--marks");
+    let (marks_path, tell) = (args.path("--marks"), &mut telling(path, out));
     match args.path("--from-ddrescue") {
-        Some(map) => marked_by(map, args, Marking::begin_anew(path, marks_path, args.has("--force"))?).map(Some),
+        Some(map) => marked_by(map, args, Marking::begin_anew(path, marks_path, args.has("--force"), tell)?).map(Some),
         None => match ["--blank-from", "--force"].into_iter().find(|option| args.has(option)) {
             Some(option) => Err(Failure::Usage(format!("{option} goes with --from-ddrescue"))),
-            None if has_changes => Ok(Some(Marking::begin(path, marks_path)?)),
+            None if has_changes => Ok(Some(Marking::begin(path, marks_path, tell)?)),
             None => Ok(None),
         },
     }

@@ -49,7 +49,7 @@ struct Load {
 }
 
 fn save(args: &mut Args, out: &mut Outputs) -> Done {
-    let mut image = load_to_write(args)?;
+    let mut image = load_to_write(args, out)?;
     let word = args.next_word().ok_or_else(|| missing("NUMBER"))?.to_string_lossy().into_owned();
     let (packet, commits, cut) = (args.has("--packet"), !args.has("--no-commit"), args.cut()?);
     let paths = args.next_paths("FILE")?.into_iter();

@@ -29,7 +29,7 @@ disc. Every copy of the sparing table is written with the newer identifier, that
 };
 
 fn spare(args: &mut Args, out: &mut Outputs) -> Done {
-    let mut image = load_to_write(args)?;
+    let mut image = load_to_write(args, out)?;
     let b = args.next_number("NUMBER")?;
     let path = args.next_word();
     args.end()?;
