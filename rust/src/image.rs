@@ -95,17 +95,15 @@ pub enum Error {
         /// What it is.
         what: String,
     },
-    /// A file that is not there.
+    /// An image that is not there.
     Missing {
-        /// The file.
+        /// The image.
         path: PathBuf,
     },
-    /// A file that is not replaced.
-    NotReplaced {
-        /// The file.
+    /// An image that another program has changed since it was loaded; nothing was stored.
+    Changed {
+        /// The image.
         path: PathBuf,
-        /// Why it is not, and what became of it.
-        words: String,
     },
     /// A file system that has no room for what is to be stored; what was there is as it was.
     NoRoom {
@@ -156,6 +154,10 @@ impl Error {
         Error::Missing { path: path.to_owned() }
     }
 
+    fn changed(path: &Path) -> Error {
+        Error::Changed { path: path.to_owned() }
+    }
+
     fn unfinished(path: &Path, error: Error) -> Error {
         Error::Unfinished { path: path.to_owned(), error: Box::new(error) }
     }
@@ -167,22 +169,21 @@ impl Error {
             other => other,
         }
     }
-
-    fn not_replaced(path: &Path, words: impl Into<String>) -> Error {
-        Error::NotReplaced { path: path.to_owned(), words: words.into() }
-    }
 }
 
 impl fmt::Display for Error {
     fn fmt(&self, f: &mut fmt::Formatter) -> fmt::Result {
         match self {
             Error::File { path, error } => write!(f, "{}: {error}", path.display()),
-            Error::Wrong { path, words } | Error::NotReplaced { path, words } => write!(f, "{}: {words}", path.display()),
+            Error::Wrong { path, words } => write!(f, "{}: {words}", path.display()),
             Error::NoImage { path, what } => write!(f, "{}: it is {what}", path.display()),
             Error::NoRoom { path, needs, error } => {
                 write!(f, "{}: {error}: storing takes {} beside what is there", path.display(), counted(*needs, "byte"))
             }
             Error::Missing { path } => write!(f, "{}: there is no such file", path.display()),
+            Error::Changed { path } => {
+                write!(f, "{}: it or its marks were changed by another program meanwhile; nothing was stored", path.display())
+            }
             Error::Exists { path } => write!(f, "{}: it is there already", path.display()),
             Error::Held { path, by: Some(by) } => {
                 write!(f, "{}: process {by} is writing it, and no progress of it is seen; nothing was done here", path.display())
@@ -265,7 +266,7 @@ impl Image {
             }
         }
         if there.marks.as_deref().is_some_and(|text| !is_marks_file(text)) {
-            return Err(Error::not_replaced(&pair.marks, "it is there, is no marks file, and stays as it is"));
+            return Err(Error::wrong(&pair.marks, "it is there, and is no marks file"));
         }
         let hold = Hold { _lock: lock, was: there.image.as_deref().map(fingerprint), stamps: stamps(&pair)? };
         let (bytes, marks) = (vec![0; SECTOR * sectors], vec![BLANK; sectors]);
@@ -366,11 +367,10 @@ impl Image {
         let recorded = self.marks.iter().rposition(|&m| m != BLANK).map_or(0, |last| last + 1);
         self.sectors = self.sectors.max(recorded);
         let Some(hold) = &self.hold else {
-            return Err(Error::not_replaced(&self.pair.image, "it was loaded to be read, and is not stored"));
+            return Err(Error::wrong(&self.pair.image, "it was loaded to be read, and is not stored"));
         };
         if stamps(&self.pair)? != hold.stamps {
-            let words = "it or its marks were changed by another program meanwhile; nothing was stored";
-            return Err(Error::not_replaced(&self.pair.image, words));
+            return Err(Error::changed(&self.pair.image));
         }
         let (bytes, marks) = (self.file_bytes(), &self.marks[..self.sectors]);
         let print = fingerprint(bytes);
@@ -456,7 +456,7 @@ fn read_image<E: From<Error>>(pair: Pair, must_have_marks: bool, find: impl FnOn
     let mut bytes = contents.image.ok_or_else(|| Error::missing(&pair.image))?;
     need_image(&pair.image, &bytes)?;
     if must_have_marks && contents.marks.is_none() {
-        return Err(Error::missing(&pair.marks).into());
+        return Err(Error::wrong(&pair.marks, "there is no such file").into());
     }
     let (volume, sectors) = (find(&bytes)?, bytes.len() / SECTOR);
     need_whole(&volume, sectors).map_err(wrong)?;

@@ -184,7 +184,7 @@ impl From<tuormik::image::Error> for Failure {
             File { .. } | Wrong { .. } | NoRoom { .. } | Call(_) => Failure::File(words),
             Exists { .. } => Failure::File(format!("{words} (--force replaces it)")),
             NoImage { .. } => Failure::NoVolume(words),
-            Missing { .. } | NotReplaced { .. } | Held { .. } | Unfinished { .. } => Failure::FileTold(words),
+            Missing { .. } | Changed { .. } | Held { .. } | Unfinished { .. } => Failure::FileTold(words),
         }
     }
 }

@@ -158,7 +158,7 @@ fn what_another_program_changed_meanwhile_stays() {
     std::thread::sleep(std::time::Duration::from_millis(20));
     let other = [image.bytes.as_slice(), &[1; 2048]].concat();
     folder.write("d.img", &other);
-    assert!(matches!(image.store(), Err(Error::NotReplaced { .. })));
+    assert!(matches!(image.store(), Err(Error::Changed { .. })));
     assert_eq!(std::fs::read(folder.path("d.img")).expect("a file"), other);
     // and an image that was loaded to be read is not stored
     let mut image = Image::load(&folder.path("d.img"), None, find).expect("an image");

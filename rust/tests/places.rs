@@ -90,7 +90,7 @@ fn what_became_of_the_image_is_said_once() {
     let cases = [
         (&["save", "nowhere", "new", "text"][..], "there is no such file\n"),
         (&["save", "d.img", "new", "nowhere"], "nowhere: No such file or directory (os error 2); the image is as it was\n"),
-        (&["save", ".", "new", "text"], "it is a folder, and nothing is written to it\n"),
+        (&["save", ".", "new", "text"], "it is a folder, and nothing is written to it; the image is as it was\n"),
         (&["commit", "short"], "0 sectors and 100 bytes; the image is as it was\n"),
         (&["make", "d.img", "--sectors", "400", "--write-once"], "it is there already (--force replaces it); no disc was made\n"),
     ];

@@ -33,7 +33,7 @@ impl Lock {
         loop {
             let wrong = |e: io::Error| match e.kind() {
                 ErrorKind::PermissionDenied | ErrorKind::ReadOnlyFilesystem => {
-                    Error::not_replaced(image, "nothing can be written in its folder, so it is not replaced")
+                    Error::wrong(image, "nothing can be written in its folder, so it cannot be replaced")
                 }
                 _ => Error::file(&path, e),
             };

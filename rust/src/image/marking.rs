@@ -43,7 +43,7 @@ impl Marking {
         let (marking, text) = Marking::with_text(path, marks_path, tell)?;
         match text {
             Some(_) if !replaces => Err(Error::Exists { path: marking.pair.marks }),
-            Some(text) if !is_marks_file(&text) => Err(Error::wrong(&marking.pair.marks, "it is no marks file, and stays as it is")),
+            Some(text) if !is_marks_file(&text) => Err(Error::wrong(&marking.pair.marks, "it is there, and is no marks file")),
             _ => Ok(marking),
         }
     }
@@ -111,7 +111,7 @@ impl Marking {
     /// not zeros.
     pub fn store(&mut self) -> Result<(), Error> {
         if stamps(&self.pair)? != self.stamps {
-            return Err(self.wrong("it or its marks were changed by another program meanwhile; nothing was stored"));
+            return Err(Error::changed(&self.pair.image));
         }
         need_zeros(&self.marks, &self.bytes).map_err(|words| self.wrong(words))?;
         let image = fingerprint(&self.bytes);
@@ -214,7 +214,7 @@ mod tests {
         assert_eq!(folder.marks(), [2, 1, 1, 0]);
         // what is no marks file is not written over
         folder.write("d.img.marks", b"a letter");
-        assert!(anew(true).is_err_and(|error| error.to_string().contains("it is no marks file")));
+        assert!(anew(true).is_err_and(|error| error.to_string().contains("is no marks file")));
     }
 
     #[test]

@@ -84,7 +84,7 @@ pub(super) fn need_replaceable(path: &Path) -> Result<(), Error> {
         return Ok(());
     };
     if let Some(what) = other_kind(there.file_type()) {
-        return Err(Error::not_replaced(path, format!("it is {what}, and nothing is written to it")));
+        return Err(Error::wrong(path, format!("it is {what}, and nothing is written to it")));
     }
     let is_open_to_writing = || match OpenOptions::new().write(true).open(path) {
         Ok(_) => Ok(true),
@@ -92,7 +92,7 @@ pub(super) fn need_replaceable(path: &Path) -> Result<(), Error> {
         Err(e) => Err(Error::file(path, e)),
     };
     if there.permissions().readonly() || !is_open_to_writing()? {
-        return Err(Error::not_replaced(path, "it is read-only, and stays as it is"));
+        return Err(Error::wrong(path, "it is read-only"));
     }
     Ok(())
 }
