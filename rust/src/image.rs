@@ -60,7 +60,7 @@ use files::{folder_of, with_ending, Files, Stamp, System, MOST_BYTES};
 use journal::{NewMarks, Pair};
 use lock::Lock;
 use marks_file::{fingerprint, is_marks_file, marks_text, read_marks};
-use places::{is_same_file, located, need_readable, need_replaceable, settled};
+use places::{is_same_file, located, marks_beside, need_readable, need_replaceable, settled};
 use std::fmt;
 use std::fs;
 use std::io::{self, ErrorKind};
@@ -397,22 +397,23 @@ impl Image {
 
     /// Writes a file that is none of the image's own, as [`write_file`] does.
     pub fn write_output(&self, path: &Path, bytes: &[u8]) -> Result<(), Error> {
-        need_other(path, &self.pair)?;
+        need_other(path, [&self.pair.image, &self.pair.marks])?;
         write_file(path, bytes)
     }
 }
 
 /// An output must be none of the files of an image, which need not have a disc, nor be there.
 pub fn need_output(path: &Path, image: &Path, marks_path: Option<&Path>) -> Result<(), Error> {
-    match located(image, marks_path) {
-        Ok(pair) => need_other(path, &pair),
-        Err(_) => Ok(()),
-    }
+    // a name that leads to no file is none that could be written over
+    let image = settled(image).ok();
+    let marks = marks_path.map_or_else(|| image.as_deref().map(marks_beside), |path| settled(path).ok());
+    need_other(path, image.iter().chain(&marks))
 }
 
-fn need_other(path: &Path, pair: &Pair) -> Result<(), Error> {
+/// An output must be none of these files.
+fn need_other<'a>(path: &Path, files: impl IntoIterator<Item = &'a PathBuf>) -> Result<(), Error> {
     let output = settled(path)?;
-    for own in [&pair.image, &pair.marks] {
+    for own in files {
         if output == *own || is_same_file(&output, own)? {
             return Err(Error::wrong(path, "it is the image or its marks file, and is not written over"));
         }

@@ -28,7 +28,13 @@ fn a_link_to_nothing_is_no_missing_marks_file() {
     folder.turns_away(&["info", "d.img", "--marks", "d.img.marks"], &said);
     folder.turns_away(&[&["make", "e.img", "--marks", "d.img.marks"][..], &MAKE].concat(), &said);
     folder.turns_away(&["info", "d.img.marks"], &said);
+    folder.turns_away(&["marks", "d.img", "--set", "unreadable", "257", "1"], &said);
     folder.turns_away(&["read", "d.img", "0", "--output", "d.img.marks"], &said);
+    // a page that tells of others besides is not written over it
+    folder.does(&["make", "e.img", "--sectors", "400", "--write-once"]);
+    let over = ["it is the image or its marks file, and is not written over"];
+    folder.turns_away(&["report", "d.img", "e.img", "--output", "d.img"], &over);
+    folder.turns_away(&["report", "d.img", "--marks", "nowhere/m", "--output", "d.img"], &over);
     // once there is something it is read
     std::fs::create_dir(folder.path("elsewhere")).expect("a folder");
     folder.write("elsewhere/m", b"tuormik marks\nunreadable 257 1\n");
@@ -40,6 +46,7 @@ fn is_called(folder: &Folder, place: &str, what: &str) {
     let what = [what];
     folder.turns_away(&["info", place], &what);
     folder.turns_away(&["info", "d.img", "--marks", place], &what);
+    folder.turns_away(&["marks", place, "--set", "blank", "0", "1"], &what);
     folder.turns_away(&[&["save", place, "new", "text"][..], &BY_HAND].concat(), &what);
     folder.turns_away(&[&["make", place][..], &MAKE].concat(), &what);
     folder.turns_away(&["read", "d.img", "0", "--output", place], &what);

@@ -24,11 +24,16 @@ pub(super) fn settled(path: &Path) -> Result<PathBuf, Error> {
     Ok(folder.ok_or_else(|| Error::wrong(path, "its folder is not there"))?.join(name))
 }
 
+/// The name of the marks file beside an image.
+pub(super) fn marks_beside(image: &Path) -> PathBuf {
+    with_ending(image, ".marks")
+}
+
 /// The files of an image, whether it is there or not, and of its marks, which are those of a name or stand beside it.
 pub(super) fn located(path: &Path, marks_path: Option<&Path>) -> Result<Pair, Error> {
     let image = settled(path)?;
     let beside = || {
-        let marks = with_ending(&image, ".marks");
+        let marks = marks_beside(&image);
         need_linked(&marks).map(|()| marks)
     };
     let marks = marks_path.map_or_else(beside, settled)?;
