@@ -39,6 +39,11 @@ fn a_link_to_nothing_is_no_missing_marks_file() {
     std::fs::create_dir(folder.path("elsewhere")).expect("a folder");
     folder.write("elsewhere/m", b"tuormik marks\nunreadable 257 1\n");
     assert!(folder.does(&["info", "d.img"]).contains("1 unreadable"));
+    // and written, as the file that a link to an image leads to
+    folder.does(&["save", "d.img", "new", "text"]);
+    assert!(folder.path("d.img.marks").is_symlink());
+    assert!(folder.bytes("elsewhere/m").starts_with(b"tuormik marks\nimage "));
+    assert!(folder.does(&["info", "d.img"]).contains("1 unreadable"));
 }
 
 /// Reads and writes to a place, and expects that it is said to be something.

@@ -32,11 +32,7 @@ pub(super) fn marks_beside(image: &Path) -> PathBuf {
 /// The files of an image, whether it is there or not, and of its marks, which are those of a name or stand beside it.
 pub(super) fn located(path: &Path, marks_path: Option<&Path>) -> Result<Pair, Error> {
     let image = settled(path)?;
-    let beside = || {
-        let marks = marks_beside(&image);
-        need_linked(&marks).map(|()| marks)
-    };
-    let marks = marks_path.map_or_else(beside, settled)?;
+    let marks = marks_path.map_or_else(|| settled(&marks_beside(&image)), settled)?;
     Ok(Pair { image, marks })
 }
 
