@@ -218,12 +218,17 @@ fn help() -> String {
     text
 }
 
-/// The command whose name, of one word or two, the words begin with.
+/// The command whose name the words begin with, and the words after it.
 fn find(words: &[OsString]) -> Option<(&'static Entry, &[OsString])> {
+    find_in(&ENTRIES, words)
+}
+
+/// The same of some commands. A name of two words goes before one of one.
+fn find_in<'a>(entries: &[&'static Entry], words: &'a [OsString]) -> Option<(&'static Entry, &'a [OsString])> {
     let name = |count: usize| Some(words.get(..count)?.iter().map(|word| word.to_string_lossy()).collect::<Vec<_>>().join(" "));
     let named = |count: usize| {
         let name = name(count)?;
-        let entry = ENTRIES.iter().find(|entry| entry.name == name)?;
+        let entry = entries.iter().find(|entry| entry.name == name)?;
         Some((*entry, &words[count..]))
     };
     named(2).or_else(|| named(1))
@@ -306,6 +311,21 @@ mod tests {
     use std::io::{self, ErrorKind, Write};
     use std::path::PathBuf;
     use std::rc::Rc;
+
+    /// A name may have two words, and its first word may be a name too.
+    #[test]
+    fn commands_of_two_words() {
+        static ADD: Entry = Entry { name: "season add", ..commit::ENTRY };
+        static SEASON: Entry = Entry { name: "season", ..commit::ENTRY };
+        let found = |line: &str| {
+            let words: Vec<OsString> = line.split(' ').map(OsString::from).collect();
+            find_in(&[&SEASON, &ADD], &words).map(|(entry, rest)| (entry.name, rest.len()))
+        };
+        assert_eq!(found("season add d.img harvest"), Some(("season add", 2)));
+        assert_eq!(found("season d.img"), Some(("season", 1)));
+        assert_eq!([found("add d.img"), found("seasons")], [None, None]);
+        assert!(ADD.help().starts_with("tuormik season add IMAGE\n"));
+    }
 
     /// An output that counts its writes, and fails from one of them on.
     #[derive(Clone)]

@@ -149,6 +149,34 @@ fn verify_goes_through_a_shelf() {
     has(&out, "6 images: 1 clean, 3 damaged, 2 cannot be opened");
 }
 
+/// What the kind of a disc does not take is refused, and what was rounded is said.
+#[test]
+fn making_says_what_it_does_not_take_and_what_it_rounds() {
+    let folder = Folder::new("make-kinds");
+    let made = folder.does(&["make", "a.img", "--sectors", "650", "--tables", "0,32", "--spares", "64"]);
+    assert_eq!(made, "made a.img: 650 sectors, S 288, L 352\nthe partition was rounded down from 362 sectors to whole packets of 32\n");
+    let made = folder.does(&["make", "b.img", "--media", "cdrw", "--sectors", "700"]);
+    assert_eq!(made, "made b.img: 672 sectors, S 320, L 64\nthe disc was rounded down from 700 sectors to whole packets of 32\n");
+    for whole in [&["--write-once"][..], &["--tables", "0,32", "--length", "64"]] {
+        let made = folder.does(&[&["make", "c.img", "--sectors", "401", "--force"][..], whole].concat());
+        assert!(!made.contains("rounded"), "{made}");
+    }
+    for option in [["--spares", "64"], ["--table-bytes", "512"]] {
+        let words = folder.usage(&[&["make", "d.img", "--sectors", "400", "--write-once"][..], &option].concat());
+        let why = format!("a write-once disc has no sparing tables and no spares, so {} does not go with --write-once\n", option[0]);
+        assert!(words.starts_with(&why), "{words}");
+    }
+    for option in [&["--write-once"][..], &["--tables", "0"], &["--partition", "1"]] {
+        let words = folder.usage(&[&["make", "d.img", "--sectors", "400", "--maps", "maps"][..], option].concat());
+        assert!(words.starts_with("a map list tells the kind and all that goes with it, so --"), "{words}");
+    }
+    let list = tuormik::write_maps(&tuormik::Maps::WriteOnce { partition: 0 }).expect("a map list");
+    folder.write("maps", &list);
+    let words = folder.usage(&["make", "d.img", "--sectors", "400", "--maps", "maps", "--spares", "64"]);
+    assert!(words.starts_with("the map list is of a write-once disc, which has no spares\n"), "{words}");
+    assert!(folder.usage(&["make", "d.img", "--media", "dvd"]).starts_with("--media dvd: a medium is cdr or cdrw\n"));
+}
+
 #[test]
 fn export_of_any_commit() {
     let folder = with_commits("export");

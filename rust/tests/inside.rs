@@ -52,7 +52,10 @@ fn making_tells_how_many_blocks_are_left() {
     }
     // a write-once disc has none
     let words = folder.usage(&["make", "e.img", "--sectors", "400", "--write-once", "--spares", "288,320"]);
-    assert!(words.starts_with("a write-once disc has no sparing tables and no spares, so --spares does not go with it\n"), "{words}");
+    assert!(
+        words.starts_with("a write-once disc has no sparing tables and no spares, so --spares does not go with --write-once\n"),
+        "{words}"
+    );
 }
 
 /// What the commands tell of the disc of [`inside`] at a time.

@@ -23,8 +23,8 @@ pub const ENTRY: Entry = Entry {
     ],
     about: "\
 Makes a disc of N sectors and writes it to IMAGE, which must not be there yet. The partition starts at S (288) and has L sectors (to \
-the end of the disc). Where sectors 256 to 259 are free, descriptors are put there that tell the volume, so that the other commands \
-find it; they make no file system.
+the end of the disc, on a rewritable one in whole packets). Where sectors 256 to 259 are free, descriptors are put there that tell the \
+volume, so that the other commands find it; they make no file system.
 ",
     choices: &[
         Choice { name: "--sectors", values: &["N"], words: "the number of sectors" },
@@ -63,49 +63,62 @@ fn usage(words: String) -> Failure {
 
 /// Where everything is on a disc to be made, with its map list: as the medium has it, or as the options give it.
 fn layout_of(args: &Args) -> Result<(Layout, Vec<u8>), Failure> {
+    let by_medium = ["--write-once", "--tables", "--table-bytes", "--start", "--length", "--spares", "--maps"];
+    need_own(args, "--media", &by_medium, "a medium gives a disc all but its number of sectors")?;
+    let by_list = ["--write-once", "--tables", "--table-bytes", "--partition"];
+    need_own(args, "--maps", &by_list, "a map list tells the kind and all that goes with it")?;
+    let of_rewritable = ["--spares", "--table-bytes"];
+    need_own(args, "--write-once", &of_rewritable, "a write-once disc has no sparing tables and no spares")?;
     let sectors = args.number("--sectors")?;
     if let Some(medium) = args.value("--media") {
-        let own = ["--write-once", "--tables", "--table-bytes", "--start", "--length", "--spares", "--maps"];
-        if let Some(option) = own.iter().find(|option| args.has(option)) {
-            return Err(usage(format!("--media gives a disc all but its number of sectors, so {option} does not go with it")));
-        }
         let layout = layout(&medium.to_string_lossy(), sectors)?;
         let maps = maps_of(args, layout.tables.clone())?;
         return Ok((layout, maps));
     }
     let sectors = sectors.ok_or_else(|| usage("how many sectors? --sectors N, or --media cdr or cdrw".into()))?;
     let start = args.number("--start")?.unwrap_or(START);
-    let length = args.number("--length")?.unwrap_or(sectors.saturating_sub(start));
     let (tables, spares) = (args.numbers("--tables")?, args.numbers("--spares")?.unwrap_or_default());
     let maps = maps(args)?.ok_or_else(|| usage("which kind? --write-once, --tables T,.., --maps FILE or --media".into()))?;
+    let rest = sectors.saturating_sub(start);
+    let whole = if matches!(read_maps(&maps), Ok(Maps::Rewritable { .. })) { rest - rest % PACKET as u32 } else { rest };
+    let length = args.number("--length")?.unwrap_or(whole);
     Ok((Layout { sectors, start, length, tables, spares }, maps))
 }
 
-/// Options that the kind of the disc does not take.
-fn need_kind(args: &Args, maps: &Maps) -> Done {
-    let of_rewritable = ["--spares", "--table-bytes"];
-    match (maps, of_rewritable.iter().find(|option| args.has(option))) {
-        (Maps::WriteOnce { .. }, Some(option)) => {
-            Err(usage(format!("a write-once disc has no sparing tables and no spares, so {option} does not go with it")))
-        }
-        _ if args.has("--maps")
-            && (args.has("--write-once") || args.has("--tables") || args.has("--partition") || args.has("--table-bytes")) =>
-        {
-            Err(usage("--maps is the whole map list, so --write-once, --tables, --table-bytes and --partition do not go with it".into()))
-        }
-        _ => Ok(()),
+/// What was rounded down to whole packets: the disc that a medium gives, or the partition that goes to its end.
+fn rounded_words(args: &Args, layout: &Layout) -> Result<Option<String>, Failure> {
+    let Some(asked) = args.number("--sectors")?.filter(|_| !args.has("--length")) else {
+        return Ok(None);
+    };
+    let (what, from, to) = if args.has("--media") {
+        ("the disc", asked, layout.sectors)
+    } else {
+        ("the partition", asked.saturating_sub(layout.start), layout.length)
+    };
+    Ok((from != to).then(|| format!("{what} was rounded down from {} to whole packets of 32", counted(from as usize, "sector"))))
+}
+
+/// An option that tells what others would tell too, or that others do not fit, stands without them.
+fn need_own(args: &Args, option: &str, others: &[&str], why: &str) -> Done {
+    match others.iter().find(|other| args.has(option) && args.has(other)) {
+        Some(other) => Err(usage(format!("{why}, so {other} does not go with {option}"))),
+        None => Ok(()),
     }
 }
 
 fn make(args: &mut Args, out: &mut Outputs) -> Done {
     let path = args.next_path("IMAGE")?;
     args.end()?;
-    let (Layout { sectors, start, length, spares, .. }, maps) = layout_of(args)?;
+    let (layout, maps) = layout_of(args)?;
+    let rounded = rounded_words(args, &layout)?;
+    let Layout { sectors, start, length, spares, .. } = layout;
     if sectors as usize > MOST_SECTORS {
         return Err(refused::sectors(sectors as usize));
     }
     let kind = read_maps(&maps).map_err(|error| refused::by_list(&maps, error))?;
-    need_kind(args, &kind)?;
+    if let (Maps::WriteOnce { .. }, true) = (&kind, args.has("--spares")) {
+        return Err(usage("the map list is of a write-once disc, which has no spares".into()));
+    }
     let (Maps::WriteOnce { partition } | Maps::Rewritable { partition, .. }) = kind;
     let volume = Volume { maps, start, length };
     let (marks, replaces) = (args.path("--marks"), args.has("--force"));
@@ -115,10 +128,7 @@ fn make(args: &mut Args, out: &mut Outputs) -> Done {
     let is_described = !args.has("--no-descriptors") && describe(&mut image, partition);
     store(&mut image)?;
     out.line(format_args!("made {}: {}, S {}, L {}", path.display(), counted(sectors as usize, "sector"), grouped(start), grouped(length)));
-    if let Some(asked) = args.number("--sectors")?.filter(|&asked| asked != sectors) {
-        out.line(format_args!("rounded down from {} to whole packets of 32", counted(asked as usize, "sector")));
-    }
-    if let Some(words) = left_words(&image)? {
+    for words in rounded.into_iter().chain(left_words(&image)?) {
         out.line(words);
     }
     if !is_described {
