@@ -202,7 +202,7 @@ fn what_is_lost_is_told_without_colours() {
 fn what_may_be_a_newer_vat_is_marked() {
     let marked = |folder: &Folder, sector: usize| {
         let (_, page, err) = page_of(folder, &["d.img"]);
-        assert!(err.starts_with("tuormik: warning: ") && page.contains("<p class=\"warning\">Warning: "), "{err}");
+        assert!(err.starts_with("tuormik: warning: ") && page.contains("<p class=\"verdict bad\">DAMAGED: sector"), "{err}");
         contains(&page, &[&format!("may be a newer VAT: 1<span class=\"why\"> \u{2013} sector {sector}, marked by an arrow</span>")]);
         // around its field, and beside its row
         contains(&page, &[&format!("d=\"M{} {}h1v1h-1z\"/>", sector % 32, sector / 32)]);

@@ -26,7 +26,6 @@ thead th { vertical-align: bottom; }
 .digest { font: 13px/1.5 ui-monospace, monospace; }
 .verdict { padding: 10px 14px; border-left: 5px solid #3f8f5f; background: #eef5f0; overflow-wrap: anywhere; break-inside: avoid; }
 .bad { border-left: 5px double #d62728; background: #fbeeee; }
-.warning { padding: 10px 14px; border: 2px dashed #b000b0; break-inside: avoid; }
 .lost td { background: #fbe4e4; font-weight: bold; }
 .lost td:first-child { border-left: 5px double #d62728; padding-left: 6px; }
 .shelf .lost td { font-weight: normal; }

@@ -138,9 +138,6 @@ impl Part {
         let verdict = verify::verdict(image, false)?;
         let summary = Summary::new(image)?;
         let warning = summary.opened.as_ref().ok().and_then(|opened| opened.passed()).and_then(|passed| passed.warning());
-        if let Some(words) = &warning {
-            body.put_words_as("warning", &format!("Warning: {words}."));
-        }
         put_files(&mut body, path, image);
         body.put_heading("The disc");
         let facts: Vec<Fact> = summary.lines().into_iter().map(|(name, words)| Fact::new(name, words)).collect();
