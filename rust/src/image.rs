@@ -217,6 +217,8 @@ pub struct Image {
     pub marks: Vec<u8>,
     /// The map list, S and L.
     pub volume: Volume,
+    /// as it was asked for
+    name: PathBuf,
     pair: Pair,
     /// sectors of the image file
     sectors: usize,
@@ -270,7 +272,7 @@ impl Image {
         }
         let hold = Hold { _lock: lock, was: there.image.as_deref().map(fingerprint), stamps: stamps(&pair)? };
         let (bytes, marks) = (vec![0; SECTOR * sectors], vec![BLANK; sectors]);
-        Ok(Image { bytes, marks, volume, pair, sectors, marks_text: None, hold: Some(hold) })
+        Ok(Image { bytes, marks, volume, name: path.to_owned(), pair, sectors, marks_text: None, hold: Some(hold) })
     }
 
     /// Reads an image file whose volume its own descriptors tell, with its marks where they are beside it, as [`Image::load`] does.
@@ -289,7 +291,7 @@ impl Image {
     /// that `find` finds, in the bytes or elsewhere. Nothing is written and nothing locked; what is read belongs together also where
     /// another process stores the image at that moment.
     pub fn load<E: From<Error>>(path: &Path, marks_path: Option<&Path>, find: impl FnOnce(&[u8]) -> Result<Volume, E>) -> Result<Image, E> {
-        read_image(located(path, marks_path)?, marks_path.is_some(), find)
+        read_image(path, located(path, marks_path)?, marks_path.is_some(), find)
     }
 
     /// Takes the image's lock and reads it as [`Image::load`] does, to store it later. A store that was stopped is finished before. What
@@ -316,10 +318,15 @@ impl Image {
         let lock = Lock::take(&pair.image, tell)?;
         journal::finish(&System, &pair.image)?;
         let stamps = stamps(&pair)?;
-        let mut image = read_image(pair, marks_path.is_some(), find)?;
+        let mut image = read_image(path, pair, marks_path.is_some(), find)?;
         let was = Some(fingerprint(image.file_bytes()));
         image.hold = Some(Hold { _lock: lock, was, stamps });
         Ok(image)
+    }
+
+    /// The name by which the image was asked for.
+    pub fn name(&self) -> &Path {
+        &self.name
     }
 
     /// The disc as it is lent to the layer.
@@ -449,7 +456,12 @@ fn described(path: &Path, bytes: &[u8]) -> Result<Volume, Error> {
 }
 
 /// Reads image and marks, and finds the volume.
-fn read_image<E: From<Error>>(pair: Pair, must_have_marks: bool, find: impl FnOnce(&[u8]) -> Result<Volume, E>) -> Result<Image, E> {
+fn read_image<E: From<Error>>(
+    name: &Path,
+    pair: Pair,
+    must_have_marks: bool,
+    find: impl FnOnce(&[u8]) -> Result<Volume, E>,
+) -> Result<Image, E> {
     need_readable(&pair.image)?;
     need_readable(&pair.marks)?;
     let contents = journal::read_pair(&System, &pair)?;
@@ -471,7 +483,7 @@ fn read_image<E: From<Error>>(pair: Pair, must_have_marks: bool, find: impl FnOn
         bytes.resize(SECTOR * end, 0);
         marks.resize(end, BLANK);
     }
-    Ok(Image { bytes, marks, volume, pair, sectors, marks_text: contents.marks, hold: None })
+    Ok(Image { bytes, marks, volume, name: name.to_owned(), pair, sectors, marks_text: contents.marks, hold: None })
 }
 
 /// The bytes of an image are whole sectors, as many as a disc can have.

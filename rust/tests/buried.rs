@@ -37,7 +37,7 @@ fn is_said_by_all(folder: &Folder, warning: &str) {
     for words in READING {
         let (status, _, err) = folder.run(words);
         assert_eq!(status, 0, "{words:?}: {err}");
-        assert!(err.starts_with(&format!("tuormik: warning: {warning}\n")), "{words:?}: {err}");
+        assert!(err.starts_with(&format!("tuormik: warning: d.img: {warning}\n")), "{words:?}: {err}");
     }
     let (image, marks) = (folder.bytes("d.img"), std::fs::read(folder.path("d.img.marks")).ok());
     for words in WRITING {
@@ -86,7 +86,10 @@ fn what_was_not_committed() {
     for words in READING {
         let (status, _, err) = folder.run(words);
         assert_eq!(status, 0, "{words:?}: {err}");
-        assert!(err.starts_with("tuormik: warning: sector 295 was passed over above the last VAT ICB: 1 recorded sector; "), "{err}");
+        assert!(
+            err.starts_with("tuormik: warning: d.img: sector 295 was passed over above the last VAT ICB: 1 recorded sector; "),
+            "{err}"
+        );
     }
     folder.does(&["commit", "d.img"]);
     assert_eq!(folder.run(&["read", "d.img", "0"]).2, "");

@@ -88,7 +88,7 @@ fn what_is_not_committed_is_passed_over() {
     folder.does(&["save", "d.img", "new", "text", "--no-commit"]);
     let (_, info, warning) = folder.run(&["info", "d.img"]);
     has(&info, "passed over 1");
-    assert!(warning.starts_with("tuormik: warning: sector 289 was passed over"), "{warning}");
+    assert!(warning.starts_with("tuormik: warning: d.img: sector 289 was passed over"), "{warning}");
     has(&folder.does(&["commit", "d.img"]), "committed: N 0, NWA 3, last ICB 2");
     assert_eq!(folder.run(&["info", "d.img"]).2, "");
     // a commit that is cut: the image is the disc as the cut left it
@@ -132,7 +132,7 @@ fn a_list_that_fits() {
     assert_eq!((status, out.lines().count()), (0, 2), "{out}");
     assert_eq!(
         err,
-        "tuormik: warning: sector 330 was passed over above the last VAT ICB: 1 recorded sector; blocks saved and not committed, or a \
+        "tuormik: warning: d.img: sector 330 was passed over above the last VAT ICB: 1 recorded sector; blocks saved and not committed, or a \
          write that was cut\n"
     );
 }

@@ -25,14 +25,14 @@ pub fn open(image: &Image) -> Result<OpenRef<'_>, Failure> {
 /// Opens it and says what was passed over.
 pub fn open_and_tell<'a>(image: &'a Image, out: &mut Outputs) -> Result<OpenRef<'a>, Failure> {
     let open = open(image)?;
-    Passed::new((&open).into(), image.file_sectors()).warn(out);
+    Passed::new((&open).into(), image.file_sectors()).warn(image.name(), out);
     Ok(open)
 }
 
 /// Opens it to write it, and says what was passed over. Where a newer VAT may be among that, only who insists goes on.
 pub fn open_to_write<'a>(image: &'a mut Image, is_forced: bool, out: &mut Outputs) -> Result<Open<'a>, Failure> {
     let open = open(image)?;
-    Passed::new((&open).into(), image.file_sectors()).need_force(is_forced, out)?;
+    Passed::new((&open).into(), image.file_sectors()).need_force(image.name(), is_forced, out)?;
     let (table, record) = (open.table().to_vec(), open.record());
     Ok(Open::resume(image.disc(), &table, record))
 }

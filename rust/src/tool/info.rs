@@ -51,7 +51,7 @@ fn as_text(args: &Args, path: &Path, out: &mut Outputs) -> Done {
     match &summary.opened {
         Ok(opened) => {
             if let Some(passed) = opened.passed() {
-                passed.warn(out);
+                passed.warn(path, out);
             }
             Ok(())
         }

@@ -5,6 +5,7 @@ use super::output::Outputs;
 use super::states::View;
 use super::words::{from_to, grouped};
 use super::{found, Done, Failure};
+use std::path::Path;
 use tuormik::image::Image;
 use tuormik::{possible_icbs, Held};
 
@@ -81,27 +82,28 @@ impl Passed {
         (self.count > 0).then(|| format!("{passed}; {may_be}"))
     }
 
-    /// Says the warning, if there is one.
-    pub fn warn(&self, out: &mut Outputs) {
+    /// Says the warning of an image, if there is one.
+    pub fn warn(&self, image: &Path, out: &mut Outputs) {
         if let Some(words) = self.warning() {
-            out.say(format_args!("warning: {words}"));
+            out.say(format_args!("warning: {}: {words}", image.display()));
         }
     }
 
     /// Writing to a disc on which a VAT that may be newer was passed over needs --force, and says what is left behind.
-    pub fn need_force(&self, is_forced: bool, out: &mut Outputs) -> Done {
+    pub fn need_force(&self, image: &Path, is_forced: bool, out: &mut Outputs) -> Done {
         match &self.possible {
             Some(_) if !is_forced => Err(Failure::File(format!(
-                "{}\nWhat is written goes by the older VAT, and a commit ends the disc with it; on a CD-R that cannot be undone. --force goes on all the same",
+                "{}: {}\nWhat is written goes by the older VAT, and a commit ends the disc with it; on a CD-R that cannot be undone. --force goes on all the same",
+                image.display(),
                 self.warning().unwrap_or_default()
             ))),
             Some(_) => {
-                self.warn(out);
+                self.warn(image, out);
                 out.say("--force: what was passed over is left behind, and is no longer looked at after the next commit");
                 Ok(())
             }
             None => {
-                self.warn(out);
+                self.warn(image, out);
                 Ok(())
             }
         }

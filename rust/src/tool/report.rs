@@ -90,8 +90,7 @@ impl Shelf {
             };
             if let Some(words) = &part.warning {
                 progress.clear();
-                let of = if is_one { String::new() } else { format!("{}: ", path.display()) };
-                out.say(format_args!("warning: {of}{words}"));
+                out.say(format_args!("warning: {}: {words}", path.display()));
             }
             parts.push(part);
         }
