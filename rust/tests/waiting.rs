@@ -70,7 +70,8 @@ fn a_writer_does_not_wait_for_one_that_sleeps() {
     assert_eq!(waiting, format!("waiting for {whom}, which is writing d.img"));
     assert!(end.ends_with(&format!("{whom} is writing it, and no progress of it is seen; nothing was done here\n")), "{end}");
     holder.stdin.take().expect("its input").write_all(b"two").expect("it is read");
-    assert_eq!(ended(holder).0, 0);
+    let (status, out, _) = ended(holder);
+    assert!(status == 0 && out.starts_with("the standard input: block 0, filled up with 2,045 bytes of zeros\n"), "{out}");
     assert!(folder.does(&["read", "d.img", "0"]).starts_with("two"));
 }
 

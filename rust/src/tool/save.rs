@@ -101,10 +101,19 @@ impl Load {
                 (zeros, 1) => format!(", filled up with {}", counted_zeros(zeros)),
                 (zeros, _) => format!(", the last filled up with {}", counted_zeros(zeros)),
             };
-            text.push_str(&format!("{}: {}{filled}\n", path.display(), from_to(first as usize, last, "block")));
+            text.push_str(&format!("{}: {}{filled}\n", input_words(path), from_to(first as usize, last, "block")));
             first = first.saturating_add(blocks as u32);
         }
         text
+    }
+}
+
+/// A file by its name, or the standard input.
+fn input_words(path: &Path) -> String {
+    if path.as_os_str() == "-" {
+        "the standard input".to_string()
+    } else {
+        path.display().to_string()
     }
 }
 
