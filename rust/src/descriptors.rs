@@ -3,7 +3,7 @@
 
 mod recognized;
 
-use crate::numbers::counted;
+use crate::numbers::{counted, grouped};
 use crate::{crc, read_maps, Maps, SECTOR};
 use std::fmt;
 
@@ -61,7 +61,7 @@ fn identifier(descriptor: &[u8], at: usize) -> Option<u16> {
 }
 
 /// Where an anchor may stand on a disc of n sectors.
-fn anchor_places(sectors: usize) -> impl Iterator<Item = usize> {
+pub fn anchor_places(sectors: usize) -> impl Iterator<Item = usize> {
     [Some(256), Some(512), sectors.checked_sub(256)].into_iter().flatten()
 }
 
@@ -109,8 +109,22 @@ fn no_anchor(image: &[u8]) -> NoVolume {
         Some(name) => NoVolume::Lost(format!(
             "{words}, though the volume recognition sequence tells of UDF ({name}): it was lost, or the image is not whole"
         )),
-        None => NoVolume::Other(words.to_string()),
+        None => match trace(image) {
+            Some(trace) => NoVolume::Lost(format!("{words}, though {trace}")),
+            None => NoVolume::Other(words.to_string()),
+        },
     }
+}
+
+/// What tells of a volume beside an anchor, in words: an anchor that is damaged, or a logical volume descriptor.
+fn trace(image: &[u8]) -> Option<String> {
+    let is_anchor = |&at: &usize| sector(image, at).is_some_and(|s| u16_at(s, 0) == ANCHOR && u32_at(s, 12) as usize == at);
+    if let Some(at) = anchor_places(image.len() / SECTOR).find(is_anchor) {
+        return Some(format!("sector {} has one whose checksum or CRC is wrong", grouped(at)));
+    }
+    let is_logical = |&at: &usize| sector(image, at).is_some_and(|s| identifier(s, at) == Some(LOGICAL_VOLUME));
+    let at = (0..MOST_DESCRIPTORS).find(is_logical)?;
+    Some(format!("sector {} has the logical volume descriptor to which one leads", grouped(at)))
 }
 
 /// The volume that a volume descriptor sequence tells.
@@ -221,9 +235,17 @@ mod tests {
             put(&mut image, SECTOR * at, &bytes);
         }
         assert_eq!(find_volume(&image), Ok(volume));
-        // a damaged anchor is none
+        // a damaged anchor is none, and tells that there was one; so does what it led to
         image[SECTOR * 256 + 20] ^= 1;
-        assert!(find_volume(&image).is_err());
+        let lost = |image: &[u8]| match find_volume(image) {
+            Err(NoVolume::Lost(words)) => words,
+            other => panic!("{other:?}"),
+        };
+        assert!(lost(&image).ends_with("though sector 256 has one whose checksum or CRC is wrong"));
+        image[SECTOR * 256..SECTOR * 257].fill(0);
+        assert!(lost(&image).ends_with("though sector 258 has the logical volume descriptor to which one leads"));
+        image[SECTOR * 258 + 20] ^= 1;
+        assert!(matches!(find_volume(&image), Err(NoVolume::Other(_))));
     }
 
     #[test]

@@ -67,6 +67,25 @@ fn what_has_lost_its_descriptors_is_damaged() {
         let (status, words) = verified(&folder, name);
         assert!(status == 1 && words.starts_with(&format!("DAMAGED: {why}")), "{name}: {words}");
     }
+    // also where no volume recognition sequence tells of it: by an anchor that is damaged, by what it led to, or by marks
+    let mut bytes = folder.bytes("d.img");
+    bytes[SECTOR * 256 + 20] ^= 1;
+    folder.write("e.img", &bytes);
+    let (status, words) = verified(&folder, "e.img");
+    assert!(
+        status == 1 && words.starts_with("DAMAGED: no anchor ") && words.contains("sector 256 has one whose checksum or CRC"),
+        "{words}"
+    );
+    bytes[SECTOR * 256..SECTOR * 257].fill(0);
+    folder.write("e.img", &bytes);
+    let (status, words) = verified(&folder, "e.img");
+    assert!(status == 1 && words.contains("sector 258 has the logical volume descriptor to which one leads"), "{words}");
+    bytes[SECTOR * 256..SECTOR * 260].fill(0);
+    folder.write("e.img", &bytes);
+    assert_eq!(verified(&folder, "e.img").0, 5);
+    folder.write("e.img.marks", b"tuormik marks\nunreadable 256 4\n");
+    let words = "no volume is found, and sector 256, where an anchor volume descriptor pointer may stand, cannot be read";
+    assert_eq!(verified(&folder, "e.img"), (1, format!("DAMAGED: {words}")));
     // blocks of another size are another format
     let mut other = whole.clone();
     let logical = &mut other[SECTOR * 258..][..SECTOR];

@@ -9,6 +9,7 @@ use super::{Done, Failure};
 use std::io::Read;
 use std::path::{Path, PathBuf};
 use std::time::Duration;
+use tuormik::descriptors::Volume;
 use tuormik::image::{Image, Waited};
 use tuormik::{Cut, MOST_SECTORS};
 
@@ -16,6 +17,12 @@ use tuormik::{Cut, MOST_SECTORS};
 pub fn load(args: &Args, path: &Path) -> Result<Image, Failure> {
     let _waiting = Waiting::new(format!("reading {}", path.display()));
     Image::load(path, args.path("--marks"), |bytes| volume(args, bytes))
+}
+
+/// The same, whether it tells a volume or not.
+pub fn load_without_volume(args: &Args, path: &Path) -> Result<Image, Failure> {
+    let _waiting = Waiting::new(format!("reading {}", path.display()));
+    Image::load(path, args.path("--marks"), |_| Ok(Volume { maps: Vec::new(), start: 0, length: 0 }))
 }
 
 /// The image that a command's next word names.

@@ -2,7 +2,7 @@
 
 use super::args::{number, Args};
 use super::entry::{Choice, Entry};
-use super::images::{input, telling};
+use super::images::{input, load_without_volume, telling};
 use super::output::Outputs;
 use super::progress::Waiting;
 use super::summary::mark_words;
@@ -10,8 +10,7 @@ use super::words::{counted, grouped};
 use super::{Done, Failure};
 use std::ffi::OsString;
 use std::path::Path;
-use tuormik::descriptors::Volume;
-use tuormik::image::{mark_name, marks_from_ddrescue, Error, Image, Marking};
+use tuormik::image::{mark_name, marks_from_ddrescue, Error, Marking};
 use tuormik::{marks_by_rule, BLANK, RECORDED, UNREADABLE};
 
 pub const ENTRY: Entry = Entry {
@@ -119,10 +118,7 @@ fn change(values: &[OsString]) -> Result<Change, Failure> {
 /// Tells the marks of the image file.
 fn show(args: &Args, path: &Path, out: &mut Outputs) -> Done {
     out.only_reads();
-    let waiting = Waiting::new(format!("reading {}", path.display()));
-    let none = Volume { maps: Vec::new(), start: 0, length: 0 };
-    let image = Image::load(path, args.path("--marks"), |_| Ok::<_, Failure>(none))?;
-    drop(waiting);
+    let image = load_without_volume(args, path)?;
     out.line(format_args!("{}: {}, {}", counted(image.marks.len(), "sector"), mark_words(&image.marks), image.marks_source()));
     out.line("mark             from      count");
     let mut from = 0;

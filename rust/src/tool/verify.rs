@@ -3,7 +3,7 @@
 use super::args::Args;
 use super::commits::{self, Commit};
 use super::entry::{Choice, Entry};
-use super::images::{images, load};
+use super::images::{images, load, load_without_volume};
 use super::json::Json;
 use super::output::Outputs;
 use super::progress::Progress;
@@ -13,8 +13,9 @@ use super::words::{counted, from_to, grouped, parts};
 use super::zeros::Zeros;
 use super::{found, status, Done, Failure};
 use std::path::Path;
+use tuormik::descriptors::anchor_places;
 use tuormik::image::Image;
-use tuormik::Refusal;
+use tuormik::{Refusal, UNREADABLE};
 
 pub const ENTRY: Entry = Entry {
     name: "verify",
@@ -160,11 +161,24 @@ pub fn verdict_of(args: &Args, path: &Path) -> Result<Verdict, Failure> {
         other => return other,
     };
     let standing = match failure {
-        Failure::NoVolume(_) => Standing::OtherFormat,
+        Failure::NoVolume(_) => match unreadable_anchor(args, path) {
+            Some(sector) => return Ok(Verdict::new(Standing::Damaged, anchor_words(sector))),
+            None => Standing::OtherFormat,
+        },
         Failure::LostVolume(_) => Standing::Damaged,
         _ => Standing::Unopened,
     };
     Ok(Verdict::new(standing, without_name(&failure.words(), path)))
+}
+
+/// A sector in which an anchor may stand, and that cannot be read.
+fn unreadable_anchor(args: &Args, path: &Path) -> Option<usize> {
+    let image = load_without_volume(args, path).ok()?;
+    anchor_places(image.marks.len()).find(|&at| image.marks.get(at) == Some(&UNREADABLE))
+}
+
+fn anchor_words(sector: usize) -> String {
+    format!("no volume is found, and sector {}, where an anchor volume descriptor pointer may stand, cannot be read", grouped(sector))
 }
 
 /// What is said of a file, without the name that the line has already.
