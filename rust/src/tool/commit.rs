@@ -1,7 +1,7 @@
 //! A new VAT at the end of what is recorded.
 
 use super::args::Args;
-use super::commits::{commit_and_tell, open_to_write};
+use super::commits::{commit_and_tell, open_to_commit};
 use super::entry::{Entry, AS_IT_WAS, CUT, FORCE};
 use super::images::{finish, load_to_write};
 use super::output::Outputs;
@@ -24,6 +24,6 @@ fn commit(args: &mut Args, out: &mut Outputs) -> Done {
     let mut image = load_to_write(args, out)?;
     args.end()?;
     let cut = args.cut()?;
-    let answer = open_to_write(&mut image, args.has("--force"), out).and_then(|mut open| commit_and_tell(&mut open, cut));
+    let answer = open_to_commit(&mut image, args.has("--force"), out).and_then(|mut open| commit_and_tell(&mut open, cut));
     finish(&mut image, answer, cut, out)
 }

@@ -29,12 +29,18 @@ pub fn open_and_tell<'a>(image: &'a Image, out: &mut Outputs) -> Result<OpenRef<
     Ok(open)
 }
 
-/// Opens it to write it, and says what was passed over. Where a newer VAT may be among that, only who insists goes on.
-pub fn open_to_write<'a>(image: &'a mut Image, is_forced: bool, out: &mut Outputs) -> Result<Open<'a>, Failure> {
+/// Opens it to write it.
+pub fn open_to_write(image: &mut Image) -> Result<Open<'_>, Failure> {
     let open = open(image)?;
-    Passed::new((&open).into(), image.file_sectors()).need_force(image.name(), is_forced, out)?;
     let (table, record) = (open.table().to_vec(), open.record());
     Ok(Open::resume(image.disc(), &table, record))
+}
+
+/// Opens it to save and commit, and says what was passed over. Where a newer VAT may be among that, only who insists goes on.
+pub fn open_to_commit<'a>(image: &'a mut Image, is_forced: bool, out: &mut Outputs) -> Result<Open<'a>, Failure> {
+    let passed = Passed::new((&open(image)?).into(), image.file_sectors());
+    passed.need_force(image.name(), is_forced, out)?;
+    open_to_write(image)
 }
 
 /// Commits, and says what the disc has come to.

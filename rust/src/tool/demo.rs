@@ -229,7 +229,10 @@ fn commit_demo(out: &mut Outputs) -> Result<Came, Failure> {
         };
         Ok((answer, Found { version, passed_over, begun, words }))
     })?;
-    out.line(format_args!("A write-once disc: {COUNT} blocks saved and committed. Then each is saved again, and the commit of these, {writes} writes, is cut."));
+    out.line(format_args!(
+        "A write-once disc: {COUNT} blocks saved and committed. Then each is saved again, and the commit of these, {writes} writes, \
+         is cut."
+    ));
     Ok(tell(out, "commit", &all, writes))
 }
 

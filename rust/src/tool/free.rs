@@ -1,7 +1,7 @@
 //! Virtual blocks freed.
 
 use super::args::Args;
-use super::commits::{commit_and_tell, open_to_write};
+use super::commits::{commit_and_tell, open_to_commit};
 use super::entry::{Entry, AS_IT_WAS, CUT, FORCE};
 use super::images::{finish, load_to_write, optional_count};
 use super::output::Outputs;
@@ -27,7 +27,7 @@ fn free(args: &mut Args, out: &mut Outputs) -> Done {
     let count = optional_count(args)?;
     args.end()?;
     let cut = args.cut()?;
-    let answer = open_to_write(&mut image, args.has("--force"), out).and_then(|open| free_all(open, first, count, cut));
+    let answer = open_to_commit(&mut image, args.has("--force"), out).and_then(|open| free_all(open, first, count, cut));
     finish(&mut image, answer, cut, out)
 }
 

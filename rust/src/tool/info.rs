@@ -15,8 +15,8 @@ pub const ENTRY: Entry = Entry {
     usage: &["IMAGE.. [--json]"],
     about: "\
 Opens the disc of each image and tells its kind, how many blocks are used, and of these unreadable or blank (never recorded), how many \
-more fit, with the limit of 4,096 blocks where that is what bounds them, and how full it is, then in the letters of document 01 S, L, N, NWA, the last VAT ICB, how many sectors were passed over, and \
-what they are; of a rewritable disc how many blocks belong to spares inside the partition, R, the sequence, the spares that are used, \
+more fit, with the limit of 4,096 blocks where that is what bounds them, and how full it is, then in the letters of document 01 S, L, \
+N, NWA, the last VAT ICB, how many sectors were passed over, and what they are; of a rewritable disc how many blocks belong to spares inside the partition, R, the sequence, the spares that are used, \
 defective and free, and by which identifier its sparing tables are read: the newer one (UDF 1.50) or the older one (CD UDF 1.82). On a \
 write-once disc 0 passed over says that the last sector of the partition that is not blank is a VAT ICB; once an opening has told 0, \
 later ones tell at most the number of sector writes begun since the last whole VAT ICB, wherever the power failed. Where there is no \

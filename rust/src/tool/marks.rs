@@ -25,7 +25,7 @@ A map file of GNU ddrescue tells which bytes were read: a sector is recorded whe
 image must end together. A sector whose bytes are not zeros is not called blank.
 ",
     choices: &[
-        Choice { name: "--from-ddrescue", values: &["MAPFILE"], words: "the marks by the map file of the run of ddrescue that made the image" },
+        Choice { name: "--from-ddrescue", values: &["MAPFILE"], words: "the marks by the map file of ddrescue, which made the image" },
         Choice { name: "--blank-from", values: &["SECTOR"], words: "with a map: the sectors from this one on were never recorded" },
         Choice {
             name: "--set",

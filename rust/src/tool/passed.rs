@@ -93,7 +93,8 @@ impl Passed {
     pub fn need_force(&self, image: &Path, is_forced: bool, out: &mut Outputs) -> Done {
         match &self.possible {
             Some(_) if !is_forced => Err(Failure::File(format!(
-                "{}: {}\nWhat is written goes by the older VAT, and a commit ends the disc with it; on a CD-R that cannot be undone. --force goes on all the same",
+                "{}: {}\nWhat is written goes by the older VAT, and a commit ends the disc with it; on a CD-R that cannot be undone. \
+                 --force goes on all the same",
                 image.display(),
                 self.warning().unwrap_or_default()
             ))),

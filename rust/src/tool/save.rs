@@ -1,7 +1,7 @@
 //! Blocks saved from files.
 
 use super::args::{missing, Args};
-use super::commits::{commit_and_tell, open_to_write};
+use super::commits::{commit_and_tell, open_to_commit};
 use super::entry::{Choice, Entry, AS_IT_WAS, CUT, FORCE};
 use super::fit::{self, Told};
 use super::images::{finish, input, load_to_write};
@@ -55,7 +55,7 @@ fn save(args: &mut Args, out: &mut Outputs) -> Done {
     let paths = args.next_paths("FILE")?.into_iter();
     let files = paths.map(|path| input_for(&image, &path, packet).map(|bytes| (path, bytes))).collect::<Result<_, _>>()?;
     let load = Load { word, files, packet, commits, cut };
-    let answer = open_to_write(&mut image, args.has("--force"), out).and_then(|open| save_all(open, &load, out));
+    let answer = open_to_commit(&mut image, args.has("--force"), out).and_then(|open| save_all(open, &load, out));
     finish(&mut image, answer, cut, out)
 }
 

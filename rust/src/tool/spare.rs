@@ -36,8 +36,7 @@ fn spare(args: &mut Args, out: &mut Outputs) -> Done {
     let cut = args.cut()?;
     let zeros = args.has("--zeros");
     let given = path.map(|path| input(Path::new(&path), PACKET_BYTES)).transpose()?;
-    // nothing is passed over on a rewritable disc, and none other is spared on
-    let answer = open_to_write(&mut image, true, out).and_then(|open| spare_it(open, b, given, zeros, cut));
+    let answer = open_to_write(&mut image).and_then(|open| spare_it(open, b, given, zeros, cut));
     finish(&mut image, answer, cut, out)
 }
 
