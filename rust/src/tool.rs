@@ -408,6 +408,7 @@ mod tests {
             ("text".into(), b"one".to_vec()),
             ("three".into(), vec![3; 3 * 2048]),
             ("packet".into(), vec![4; 65_536]),
+            ("map".into(), b"0x0 + 1\n0 819200 +\n".to_vec()),
         ]));
         for line in [
             "make ./d.img --sectors 400 --write-once",
@@ -424,7 +425,7 @@ mod tests {
     }
 
     /// Every command, done, turned down, cut and wrong.
-    const LINES: [&str; 43] = [
+    const LINES: [&str; 45] = [
         "help",
         "help save",
         "help volume",
@@ -438,6 +439,7 @@ mod tests {
         "marks ./e.img",
         "marks ./d.img --set unreadable 290 1",
         "marks ./d.img --set blank 288 1",
+        "marks ./d.img --from-ddrescue ./map --blank-from 293",
         "list ./d.img",
         "list ./r.img --all",
         "read ./d.img 0 3",
@@ -468,12 +470,16 @@ mod tests {
         "report ./d.img",
         "history ./e.img",
         "map ./r.img ./r.svg",
+        "demo",
     ];
 
     #[test]
     fn status_and_files_are_those_of_a_run_that_was_not_hindered() {
         let folder = Folder::new();
         let discs = discs(&folder);
+        for entry in ENTRIES {
+            assert!(LINES.iter().any(|line| line.starts_with(entry.name)), "{} is not tried", entry.name);
+        }
         for line in LINES {
             folder.lay(&discs);
             let (out, err) = (Counted::new(None), Counted::new(None));

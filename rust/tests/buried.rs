@@ -18,8 +18,9 @@ fn with_commits(name: &str) -> Folder {
 }
 
 /// Commands that read the disc as it is opened, and those that write to it.
-const READING: [&[&str]; 9] = [
+const READING: [&[&str]; 10] = [
     &["info", "d.img"],
+    &["info", "--json", "d.img"],
     &["list", "d.img"],
     &["read", "d.img", "0"],
     &["export", "d.img", "copy"],

@@ -43,18 +43,21 @@ fn summarize(args: &Args, path: &Path) -> Result<Summary, Failure> {
     Summary::new(&load(args, path)?)
 }
 
+/// Says what the opening passed over.
+fn warn(summary: &Summary, path: &Path, out: &mut Outputs) {
+    if let Some(passed) = summary.opened.as_ref().ok().and_then(|opened| opened.passed()) {
+        passed.warn(path, out);
+    }
+}
+
 fn as_text(args: &Args, path: &Path, out: &mut Outputs) -> Done {
     let summary = summarize(args, path)?;
     for (name, words) in summary.lines() {
         out.line(format_args!("{name:<12}  {words}"));
     }
+    warn(&summary, path, out);
     match &summary.opened {
-        Ok(opened) => {
-            if let Some(passed) = opened.passed() {
-                passed.warn(path, out);
-            }
-            Ok(())
-        }
+        Ok(_) => Ok(()),
         Err((words, why)) => Err(Failure::Refused(words.clone(), *why)),
     }
 }
@@ -79,6 +82,7 @@ fn all_as_json(args: &Args, paths: &[impl AsRef<Path>], out: &mut Outputs) -> Do
         let mut parts = vec![("image", Json::text(path.to_string_lossy()))];
         match summarize(args, path) {
             Ok(summary) => {
+                warn(&summary, path, out);
                 status = status.max(summary.opened.is_err().into());
                 parts.extend(summary.json());
             }
