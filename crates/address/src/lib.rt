@@ -1,6 +1,8 @@
 // Addresses and their translation: document 01, "The disc and its addresses", after 004, section 3.
 // Each address has a type of its own, so that translation alone turns one into another.
 // The layers above may count on an answer for every argument: the address, or the first refusal that applies.
+#![tactic(auto)]
+
 ghost use Rattle.std.specs.Prelude.{◌≡◌, ◌+◌, ◌<◌, ◌^◌};
 ghost use Rattle.refusal.specs.Number.{verdict_number};
 ghost use Rattle.refusal.specs.Tests.{first};
@@ -16,37 +18,37 @@ pub const NONE: u32 = 0xffffffff;
 pub const MOST_SECTORS: u64 = 1048576;
 
 // A place in the VAT.
-#[derive(Drop)]
+#[derive(Clone, Copy)]
 pub struct VirtualAddress(pub u32);
 
 // A place in the partition.
-#[derive(Drop)]
+#[derive(Clone, Copy)]
 pub struct LogicalAddress(pub u32);
 
 // A sector on the disc, as the device is asked for it.
-#[derive(Drop)]
+#[derive(Clone, Copy)]
 pub struct PhysicalAddress(pub u32);
 
 // A sector as it appears on the medium, before any mapping by the device.
-#[derive(Drop)]
+#[derive(Clone, Copy)]
 pub struct MediaBlockAddress(pub u32);
 
 // The partition: it starts at sector S and has L sectors.
-#[derive(Drop)]
+#[derive(Clone, Copy)]
 pub struct Span {
     pub start: u32,
     pub length: u32,
 }
 
 // Where a translation into the partition ends.
-#[derive(Drop)]
+#[derive(Clone, Copy)]
 pub enum ToLogical {
     At(LogicalAddress),
     Refused(Refusal),
 }
 
 // Where a translation to the disc ends.
-#[derive(Drop)]
+#[derive(Clone, Copy)]
 pub enum ToPhysical {
     At(PhysicalAddress),
     Refused(Refusal),

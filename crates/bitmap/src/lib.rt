@@ -1,6 +1,8 @@
 // The space bitmap of ECMA-167 4/14.12 (02, slip 10): whether lent bytes are that of L blocks, the state of its blocks, and
 // how many are free. The layers above may count on `fits`, which is line 31, on the two scans, and on `count`, a call that
 // answers for any bytes.
+#![tactic(auto)]
+
 ghost use Rattle.std.specs.Prelude.{◌≡◌, ℕ, ◌+◌, ◌-◌, ◌*◌, ◌^◌, ◌≤◌, ◌<◌, length};
 ghost use Rattle.bitmap.specs.Bits.{free_from};
 ghost use Rattle.bitmap.specs.Formed.{tag_fits, bitmap_fits};
@@ -37,7 +39,7 @@ pub const ALLOCATED: u8 = 0;
 pub const FREE: u8 = 1;
 
 // The number of free blocks, or why it is not told.
-#[derive(Drop)]
+#[derive(Clone, Copy)]
 pub enum Counted {
     Free(u32),
     Refused(Refusal),
@@ -86,7 +88,7 @@ pub fn fits(b: &[u8], l: u32) -> bool
 // ---- the state of blocks: inside the layers, whose calls have tested line 31 before
 
 // Some bits in a row, lowest first: a one where the block is in the state asked for.
-#[derive(Drop)]
+#[derive(Clone, Copy)]
 pub struct Window {
     pub bits: u64,
     pub count: usize,

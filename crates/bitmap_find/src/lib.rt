@@ -1,5 +1,7 @@
 // The free run of a wanted length that is nearest to a block (02, slip 10), 64 bits at a time.
 // The layers above may count on `find`, a call that answers for any bytes.
+#![tactic(auto)]
+
 ghost use Rattle.std.specs.Prelude.{◌≡◌, ℕ, ◌+◌, ◌-◌, ◌*◌, ◌≤◌, ◌<◌, min, length};
 ghost use Rattle.bitmap_find.specs.Nearest.{nearest, Nearest, Finds};
 ghost use Rattle.bitmap_find.specs.Runs.{Lowest, Highest, Clear, Folded};
@@ -20,7 +22,7 @@ const STEP_GROWTH: usize = 8;
 const MOST_STEP: usize = 1 << 30;
 
 // A first block, or why there is none.
-#[derive(Drop)]
+#[derive(Clone, Copy)]
 pub enum Found {
     At(u32),
     Refused(Refusal),

@@ -1,6 +1,8 @@
 // Blocks taken and given back, the tag's CRC and checksum renewed and its CRC length kept (02, slip 10).
 // The layers above may count on `take` and `give_back`, calls that answer for any bytes, and on the propositions of
 // specs/Promises.antt.
+#![tactic(auto)]
+
 ghost use Rattle.std.specs.Prelude.{◌≡◌, ℕ, ◌+◌, ◌-◌, ◌*◌, ◌^◌, ◌≤◌, ◌<◌, length, get_or};
 ghost use Rattle.fields.specs.Number.{field};
 ghost use Rattle.tag.specs.Sound.{renewed};

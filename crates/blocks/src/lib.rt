@@ -2,6 +2,8 @@
 // Opening, reading and making are calls of both kinds, told by the map list; the others are for one kind, and
 // refuse the other with line 7. Each promise covers the answer and every lent byte after the call, refusals
 // too. No call has a requires.
+#![tactic(auto)]
+
 ghost use Rattle.std.specs.Prelude.{◌≡◌, ℕ};
 ghost use Rattle.model.specs.Disc.{disc as disc_of};
 ghost use Rattle.model.specs.Examine.{setting, write_once};

@@ -1,6 +1,8 @@
 // What is counted and found in a space bitmap, as the numbers that C lends and is given (document 02, slip 10).
 // The layers above count on count and find: each answers for any bytes and numbers, with the number of the first refusal
 // that applies. A result of another length than stated is line 3, which stands before 31.
+#![tactic(auto)]
+
 ghost use Rattle.std.specs.Prelude.{◌≡◌};
 ghost use Rattle.bitmap.specs.Counted.{counted_number};
 ghost use Rattle.bitmap_find.specs.Nearest.{found_number};

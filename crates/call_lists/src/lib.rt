@@ -2,6 +2,8 @@
 // "The plain store", its last paragraph).
 // The layers above count on read_maps, write_maps and look_up: each answers for any numbers and bytes, with the
 // number of the first refusal that applies.
+#![tactic(auto)]
+
 ghost use Rattle.std.specs.Prelude.{◌≡◌, cond, List, ℕ, length, get_or, ltb};
 ghost use Rattle.refusal.specs.Number.{verdict_number};
 ghost use Rattle.address.specs.Told.{logical_number};

@@ -1,6 +1,8 @@
 // A record, a cut, an answer and a forecast as the numbers that C lends and is given (document 01, "Calls and their
 // sector writes"; "Why a call is turned down").
 // All functions here are inside the layers: where one has a `requires`, the exported calls have tested it.
+#![tactic(auto)]
+
 ghost use Rattle.std.specs.Prelude.{◌≡◌, [], ◌∷◌, length};
 ghost use Rattle.refusal.specs.Number.{number_of, verdict_number};
 ghost use Rattle.model.specs.Disc.{disc as disc_of};

@@ -3,6 +3,8 @@
 // NWA or the sequence, the last ICB (0 on a rewritable disc), and how many sectors the opening passed over.
 // Every function returns a number: 0 done, the line of a refusal (document 01, "Why a call is turned down"),
 // 255 for a call that was cut; those of the CRC return its value, and refuse nothing. No function has a requires.
+#![tactic(auto)]
+
 ghost use Rattle.std.specs.Prelude.{◌≡◌};
 ghost use Rattle.maps.specs.Kinds.{read_maps};
 ghost use Rattle.maps_written.specs.Writing.{written_or};

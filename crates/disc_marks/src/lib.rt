@@ -3,6 +3,8 @@
 // The layers above count on the equations: each function gives what the definition of its name gives.
 // All functions here are inside the layers. Line 1 and line 2 ask for nothing; the others are called where
 // those two have been tested, and say in a `requires` what they take from them.
+#![tactic(auto)]
+
 ghost use Rattle.std.specs.Prelude.{◌≡◌, List, ℕ, ◌+◌, ◌*◌, ◌≤◌, ◌<◌, max, length, eqb};
 ghost use Rattle.model.specs.Disc.{disc as disc_of, recorded_run, nwa, shapely, inside};
 ghost use Rattle.disc_marks.specs.Marks.{highest_of};

@@ -1,5 +1,7 @@
 // Whether sectors can be read: lines 25 and 14 (document 02, slip 5, "Blank or broken"). Every call that reads a sector
 // tests them here. The functions are inside the layers: line 1 has been tested, and the sectors are the disc's.
+#![tactic(auto)]
+
 ghost use Rattle.std.specs.Prelude.{◌≡◌, List, ℕ, ◌+◌, ◌≤◌, ◌<◌, length};
 ghost use Rattle.refusal.specs.Tests.{first};
 ghost use Rattle.model.specs.Disc.{disc as disc_of, mark as mark_of, first_mark, mark_tests};

@@ -1,6 +1,8 @@
 // Worked discs: the calls on a disc of 2,144 sectors, as the lines of the file stdin ask for them. Each line is
 // printed with what came of it; the file stdout has what document 01 gives. A line that begins with # is only
 // printed.
+#![tactic(auto)]
+
 mod calls;
 mod forecast;
 mod forge;

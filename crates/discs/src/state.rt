@@ -1,7 +1,7 @@
 // What is handed to the next call, and how much of what is lent: all numbers, so that a line can set any of them.
 use model::{Cut, Effect, Record};
 
-#[derive(Drop)]
+#[derive(Clone, Copy)]
 pub struct State {
     // the partition
     pub s: u32,

@@ -2,6 +2,8 @@
 // for all calls of both kinds; and lines 7 and 11 of the calls on a write-once disc.
 // The calls above match the verdict, and go on with the volume and their own tests.
 // All functions here are inside the layers: where one has a `requires`, the callers have tested it.
+#![tactic(auto)]
+
 ghost use Rattle.std.specs.Prelude.{◌≡◌, ℕ, ◌+◌, ◌%◌, ◌<◌, ◌≤◌, true, ◌&&◌, List, [], length, take, ◌==◌};
 ghost use Rattle.refusal.specs.declared.Verdict;
 ghost use Rattle.maps.specs.Kinds.{no_volume};
@@ -22,7 +24,7 @@ use refusal::{Refusal, Verdict};
 const TABLE: usize = MOST_ENTRIES as usize;
 
 // A verdict, and where it says Go the volume with its span.
-#[derive(Drop)]
+#[derive(Clone, Copy)]
 pub struct Examined {
     pub verdict: Verdict,
     pub volume: Volume,

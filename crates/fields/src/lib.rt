@@ -2,6 +2,8 @@
 // (document 01, first paragraph and "The disc and its addresses"); bytes compared; and numbers in a wider type.
 // The layers above count on the equations, and on the laws that what fields_written writes reads back.
 // All functions here are inside the layers: each requires that its field lies in the lent bytes.
+#![tactic(auto)]
+
 ghost use Rattle.std.specs.Prelude.{◌≡◌, ◌+◌, ◌≤◌, ◌<◌, length, take};
 ghost use Rattle.fields.specs.Bytes.{part, same};
 ghost use Rattle.fields.specs.Number.{field};

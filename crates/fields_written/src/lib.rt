@@ -2,6 +2,8 @@
 // regids and zeros (document 01, first paragraph and "The disc and its addresses").
 // The layers above count on what was written reading back, and on bytes elsewhere being kept.
 // All functions here are inside the layers: each requires that its field lies in the lent bytes.
+#![tactic(auto)]
+
 ghost use Rattle.std.specs.Prelude.{◌≡◌, ◌+◌, ◌*◌, ◌≤◌, length, replicate};
 ghost use Rattle.fields.specs.Bytes.{splice};
 ghost use Rattle.fields.specs.Number.{digits, quads};

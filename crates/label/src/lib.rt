@@ -1,4 +1,6 @@
 // Per mille to the nearest, an exact half going to the even number: document 02, slip 4.
+#![tactic(auto)]
+
 ghost use Rattle.std.specs.Prelude.{◌≡◌, ◌≤◌, ◌<◌};
 ghost use Rattle.label.specs.PerMille.{nearest, per_mille};
 

@@ -2,6 +2,8 @@
 // store", second paragraph). `run` opens the disc, hands each call what the last one left, and promises
 // demand 3 of the whole list, and of each opening how many sectors it passes over at most (02, slip 12). It
 // has no requires. It counts on `steps` for each call.
+#![tactic(auto)]
+
 ghost use Rattle.std.specs.Prelude.{◌≡◌, ◌+◌, ◌≤◌, length, set};
 ghost use Rattle.model.specs.Disc.{disc as disc_of};
 ghost use Rattle.model.specs.Examine.{setting};
@@ -21,7 +23,7 @@ const NUMBERS: usize = 6;
 
 // What `run` answers: the record in force after the list and how many sectors the last opening passed over
 // that was accepted; or why its own opening was turned down.
-#[derive(Drop)]
+#[derive(Clone, Copy)]
 pub enum Ran {
     Ended { held: Record, passed: u32 },
     Refused(Refusal),

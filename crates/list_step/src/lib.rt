@@ -2,6 +2,8 @@
 // 01, "Calls and their sector writes"; "The plain store", second paragraph). `store` counts on each call being
 // a step of the definition.
 // All functions here are inside the layers: where one has a `requires`, the callers have tested it.
+#![tactic(auto)]
+
 ghost use Rattle.std.specs.Prelude.{◌≡◌, ◌≤◌, min};
 ghost use Rattle.model.specs.Disc.{disc as disc_of};
 ghost use Rattle.model.specs.Lent.{lent};
@@ -27,7 +29,7 @@ const SPARE_PACKET: u32 = 5;
 const OPEN: u32 = 6;
 
 // What one call answers, a writing call or an opening.
-#[derive(Drop)]
+#[derive(Clone, Copy)]
 pub enum Answered {
     Done(Record),
     Cut,

@@ -1,6 +1,8 @@
 // Making a volume of either kind (document 01, "Calls and their sector writes"). Each call examines what it gets
 // and refuses with the first line of document 01 that applies; a refusal leaves every lent byte as it came. No
 // call has a requires.
+#![tactic(auto)]
+
 ghost use Rattle.std.specs.Prelude.{◌≡◌, [], ◌∷◌, ◌<◌, ◌*◌, ◌+◌, ◌≤◌, length, true};
 ghost use Rattle.model.specs.Disc.{disc as disc_of};
 ghost use Rattle.model.specs.Vat.{none};

@@ -2,6 +2,8 @@
 // "The disc and its addresses"; 004, 5.3.2 and 5.4.3).
 // The layers above count on read_maps, and maps_written on tables_in_range and tables_apart too: what a list
 // is tested for is the same where it is written.
+#![tactic(auto)]
+
 ghost use Rattle.std.specs.Prelude.{◌≡◌, true, List, ℕ, ◌≤◌, ◌<◌, length, take, drop};
 ghost use Rattle.refusal.specs.declared.Verdict;
 ghost use Rattle.fields.specs.Regid.{regid as regidOf};
@@ -74,7 +76,7 @@ const MOST_SIZE: u32 = 2048;
 const PLACES: usize = 4;
 
 // The two kinds of volume, and what the map list says of each.
-#[derive(Drop)]
+#[derive(Clone, Copy)]
 pub enum Kind {
     WriteOnce {
         partition: u16,
@@ -89,7 +91,7 @@ pub enum Kind {
 
 // A volume: its span on the disc, which no map list gives and the caller fills in, its kind, and on a
 // rewritable one the sectors of its sparing tables (0 in the places that are not used).
-#[derive(Drop)]
+#[derive(Clone, Copy)]
 pub struct Volume {
     pub span: Span,
     pub kind: Kind,
@@ -97,7 +99,7 @@ pub struct Volume {
 }
 
 // What reading a map list gives: a verdict, and the volume where it says Go.
-#[derive(Drop)]
+#[derive(Clone, Copy)]
 pub struct MapsRead {
     pub verdict: Verdict,
     pub volume: Volume,

@@ -1,6 +1,8 @@
 // The map list of a volume, written into lent bytes (document 01, "The disc and its addresses"; 004, 5.3.2 and
 // 5.4.3).
 // The layers above count on write_maps alone, and on the law that what it writes read_maps reads.
+#![tactic(auto)]
+
 ghost use Rattle.std.specs.Prelude.{◌≡◌, List, ℕ, ◌≤◌, ◌<◌, length, take, replicate};
 ghost use Rattle.fields.specs.Bytes.{splice};
 ghost use Rattle.fields.specs.Number.{quads};

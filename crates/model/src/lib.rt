@@ -1,6 +1,8 @@
 // Document 01 as definitions, in specs/, and the theorem over them, in proofs/. Here are only what the
 // calls share: numbers of the format, what a cut is, the record that a call hands on, what a call answers, and
 // the tests that packets of tables and of spares are put to.
+#![tactic(auto)]
+
 ghost use Rattle.std.specs.Prelude.{◌≡◌, List, ℕ};
 ghost use Rattle.model.specs.Sparing.{ground_of, whole_packet, outside};
 
@@ -35,7 +37,7 @@ pub const DONE: u32 = 0;
 pub const CUT: u32 = 255;
 
 // What becomes of the sector write at which the power fails.
-#[derive(Drop)]
+#[derive(Clone, Copy)]
 pub enum Effect {
     Old,
     Unreadable,
@@ -43,14 +45,14 @@ pub enum Effect {
 }
 
 // A power failure at a sector write of a call, counted from 1; 0, or past the last write, is none.
-#[derive(Drop)]
+#[derive(Clone, Copy)]
 pub struct Cut {
     pub at: u32,
     pub effect: Effect,
 }
 
 // What becomes of one sector write of a call.
-#[derive(Drop)]
+#[derive(Clone, Copy)]
 pub enum Landing {
     Done,
     Old,
@@ -61,14 +63,14 @@ pub enum Landing {
 // What goes with the lent table from one call to the next: on a write-once disc the number of entries N,
 // the next writable block NWA and the last ICB; on a rewritable one the number of entries R and the
 // sequence.
-#[derive(Drop)]
+#[derive(Clone, Copy)]
 pub enum Record {
     WriteOnce { entries: u32, next: u32, last: u32 },
     Rewritable { entries: u32, sequence: u32 },
 }
 
 // What a writing call answers.
-#[derive(Drop)]
+#[derive(Clone, Copy)]
 pub enum Reply {
     Done(Record),
     Cut,
@@ -76,14 +78,14 @@ pub enum Reply {
 }
 
 // What opening answers: the record, and how many sectors it passed over.
-#[derive(Drop)]
+#[derive(Clone, Copy)]
 pub enum Opened {
     Open { handed: Record, passed: u32 },
     Refused(Refusal),
 }
 
 // What reading answers: the block is in the lent bytes, or why not.
-#[derive(Drop)]
+#[derive(Clone, Copy)]
 pub enum Given {
     Block,
     Refused(Refusal),
@@ -91,7 +93,7 @@ pub enum Given {
 
 // What the forecast of a list of saves and commits answers (02, slip 9): NWA and N at its end; or the index from 0 of
 // the first item that would be refused, and why; or why the forecast is turned down.
-#[derive(Drop)]
+#[derive(Clone, Copy)]
 pub enum Forecast {
     Ends { next: u32, entries: u32 },
     Stops { index: u32, why: Refusal },

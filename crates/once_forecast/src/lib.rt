@@ -1,6 +1,8 @@
 // Will this trial fit (02, slip 9): what a list of saves and commits would come to on a write-once disc. It relies on
 // room for what each of them takes, as the calls themselves do, and looks at marks and table once, however long
 // the list is. It writes nothing, and has no requires.
+#![tactic(auto)]
+
 ghost use Rattle.std.specs.Prelude.{◌≡◌, List, ℕ, ◌≤◌};
 ghost use Rattle.refusal.specs.Tests.{first};
 ghost use Rattle.model.specs.Disc.{disc as disc_of};

@@ -1,6 +1,8 @@
 // The calls on a write-once disc that write no sector: opening, reading, freeing and fullness (document 01,
 // "Calls and their sector writes"). Each examines what it gets and refuses with the first
 // line of documents 01 and 02 that applies; a refusal leaves every lent byte as it came. No call has a requires.
+#![tactic(auto)]
+
 ghost use Rattle.std.specs.Prelude.{◌≡◌, ◌+◌, ◌*◌, ◌≤◌, ◌<◌, length};
 ghost use Rattle.model.specs.Disc.{disc as disc_of};
 ghost use Rattle.model.specs.Examine.{setting};
@@ -18,7 +20,7 @@ use vat_scan::Scanned;
 const MOST_COUNT: u64 = MOST_ENTRIES as u64;
 
 // What fullness answers: 1,000 times NWA / L to the nearest, or why not.
-#[derive(Drop)]
+#[derive(Clone, Copy)]
 pub enum Measured {
     PerMille(u32),
     Refused(Refusal),

@@ -1,6 +1,8 @@
 // Saving a block on a write-once disc (document 01, "Calls and their sector writes"). The call examines what it
 // gets and refuses with the first line of document 01 that applies; a refusal leaves every lent byte as it
 // came. It has no requires.
+#![tactic(auto)]
+
 ghost use Rattle.std.specs.Prelude.{◌≡◌, List, ◌≤◌, ℕ, length};
 ghost use Rattle.refusal.specs.Tests.{first};
 ghost use Rattle.model.specs.Disc.{disc as disc_of};

@@ -1,11 +1,13 @@
 // Why a call is turned down: a name for each line of document 01, section "Why a call is turned
 // down", and of document 02, and the line's number. Nothing else in the project writes a refusal's number.
+#![tactic(auto)]
+
 ghost use Rattle.std.specs.Prelude.{◌≡◌};
 ghost use Rattle.refusal.specs.Number.{number_of};
 
 // A variant for each line, in checking order. That is not the order of the numbers: those of document 02 stand where it
 // places them, 31 after 3, 30, 32 and 33 after 12, and 25 directly before 14. Line 18 never occurs (02, slip 1), and no variant has its number.
-#[derive(Drop)]
+#[derive(Clone, Copy)]
 pub enum Refusal {
     // Disc bytes are not 2,048 times the marks, sectors exceed the limit or are none, or a mark exceeds 2.
     DiscShape,
@@ -60,7 +62,7 @@ pub enum Refusal {
 }
 
 // What a list of tests comes to: the call goes on, or stops for a reason.
-#[derive(Drop)]
+#[derive(Clone, Copy)]
 pub enum Verdict {
     Go,
     Stop(Refusal),

@@ -1,6 +1,8 @@
 // The calls on a rewritable disc that write no sector: opening and reading (document 01, "Calls and their
 // sector writes"). Each examines what it gets and refuses with the first line of documents 01 and 02 that applies; a refusal leaves every
 // lent byte as it came. No call has a requires.
+#![tactic(auto)]
+
 ghost use Rattle.std.specs.Prelude.{◌≡◌};
 ghost use Rattle.model.specs.Disc.{disc as disc_of};
 ghost use Rattle.model.specs.Examine.{setting};

@@ -1,6 +1,8 @@
 // Saving a block or a packet on a rewritable disc (document 01, "Calls and their sector writes"). Each call
 // examines what it gets and refuses with the first line of documents 01 and 02 that applies; a refusal leaves every
 // lent byte as it came. No call has a requires.
+#![tactic(auto)]
+
 ghost use Rattle.model.specs.Disc.{disc as disc_of};
 ghost use Rattle.model.specs.Lent.{lent, SavesBlock, SavesPacket};
 ghost use Rattle.rewrite_save.specs.Placed.{JudgesBlock, JudgesPacket};

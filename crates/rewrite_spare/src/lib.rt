@@ -1,6 +1,8 @@
 // Sparing a packet of a rewritable disc (document 01, "Calls and their sector writes"; 02, slips 1 and 8). The call examines what
 // it gets and refuses with the first line of documents 01 and 02 that applies; a refusal leaves every lent byte as it
 // came. It has no requires.
+#![tactic(auto)]
+
 ghost use Rattle.std.specs.Prelude.{◌≡◌, true, not, ◌+◌, ◌*◌, ◌^◌, ◌≤◌, ◌<◌, length};
 ghost use Rattle.refusal.specs.declared.Verdict;
 ghost use Rattle.refusal.specs.Tests.{first};

@@ -1,6 +1,8 @@
 // What a save and a commit take on a write-once disc (document 01, "Calls and their sector writes"): line 12 of a save,
 // line 16 of both, and the record after each. The calls rely on it, and so does the forecast of a list of them.
 // All functions here are inside the layers: where one has a `requires`, the callers have tested it.
+#![tactic(auto)]
+
 ghost use Rattle.std.specs.Prelude.{◌≡◌, ◌≤◌, ◌<◌};
 ghost use Rattle.model.specs.Once.{entries_held, next_held, count_after, number_fits, room_to_save, saved_record, room_to_commit, icb_block, committed_record};
 

@@ -1,4 +1,6 @@
 // How the test programs print a case: its group and its name, a colon, each part of what came out after a blank.
+#![tactic(auto)]
+
 use libc::STDOUT_FILENO;
 use refusal::Verdict;
 

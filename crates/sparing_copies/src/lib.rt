@@ -2,6 +2,8 @@
 // current.
 // The layers above count on the equations: each function gives what the definition of its name gives.
 // All functions here are inside the layers: where one has a `requires`, the callers have tested it.
+#![tactic(auto)]
+
 ghost use Rattle.std.specs.Prelude.{◌≡◌, true, List, ℕ, ◌+◌, ◌*◌, ◌≤◌, ◌<◌, length};
 ghost use Rattle.refusal.specs.declared.Verdict;
 ghost use Rattle.fields.specs.Bytes.{same};
@@ -17,7 +19,7 @@ use sparing_copy::{COUNT_AT, ENTRIES_AT, ENTRY, Layout, SEQUENCE_AT};
 
 // The newest of some copies: whether one counts, the first of those with the highest sequence, and that
 // sequence.
-#[derive(Drop)]
+#[derive(Clone, Copy)]
 pub struct Newest {
     pub found: bool,
     pub at: PhysicalAddress,
@@ -26,7 +28,7 @@ pub struct Newest {
 
 // The current table: a verdict, and where it says Go the sector of a current copy, its sequence and the
 // number of its entries.
-#[derive(Drop)]
+#[derive(Clone, Copy)]
 pub struct Current {
     pub verdict: Verdict,
     pub at: PhysicalAddress,

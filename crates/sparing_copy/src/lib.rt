@@ -2,6 +2,8 @@
 // sector are one, and whether a list of spares can become one.
 // The layers above count on the equations: each function gives what the definition of its name gives.
 // All functions here are inside the layers: where one has a `requires`, the callers have tested it.
+#![tactic(auto)]
+
 ghost use Rattle.std.specs.Prelude.{◌≡◌, ◌+◌, ◌*◌, ◌/◌, ◌%◌, ◌<◌, ◌≤◌, true, false, length, drop};
 ghost use Rattle.maps.specs.Kinds.{absent};
 ghost use Rattle.model.specs.Sparing.{apart, apart_from, original_fits, originals_fit, may_follow, ascending, mapped_of, mapped_fit, original_clear, originals_clear, entries_fit, count_in, none_defective, named, copy_fits};
@@ -61,7 +63,7 @@ pub const DEFECTIVE: u32 = 0xfffffff0;
 
 // What a rewritable volume lies in: the volume, the sectors of the disc, and what its kind holds, taken out
 // once: the number of its tables and the bytes of each.
-#[derive(Drop)]
+#[derive(Clone, Copy)]
 pub struct Layout {
     pub volume: Volume,
     pub sectors: u32,

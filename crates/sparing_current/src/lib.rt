@@ -1,6 +1,8 @@
 // What every call on a rewritable disc examines: lines 1 to 8, 10 and 11 of document 01, "Why a call is turned
 // down"; and what the calls then go by: the layout of the volume, and the current sparing table.
 // All functions here are inside the layers: where one has a `requires`, the callers have tested it.
+#![tactic(auto)]
+
 ghost use Rattle.std.specs.Prelude.{◌≡◌, true, List, ℕ, ◌+◌, ◌*◌, ◌^◌, ◌≤◌, ◌<◌, length, take};
 ghost use Rattle.refusal.specs.declared.Verdict;
 ghost use Rattle.model.specs.Disc.{disc as disc_of, sector};
@@ -19,7 +21,7 @@ use sparing_copy::Layout;
 
 // What a disc is found to hold: a verdict, and where it says Go the layout, the sector of a current copy of
 // the sparing table, its sequence and the number of its entries.
-#[derive(Drop)]
+#[derive(Clone, Copy)]
 pub struct Looked {
     pub verdict: Verdict,
     pub layout: Layout,
@@ -30,7 +32,7 @@ pub struct Looked {
 
 // What a call is judged to be: a verdict, and where it says Go the layout and the sector of a current copy of
 // the sparing table.
-#[derive(Drop)]
+#[derive(Clone, Copy)]
 pub struct Judged {
     pub verdict: Verdict,
     pub layout: Layout,

@@ -1,6 +1,8 @@
 // Where a block of a rewritable disc is: lines 1 to 8, 10 to 12 and 30 of documents 01, "Why a call is turned down",
 // and 02, and the place of the block's packet. Reading a block, saving one and saving a packet begin here.
 // All functions here are inside the layers: where one has a `requires`, the callers have tested it.
+#![tactic(auto)]
+
 ghost use Rattle.std.specs.Prelude.{◌≡◌, true, ◌+◌, ◌*◌, ◌^◌, ◌≤◌, ◌<◌, length};
 ghost use Rattle.refusal.specs.declared.Verdict;
 ghost use Rattle.refusal.specs.Number.{verdict_number};
@@ -17,7 +19,7 @@ use model::Record;
 use refusal::{Refusal, Verdict};
 
 // What a call is judged to be: a verdict, and where it says Go the first sector of the block's packet.
-#[derive(Drop)]
+#[derive(Clone, Copy)]
 pub struct Placed {
     pub verdict: Verdict,
     pub first: PhysicalAddress,

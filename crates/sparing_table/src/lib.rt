@@ -2,6 +2,8 @@
 // with a sector, filled from one, and an entry looked for in it.
 // The layers above count on the equations: each function gives what the definition of its name gives.
 // All functions here are inside the layers: where one has a `requires`, the callers have tested it.
+#![tactic(auto)]
+
 ghost use Rattle.std.specs.Prelude.{◌≡◌, ◌+◌, ◌*◌, ◌%◌, ◌^◌, ◌≤◌, ◌<◌, length, take};
 ghost use Rattle.fields.specs.Bytes.{same};
 ghost use Rattle.fields.specs.Number.{field};
@@ -14,7 +16,7 @@ use address::{LogicalAddress, PhysicalAddress};
 use sparing_copy::{COUNT_AT, ENTRIES_AT, FREE, NUMBER};
 
 // The mapped start of the free entry of lowest index, if there is one.
-#[derive(Drop)]
+#[derive(Clone, Copy)]
 pub enum FirstFree {
     At(PhysicalAddress),
     Nothing,

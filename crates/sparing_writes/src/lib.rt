@@ -3,6 +3,8 @@
 // The layers above count on the equations: disc and marks are left as the definition's writes leave them,
 // whatever the cut, and the order is the definition's. All functions here are inside the layers: where one
 // has a `requires`, the callers have tested it.
+#![tactic(auto)]
+
 ghost use Rattle.std.specs.Prelude.{◌≡◌, true, cond, ◌++◌, ℕ, ◌+◌, ◌*◌, ◌^◌, ◌≤◌, ◌<◌, length, get_or, take, eqb};
 ghost use Rattle.model.specs.Disc.{disc as disc_of, sector};
 ghost use Rattle.model.specs.Writes.{write, writes};
@@ -17,7 +19,7 @@ use model::Cut;
 use sparing_copy::Layout;
 
 // Sectors of tables: the first `count` of four places.
-#[derive(Drop)]
+#[derive(Clone, Copy)]
 struct Chosen {
     places: [PhysicalAddress; 4],
     count: usize,

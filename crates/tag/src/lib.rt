@@ -2,6 +2,8 @@
 // The layers above may count on both as specs/ defines them: the checksum of any tag, the CRC of any bytes from any start;
 // and on a tag being tested and renewed alike, whatever it is the tag of.
 // The CRC takes a word of four bytes at a time, and a tail of up to three by the byte (02, slip 3).
+#![tactic(auto)]
+
 ghost use Rattle.std.specs.Prelude.{◌≡◌, ◌+◌, ◌*◌, ◌%◌, ◌<◌, ◌≤◌, length, bit_xor};
 ghost use Rattle.tag.specs.Checksum.{total, checksum_of};
 ghost use Rattle.tag.specs.Crc.{byte_step, crc_from};

@@ -3,6 +3,8 @@
 // The layers above count on the bytes being those of the model's file: its parts, and written_data.
 // All functions here are inside the layers: each requires what its callers have shown, at most 4,096 entries
 // among it.
+#![tactic(auto)]
+
 ghost use Rattle.std.specs.Prelude.{◌≡◌, ◌+◌, ◌*◌, ◌%◌, ◌≤◌, ◌<◌, min, ltb, length, take};
 ghost use Rattle.fields.specs.Bytes.{part};
 ghost use Rattle.model.specs.VatWritten.{file_bytes, data_sectors, written_data};

@@ -1,6 +1,8 @@
 // The ICB of a VAT (document 01, "The VAT and its ICB"): its tag, its File Entry and its extents.
 // The layers above count on the equations: each function gives what the definition of its name gives.
 // All functions here are inside the layers: where one has a `requires`, the callers have tested it.
+#![tactic(auto)]
+
 ghost use Rattle.std.specs.Prelude.{◌≡◌, true, ◌||◌, List, ℕ, ◌+◌, ◌≤◌, ◌<◌, length, eqb};
 ghost use Rattle.model.specs.Disc.{disc as disc_of};
 ghost use Rattle.model.specs.Vat.{tag_fits, form, file_length, attributes, allocation, entry_fits, extents, allocation_fits};

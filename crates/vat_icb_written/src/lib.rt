@@ -2,6 +2,8 @@
 // The layers above count on the bytes being those of the model's written_icb.
 // All functions here are inside the layers: each requires what its callers have shown, at most 4,096 entries
 // among it.
+#![tactic(auto)]
+
 ghost use Rattle.std.specs.Prelude.{◌≡◌, ◌++◌, ◌≤◌, length, take, replicate};
 ghost use Rattle.model.specs.VatWritten.{data_sectors, written_form, filled, written_allocation, written_icb};
 ghost use Rattle.vat_icb_written.specs.Parts.{allocation_bytes, entry_head, tag_of};

@@ -1,6 +1,8 @@
 // A lent VAT file (document 01, "The VAT and its ICB"; "An entry can be looked up in a lent VAT file without loading a table").
 // The layers above count on look_up, count_entries and read_previous: each answers for any bytes, with the first refusal
 // that applies. VatFile is a view of such bytes, with the same answers.
+#![tactic(auto)]
+
 ghost use Rattle.std.specs.Prelude.{◌≡◌};
 ghost use Rattle.refusal.specs.Tests.{first};
 ghost use Rattle.vat_look_up.specs.File.{file_tests, LooksUp, CountsEntries, ReadsPrevious};
@@ -20,14 +22,14 @@ const PREVIOUS: usize = 4;
 const MOST: usize = MOST_ENTRIES as usize;
 
 // The number of entries, or why there is none.
-#[derive(Drop)]
+#[derive(Clone, Copy)]
 pub enum Counted {
     Entries(u32),
     Refused(Refusal),
 }
 
 // The logical block of the previous VAT ICB, none, or why it is not told.
-#[derive(Drop)]
+#[derive(Clone, Copy)]
 pub enum ToPrevious {
     At(LogicalAddress),
     None,
@@ -98,7 +100,7 @@ pub fn read_previous(file: &[u8]) -> ToPrevious
 }
 
 // A view of the bytes of a VAT file. Any bytes can be viewed: its functions test them.
-#[derive(Drop)]
+#[derive(Clone, Copy)]
 pub struct VatFile<'a> {
     pub bytes: &'a [u8],
 }

@@ -2,6 +2,8 @@
 // The layers above count on passes, entry_count and fill: each gives what the definition of its name gives.
 // The file of an ICB is never copied: its bytes are read by position, through its extents, where they stand.
 // All functions here are inside the layers: where one has a `requires`, the callers have tested it.
+#![tactic(auto)]
+
 ghost use Rattle.std.specs.Prelude.{◌≡◌, true, List, ℕ, ◌+◌, ◌-◌, ◌*◌, ◌/◌, ◌≤◌, ◌<◌, length, get_or};
 ghost use Rattle.fields.specs.Number.{words};
 ghost use Rattle.fields.specs.Bytes.{part, splice};
@@ -27,7 +29,7 @@ const TAIL: u64 = 36;
 // ---- the file, by position
 
 // Bytes of a file that stand together on the disc: where they start, and how many there are.
-#[derive(Drop)]
+#[derive(Clone, Copy)]
 struct Run {
     at: usize,
     bytes: u64,

@@ -3,6 +3,8 @@
 // The layers above count on scan: it ends where the definition's scan ends.
 // All functions here are inside the layers: they are called where lines 1 and 2 have been tested, and say in a
 // `requires` what they take from them.
+#![tactic(auto)]
+
 ghost use Rattle.std.specs.Prelude.{◌≡◌, false, List, ℕ, ◌+◌, ◌≤◌, ◌<◌};
 ghost use Rattle.model.specs.Disc.{disc as disc_of};
 ghost use Rattle.model.specs.Vat.{vat_icb, scan as scanned};
@@ -17,7 +19,7 @@ use vat_icb::{FILE_ENTRY, SECTOR_BYTES};
 const STEP: u32 = 8;
 
 // Where the scan for a VAT ICB ends: at a logical block, or having found none.
-#[derive(Drop)]
+#[derive(Clone, Copy)]
 pub enum Scanned {
     At(LogicalAddress),
     Nowhere,

@@ -1,5 +1,7 @@
 // Published vectors and worked cases of documents 01 and 02 through the proved functions, a line a case: the
 // group, the name, then what came out. The file stdout beside src/ has what the documents give.
+#![tactic(auto)]
+
 mod addresses;
 mod bitmaps;
 mod crcs;
