@@ -15,7 +15,6 @@ use Rattle.fields.specs.Number.{value, digits, field, words, quads}
 use Rattle.fields.specs.Regid.{identifier, regid, has_regid}
 use Rattle.tag.specs.Checksum.{total, checksum_of}
 use Rattle.tag.specs.Crc.{bit_step, bits_of, bits_from, byte_step, crc_from}
-use Rattle.tag.specs.Sound.{crc_of, sound}
 use Rattle.maps.specs.Walk.{before as before_rest, first_length, first_whole, walk_up_to, walk}
 use Rattle.maps.specs.Kinds.{virtual_name, type_one, type_two, is_write_once, volume_with, volume_of, tables_apart, tables_in, tables_of, kind_tests, judged, answered, volume_in, read_maps}
 use Rattle.maps.specs.Written.{type_one_map, type_two_map, maps_of}
@@ -60,7 +59,7 @@ record Computed : Type 0 where
   begins : start six named ≡ store (blank ∷ []) (blank ∷ [])
 
 computed : Computed
-unfolding bytes_only six named lent write_once is_once volume before_rest first_length first_whole walk_up_to walk virtual_name type_one type_two is_write_once volume_with volume_of tables_apart tables_in tables_of kind_tests judged answered volume_in read_maps type_one_map type_two_map maps_of need part splice same join value digits field words quads identifier regid has_regid total checksum_of bit_step bits_of bits_from byte_step crc_from crc_of sound sector mark recorded nwa known shapely inside landing landed write writes no_cut vat_name none file_fits count_of entries_of previous_of below_or_none all_below tag_fits form file_length attributes allocation entry_fits allocation_fits file_of table_fits passes vat_icb vat_file scan file_bytes data_sectors written_file filled written_allocation written_form written_entry tag_with written_tag written_icb shape_tests place_tests examined lent_table next_on is_found found_at newest newest_file open_once_tests found_record passed_over open_verdict record_on passed_on opened_by opening start blocks_on entry_slots entry_slot slot_at
+unfolding bytes_only six named lent write_once is_once volume before_rest first_length first_whole walk_up_to walk virtual_name type_one type_two is_write_once volume_with volume_of tables_apart tables_in tables_of kind_tests judged answered volume_in read_maps type_one_map type_two_map maps_of need part splice same join value digits field words quads identifier regid has_regid total checksum_of bit_step bits_of bits_from byte_step crc_from sector mark recorded nwa known shapely inside landing landed write writes no_cut vat_name none file_fits count_of entries_of previous_of below_or_none all_below tag_fits form file_length attributes allocation entry_fits allocation_fits file_of table_fits passes vat_icb vat_file scan file_bytes data_sectors written_file filled written_allocation written_form written_entry tag_with written_tag written_icb shape_tests place_tests examined lent_table next_on is_found found_at newest newest_file open_once_tests found_record passed_over open_verdict record_on passed_on opened_by opening start blocks_on entry_slots entry_slot slot_at
 computed = record { once = refl; maps = refl; opens = refl; whole = refl; begins = refl }
 
 abbrev st : State

@@ -14,9 +14,7 @@ use Rattle.fields.specs.Number.{value, digits, field}
 use Rattle.fields.proofs.Laws.{part-all, part-append, part-append-add, field-append, field-append-add, field-same, value-digits}
 use Rattle.tag.specs.Checksum.{checksum_of}
 use Rattle.tag.specs.Crc.{crc_from}
-use Rattle.tag.specs.Sound.{crc_of}
 use Rattle.tag.proofs.Laws.{crc-below, checksum-below}
-use Rattle.tag.proofs.Renewed.{sound-so}
 use Rattle.model.specs.Disc.{Disc, recorded_run, joined}
 use Rattle.model.specs.Vat.{below_or_none, all_below, tag_fits, form, file_length, attributes, allocation, entry_fits, pairs, up_to_zero, extents, blocks_in, sizes_fit, sizes, blocks_fit, contents, allocation_fits, file_of, table_fits, passes}
 use Rattle.model.specs.VatWritten.{file_bytes, data_sectors, written_file, filled, written_data, written_allocation, written_form, written_entry, tag_with, written_tag, written_icb}
@@ -273,13 +271,13 @@ module _ (k : ℕ) (t : List ℕ) (previous : ℕ) (few : length t ≤ 4096) (sm
 
   -- its tag fits
   icb-tag : tag_fits k (written_icb k t previous) ≡ true
-  unfolding tag_fits crc_of icb_sum icb_crc
+  unfolding tag_fits icb_sum icb_crc
   icb-tag =
       let b : List ℕ = written_icb k t previous in
       let f = icb-fields in
       let long : 160 + length (written_allocation k t previous) ≡ field b 10 2 = sym (f.long-field ∙ length-entry k t previous) in
       let most : length (written_allocation k t previous) ≤ 1871 = allocation-most k t previous in
-      let crc : field b 8 2 ≡ crc_of b =
+      let crc : field b 8 2 ≡ crc_from 0 (part b 16 (field b 10 2)) =
       f.crc-field ∙ sym (ap (crc_from 0) (ap (part b 16) f.long-field ∙ icb-entry)) in
       both (eq-eqb (field b 0 2) 261 f.identifier)
       (both (eq-eqb (field b 2 2) 2 f.version)
@@ -287,7 +285,8 @@ module _ (k : ℕ) (t : List ℕ) (previous : ℕ) (few : length t ≤ 4096) (sm
       (both (le-leb 160 (field b 10 2) (omega arith))
       (both (le-leb (field b 10 2) 2032 (omega arith))
       (both (eq-eqb (field b 12 4) k f.block-field)
-      (sound-so b (f.sum-byte ∙ sym f.summed) crc))))))
+      (both (eq-eqb (get_or b 4 0) (checksum_of b) (f.sum-byte ∙ sym f.summed))
+      (eq-eqb (field b 8 2) (crc_from 0 (part b 16 (field b 10 2))) crc)))))))
 
   -- embedded, the form reads as 3
   embedded-read : 176 + file_bytes (length t) < 2048 → form (written_icb k t previous) ≡ 3

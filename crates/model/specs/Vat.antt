@@ -4,7 +4,8 @@ use Rattle.std.specs.Prelude.{ℕ, zero, suc, ◌+◌, ◌-◌, ◌/◌, ◌%◌
 use Rattle.fields.specs.Bytes.{part}
 use Rattle.fields.specs.Number.{field, words}
 use Rattle.fields.specs.Regid.{has_regid}
-use Rattle.tag.specs.Sound.{sound}
+use Rattle.tag.specs.Checksum.{checksum_of}
+use Rattle.tag.specs.Crc.{crc_from}
 use Rattle.address.specs.Translation.{sector_at}
 use Rattle.model.specs.Disc.{Disc, sector, recorded, recorded_run, joined}
 unfoldable pub use Rattle.address.specs.Translation.{none}
@@ -51,7 +52,8 @@ tag_fits k b =
     && (leb 160 (field b 10 2)
     && (leb (field b 10 2) 2032
     && (eqb (field b 12 4) k
-    && sound b)))))
+    && (eqb (get_or b 4 0) (checksum_of b)
+    && eqb (field b 8 2) (crc_from 0 (part b 16 (field b 10 2)))))))))
 
 -- the low three bits of byte 34: 0 is short_ads, 3 is embedded
 unfoldable pub form : List ℕ → ℕ

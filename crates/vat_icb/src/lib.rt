@@ -10,7 +10,10 @@ ghost use Rattle.vat_icb.specs.Extents.{extent_fits, extents_fit, pairs_fit, emb
 
 use address::LogicalAddress;
 use model::SECTOR;
-use tag::{CRC_LENGTH_AT, IDENTIFIER_AT, LOCATION_AT, RESERVED_AT, VERSION_AT};
+use tag::{
+    CHECKSUM_AT, CRC_AT, CRC_LENGTH_AT, IDENTIFIER_AT, LOCATION_AT, RESERVED_AT, TAG_BYTES,
+    VERSION_AT,
+};
 
 // The bytes of a sector, as an extent counts them.
 pub const SECTOR_BYTES: u32 = SECTOR as u32;
@@ -80,7 +83,12 @@ pub fn tag_fits(k: LogicalAddress, icb: &[u8]) -> bool
     if fields::read32(icb, LOCATION_AT) != k.0 {
         return false;
     }
-    tag::is_sound(icb)
+    if icb[CHECKSUM_AT] != tag::checksum(icb) {
+        return false;
+    }
+    let end = TAG_BYTES + n as usize;
+    let covered = &icb[TAG_BYTES..end];
+    fields::read16(icb, CRC_AT) == tag::crc(covered, 0)
 }
 
 // ---- the File Entry

@@ -7,12 +7,11 @@ use native.Mathlib.Nat.{zero-add}
 use lib.ListN.{length, take, drop, set, replicate, length-append, length-replicate}
 use lib.Seq.{take_at, length-take-le}
 use borrow.Author.Tests.{lt-ltb, le-ltb}
-use Rattle.fields.specs.Bytes.{part, splice, join}
-use Rattle.fields.specs.Number.{value, field, digits}
+use Rattle.fields.specs.Bytes.{splice, join}
+use Rattle.fields.specs.Number.{digits}
 use Rattle.fields.proofs.Laws.{length_digits, part-all, splice-append, drop-zeros}
 use Rattle.tag.specs.Checksum.{checksum_of}
 use Rattle.tag.specs.Crc.{crc_from}
-use Rattle.tag.specs.Sound.{crc_of, covered as with_crc, renewed}
 use Rattle.tag.proofs.Laws.{checksum-below}
 use Rattle.model.specs.VatWritten.{file_bytes, data_sectors, written_file, filled, written_allocation, written_form, written_entry, tag_with, written_tag, written_icb}
 use Rattle.model.proofs.Basics.{by-lt}
@@ -147,64 +146,40 @@ entry-written n form size sectors a s c₀ c₁ c₂ c₃ c₄ c₅ c₆ c₇ es
 
 -- ---- the tag
 
--- bytes s with all fields but the checksum and the CRC put in, one after the other
-with_tag : List ℕ → ℕ → ℕ → List ℕ
-with_tag s k covered = splice (splice (splice (splice s 0 (digits 2 261)) 2 (digits 2 2)) 10 (digits 2 covered)) 12 (digits 4 k)
+-- bytes s with all fields but the checksum put in, one after the other
+with_tag : List ℕ → ℕ → ℕ → ℕ → List ℕ
+with_tag s k crc covered =
+    splice
+    (splice (splice (splice (splice s 0 (digits 2 261)) 2 (digits 2 2)) 8 (digits 2 crc)) 10 (digits 2 covered))
+    12 (digits 4 k)
 
 -- 16 zeros with them put in
-tag-in-zeros : (k covered : ℕ) → with_tag (replicate 16 0) k covered ≡ tag_of 0 k 0 covered
+tag-in-zeros : (k crc covered : ℕ) → with_tag (replicate 16 0) k crc covered ≡ tag_of 0 k crc covered
 unfolding with_tag tag_of splice digits join
-tag-in-zeros k covered = refl
+tag-in-zeros k crc covered = refl
 
--- the fields written one after the other into lent bytes s that were cleared
-pub tag-written : (k covered : ℕ) (s c₀ c₁ c₂ c₃ c₄ : List ℕ)
-    → length s ≡ 16 → c₀ ≡ replicate (length s) 0 → c₁ ≡ splice c₀ 0 (digits 2 261) → c₂ ≡ splice c₁ 2 (digits 2 2) → c₃ ≡ splice c₂ 10 (digits 2 covered)
-    → c₄ ≡ splice c₃ 12 (digits 4 k)
-    → c₄ ≡ tag_of 0 k 0 covered
-unfolding with_tag
-tag-written k covered s c₀ c₁ c₂ c₃ c₄ es e₀ e₁ e₂ e₃ e₄ =
-    let chain : c₄ ≡ with_tag (replicate 16 0) k covered = cc in chain ∙ tag-in-zeros k covered
-
--- the checksum put in, before any bytes
-tag-summed : (sum k crc covered : ℕ) (rest : List ℕ) → sum < 256 → set (tag_of 0 k crc covered ++ rest) 4 sum ≡ tag_of sum k crc covered ++ rest
+-- the checksum put in
+tag-summed : (sum k crc covered : ℕ) → sum < 256 → set (tag_of 0 k crc covered) 4 sum ≡ tag_of sum k crc covered
 unfolding digits join tag_of
-tag-summed sum k crc covered rest h =
+tag-summed sum k crc covered h =
     let low : sum % 256 ≡ sum = omega arith in
     let high : sum / 256 % 256 ≡ 0 = omega arith in
     rw (low, high)
 
--- the CRC's length is read back
-pub tag-covers : (k covered : ℕ) (y rest : List ℕ) → covered < 65536 → y ≡ tag_of 0 k 0 covered → field (y ++ rest) 10 2 ≡ covered
-unfolding field part value tag_of join digits
-tag-covers k covered y rest h e = ap (λ (l : List ℕ). field (l ++ rest) 10 2) e ∙ omega arith
-
--- the CRC put in
-tag-crc : (k crc covered : ℕ) (rest : List ℕ) → splice (tag_of 0 k 0 covered ++ rest) 8 (digits 2 crc) ≡ tag_of 0 k crc covered ++ rest
-unfolding splice tag_of join digits
-tag-crc k crc covered rest = refl
-
--- the checksum does not see what is behind the tag
-tag-alone : (k crc covered : ℕ) (rest : List ℕ) → checksum_of (tag_of 0 k crc covered ++ rest) ≡ checksum_of (tag_of 0 k crc covered)
-unfolding checksum_of tag_of join digits
-tag-alone k crc covered rest = refl
-
--- what is behind it
-behind-tag : (k covered : ℕ) (rest : List ℕ) → drop 16 (tag_of 0 k 0 covered ++ rest) ≡ rest
-unfolding tag_of join digits
-behind-tag k covered rest = refl
-
--- renewed, the tag has the CRC of the bytes behind it, and its checksum
-renewed-tag : (k covered : ℕ) (rest : List ℕ) → covered < 65536 → renewed (tag_of 0 k 0 covered ++ rest) ≡ summed_tag k (crc_from 0 (take covered rest)) covered ++ rest
-unfolding renewed with_crc crc_of summed_tag part
-renewed-tag k n rest h =
-    let x : List ℕ = tag_of 0 k 0 n ++ rest in
-    let crc : ℕ = crc_from 0 (take n rest) in
-    let same : crc_of x ≡ crc = ap₂ (λ (m : ℕ) (l : List ℕ). crc_from 0 (take m l)) (tag-covers k n (tag_of 0 k 0 n) rest h refl) (behind-tag k n rest) in
-    let with-crc : with_crc x ≡ tag_of 0 k crc n ++ rest = ap (λ (m : ℕ). splice x 8 (digits 2 m)) same ∙ tag-crc k crc n rest in
-    let sum : ℕ = checksum_of (tag_of 0 k crc n) in
-    ap (λ (l : List ℕ). set l 4 (checksum_of l)) with-crc
-    ∙ ap (set (tag_of 0 k crc n ++ rest) 4) (tag-alone k crc n rest)
-    ∙ tag-summed sum k crc n rest (checksum-below (tag_of 0 k crc n))
+-- the fields written one after the other into lent bytes s that were cleared, the checksum last
+pub tag-written : (k crc covered sum : ℕ) (s c₀ c₁ c₂ c₃ c₄ c₅ : List ℕ)
+    → length s ≡ 16 → c₀ ≡ replicate (length s) 0 → c₁ ≡ splice c₀ 0 (digits 2 261) → c₂ ≡ splice c₁ 2 (digits 2 2) → c₃ ≡ splice c₂ 8 (digits 2 crc)
+    → c₄ ≡ splice c₃ 10 (digits 2 covered) → c₅ ≡ splice c₄ 12 (digits 4 k) → sum ≡ checksum_of c₅
+    → set c₅ 4 sum ≡ summed_tag k crc covered
+unfolding summed_tag with_tag
+tag-written k crc covered sum s c₀ c₁ c₂ c₃ c₄ c₅ es e₀ e₁ e₂ e₃ e₄ e₅ esum =
+    let bare : List ℕ = tag_of 0 k crc covered in
+    let chain : c₅ ≡ with_tag (replicate 16 0) k crc covered = cc in
+    let same : c₅ ≡ bare = chain ∙ tag-in-zeros k crc covered in
+    let summed : sum ≡ checksum_of bare = esum ∙ ap checksum_of same in
+    ap (λ (l : List ℕ). set l 4 sum) same
+    ∙ ap (set bare 4) summed
+    ∙ tag-summed (checksum_of bare) k crc covered (checksum-below bare)
 
 -- ---- the ICB
 
@@ -217,11 +192,6 @@ length-head n = refl
 length-tag : (k : ℕ) (e : List ℕ) → length (written_tag k e) ≡ 16
 unfolding written_tag tag_with join digits
 length-tag k e = refl
-
--- and so has one with no CRC yet
-length-bare : (k covered : ℕ) → length (tag_of 0 k 0 covered) ≡ 16
-unfolding tag_of join digits
-length-bare k covered = refl
 
 -- it is the tag with its checksum, of the CRC and the number of the entry's bytes
 tag-of-entry : (k : ℕ) (e : List ℕ) → summed_tag k (crc_from 0 e) (length e) ≡ written_tag k e
@@ -260,28 +230,12 @@ body-written k t s a b n previous ea eb =
     ∙ ap (λ (l : List ℕ). l ++ b) (take_at a (drop 176 s) 176 long)
     ∙ ap₂ (λ (l m : List ℕ). l ++ m) ea eb
 
--- and where it is renewed, its CRC ends in the sector
-pub icb-covered : (k : ℕ) (t x y : List ℕ) (n previous a : ℕ)
+-- bytes x that hold an entry behind 16 bytes, and the tag of that entry, y, in the place of those
+pub icb-written : (k : ℕ) (t x y : List ℕ) (n previous a crc : ℕ) → n ≤ length t
     → x ≡ (replicate 16 0 ++ entry_head n) ++ filled 1872 (written_allocation k (take n t) previous) → a ≡ allocation_bytes n
-    → y ≡ tag_of 0 k 0 (176 + a - 16)
-    → 16 + field (y ++ drop 16 x) 10 2 ≤ length (y ++ drop 16 x)
-icb-covered k t x y n previous a ex ea ey =
-    let allocated : List ℕ = written_allocation k (take n t) previous in
-    let most : length allocated ≤ 1872 = omega (arith, length-allocation k (take n t) previous, bytes_most (length (take n t))) in
-    let rest : length (drop 16 x) ≡ 2032 =
-    ap (λ (l : List ℕ). length (drop 16 l)) ex
-    ∙ length-append (entry_head n) (filled 1872 allocated)
-    ∙ omega (arith, length-head n, length-filled 1872 allocated most) in
-    let front : length y ≡ 16 = ap length ey ∙ length-bare k (176 + a - 16) in
-    let end : field (y ++ drop 16 x) 10 2 ≡ 176 + a - 16 = tag-covers k (176 + a - 16) y (drop 16 x) (omega (arith, bytes_most n)) ey in
-    omega (arith, bytes_most n, end, rest, front, length-append y (drop 16 x))
-
--- bytes x that hold an entry behind 16 bytes; the tag of that entry, y, in the place of those; and both once renewed, z
-pub icb-written : (k : ℕ) (t x y z : List ℕ) (n previous a : ℕ) → n ≤ length t
-    → x ≡ (replicate 16 0 ++ entry_head n) ++ filled 1872 (written_allocation k (take n t) previous) → a ≡ allocation_bytes n
-    → y ≡ tag_of 0 k 0 (176 + a - 16) → z ≡ renewed (y ++ drop 16 x)
-    → z ≡ written_icb k (take n t) previous
-icb-written k t x y z n previous a hn ex ea ey ez =
+    → crc ≡ crc_from 0 (take (176 + a - 16) (drop 16 x)) → y ≡ summed_tag k crc (176 + a - 16)
+    → y ++ drop 16 x ≡ written_icb k (take n t) previous
+icb-written k t x y n previous a crc hn ex ea ecrc ey =
     let long : length (take n t) ≡ n = length-take-le n t hn in
     let allocated : List ℕ = written_allocation k (take n t) previous in
     let entry : List ℕ = written_entry k (take n t) previous in
@@ -289,10 +243,10 @@ icb-written k t x y z n previous a hn ex ea ey ez =
     let rest : drop 16 x ≡ filled 2032 entry =
     ap (drop 16) ex ∙ sym (filled-append 2032 1872 (entry_head n) allocated (omega (arith, length-head n))) ∙ ap (filled 2032) parts in
     let covered : 176 + a - 16 ≡ length entry = omega (arith, length-entry k (take n t) previous, ap allocation_bytes long) in
-    let small : length entry < 65536 = omega (arith, length-entry k (take n t) previous, bytes_most (length (take n t))) in
-    ez
-    ∙ ap₂ (λ (l m : List ℕ). renewed (l ++ m)) (ey ∙ ap (tag_of 0 k 0) covered) rest
-    ∙ renewed-tag k (length entry) (filled 2032 entry) small
-    ∙ ap (λ (l : List ℕ). summed_tag k (crc_from 0 l) (length entry) ++ filled 2032 entry) (filled-front 2032 entry)
-    ∙ ap (λ (l : List ℕ). l ++ filled 2032 entry) (tag-of-entry k entry)
+    let same : crc ≡ crc_from 0 entry =
+    ecrc ∙ ap (crc_from 0) (ap (λ (m : ℕ). take m (drop 16 x)) covered ∙ ap (take (length entry)) rest ∙ filled-front 2032 entry) in
+    let tagged : y ≡ written_tag k entry =
+    ey ∙ ap (λ (c : ℕ). summed_tag k c (176 + a - 16)) same ∙ ap (summed_tag k (crc_from 0 entry)) covered ∙ tag-of-entry k entry in
+    ap (λ (l : List ℕ). l ++ drop 16 x) tagged
+    ∙ ap (λ (l : List ℕ). written_tag k entry ++ l) rest
     ∙ sym (icb-parts k (take n t) previous)

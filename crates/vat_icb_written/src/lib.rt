@@ -6,14 +6,17 @@
 
 ghost use Rattle.std.specs.Prelude.{◌≡◌, ◌++◌, ◌≤◌, length, take, replicate};
 ghost use Rattle.model.specs.VatWritten.{data_sectors, written_form, filled, written_allocation, written_icb};
-ghost use Rattle.vat_icb_written.specs.Parts.{allocation_bytes, entry_head, tag_of};
+ghost use Rattle.vat_icb_written.specs.Parts.{allocation_bytes, entry_head, summed_tag};
 
 use address::LogicalAddress;
-use tag::{CRC_LENGTH_AT, IDENTIFIER_AT, LOCATION_AT, TAG_BYTES, VERSION_AT};
+use tag::{CHECKSUM_AT, CRC_AT, CRC_LENGTH_AT, IDENTIFIER_AT, LOCATION_AT, TAG_BYTES, VERSION_AT};
 use vat_icb::{
     ALLOCATION_AT, ALLOCATION_LENGTH_AT, ATTRIBUTES_AT, BLOCK_AT, EMBEDDED, FILE_ENTRY, FORM_AT,
     INFORMATION_LENGTH_AT, PAIR, SHORT_ADS, STRATEGY, STRATEGY_AT, VERSION,
 };
+
+// What the CRC starts from.
+const CRC_START: u16 = 0;
 
 // Fields of a File Entry that are written and not read, and values as they are written.
 const ENTRIES_AT: usize = 24;
@@ -98,16 +101,19 @@ fn write_allocation(rest: &mut [u8], k: LogicalAddress, t: &[u32], n: u32, previ
     fields_written::write32(rest, BLOCK_AT, block);
 }
 
-// Writes the tag of a File Entry at logical block k, whose CRC is of so many bytes; CRC and checksum are left as 0.
-fn write_tag(front: &mut [u8], k: LogicalAddress, covered: u16)
+// Writes the tag of a File Entry at logical block k, with this CRC of so many bytes; the checksum last.
+fn write_tag(front: &mut [u8], k: LogicalAddress, crc: u16, covered: u16)
     requires { length front.old ≡ 16 }
-    ensures { front.new ≡ tag_of 0 k.0 0 covered }
+    ensures { front.new ≡ summed_tag k.0 crc covered }
 {
     fields_written::clear(front);
     fields_written::write16(front, IDENTIFIER_AT, FILE_ENTRY);
     fields_written::write16(front, VERSION_AT, VERSION);
+    fields_written::write16(front, CRC_AT, crc);
     fields_written::write16(front, CRC_LENGTH_AT, covered);
     fields_written::write32(front, LOCATION_AT, k.0);
+    let sum = tag::checksum(front);
+    front[CHECKSUM_AT] = sum;
 }
 
 // Writes the ICB at logical block k of the VAT of the first n entries.
@@ -120,7 +126,7 @@ pub fn write_icb(sector: &mut [u8], k: LogicalAddress, t: &[u32], n: u32, previo
     write_entry(&mut sector[..ALLOCATION_AT], n);
     write_allocation(&mut sector[ALLOCATION_AT..], k, t, n, previous);
     let end = ALLOCATION_AT + allocation_bytes(n) as usize;
+    let crc = tag::crc(&sector[TAG_BYTES..end], CRC_START);
     let covered = (end - TAG_BYTES) as u16;
-    write_tag(&mut sector[..TAG_BYTES], k, covered);
-    tag::renew(sector);
+    write_tag(&mut sector[..TAG_BYTES], k, crc, covered);
 }

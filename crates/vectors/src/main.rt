@@ -1,9 +1,8 @@
-// Published vectors and worked cases of documents 01 and 02 through the proved functions, a line a case: the
+// Published vectors and worked cases of document 01 through the proved functions, a line a case: the
 // group, the name, then what came out. The file stdout beside src/ has what the documents give.
 #![tactic(auto)]
 
 mod addresses;
-mod bitmaps;
 mod crcs;
 mod damaged;
 mod files;
@@ -21,5 +20,4 @@ fn main() {
     unwritten::run();
     addresses::run();
     files::run();
-    bitmaps::run();
 }

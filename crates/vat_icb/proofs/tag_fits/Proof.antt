@@ -1,13 +1,15 @@
 -- `vat_icb::tag_fits` meets its contract, test by test. Assumes nothing.
-use Prim.Native.Nat.{ℕ}
-use mathlib.Core.Path.{◌≡◌, sym, ap, ◌∙◌}
+use Prim.Native.Nat.{ℕ, ◌+◌, ◌-◌}
+use mathlib.Core.Path.{◌≡◌, sym, ap, ap₂, ◌∙◌}
 use mathlib.Core.Bool.{Bool, true, ◌&&◌}
 use native.Mathlib.Omega.{arith}
 use borrow.Author.Rules.{rules}
 use borrow.Author.Tests.{eq-eqb, ne_eqb, le-leb, lt-leb}
 use lib.Dec.{eqb, leb}
-use lib.ListN.{get_or}
+use lib.ListN.{get_or, take, drop}
+use Rattle.fields.specs.Bytes.{part}
 use Rattle.fields.specs.Number.{field}
+use Rattle.tag.specs.Crc.{crc_from}
 use Rattle.fields.proofs.Tests.{fails, holds}
 use Rattle.model.specs.Vat.{tag_fits}
 use Rattle.vat_icb.proofs.tag_fits.Statement.{statement}
@@ -82,17 +84,53 @@ unfolding tag_fits
 returns-6 c =
     past-5 c.before.before.before (fails _ (ne_eqb _ _ (λ e. c.if6.true (c.before.before.read32.ensures ∙ e))))
 
-is-sound-requires : tie.Need-is-sound-requires
-is-sound-requires c κs =
-    let n = c.before.before.before.before.before.read163 in
-    omega (arith, n.ensures)
+shared-slice-read-if7 : tie.Need-shared-slice-read-if7
+shared-slice-read-if7 c = search rules
+
+checksum-requires : tie.Need-checksum-requires
+checksum-requires c κs = search rules
 
 returns-7 : tie.Need-returns-7
 unfolding tag_fits
 returns-7 c =
-    let b = c.before in
+    let b = c.before.before.before in
     past-5 b.before.before.before
-    (holds (eq-eqb _ _ (sym b.before.before.read32.ensures ∙ b.if6.false)) c.is-sound.ensures)
+    (holds (eq-eqb _ _ (sym b.before.before.read32.ensures ∙ b.if6.false))
+    (fails _ (ne_eqb _ _ (λ e. c.if7.true (e ∙ sym c.before.checksum.ensures)))))
+
+cast-end : tie.Need-overflow-cast-end
+cast-end c = search rules
+
+add-end : tie.Need-overflow-add-end
+add-end c = search rules
+
+sub-covered : tie.Need-overflow-sub-covered
+sub-covered c = search rules
+
+part-covered-start : tie.Need-slice-bounds-covered-start
+part-covered-start c = search rules
+
+part-covered-end : tie.Need-slice-bounds-covered-end
+part-covered-end c = search rules
+
+read16-requires-4 : tie.Need-read16-requires-4
+read16-requires-4 c κs = search rules
+
+crc-requires : tie.Need-crc-requires
+crc-requires c κs = search rules
+
+returns-8 : tie.Need-returns-8
+unfolding tag_fits part
+returns-8 c =
+    let a = c.before.before.before in
+    let b = a.before.before.before in
+    let icb = b.before.before.before.before.before.before.before.before.before.before.before.before.before.args.icb.now in
+    let n = b.before.before.before.before.before.read163 in
+    let e : 16 + n.result - 16 ≡ field icb 10 2 = omega (arith, n.ensures) in
+    past-5 b.before.before.before
+    (holds (eq-eqb _ _ (sym b.before.before.read32.ensures ∙ b.if6.false))
+    (holds (eq-eqb _ _ (a.if7.false ∙ a.before.checksum.ensures))
+    (ap₂ eqb c.before.read164.ensures (c.crc.ensures ∙ ap (λ (m : ℕ). crc_from 0 (take m (drop 16 icb))) e))))
 
 pub tag-fits-spec : {M : Type 1} → statement M
 tag-fits-spec =
@@ -109,5 +147,14 @@ tag-fits-spec =
     returns-5
     read32-requires
     returns-6
-    is-sound-requires
-    returns-7)
+    shared-slice-read-if7
+    checksum-requires
+    returns-7
+    cast-end
+    add-end
+    sub-covered
+    part-covered-start
+    part-covered-end
+    read16-requires-4
+    crc-requires
+    returns-8)

@@ -2,7 +2,7 @@
 use native.Mathlib.Omega.{arith}
 use lib.ListN.{length-take}
 use borrow.Author.Rules.{rules}
-use Rattle.vat_icb_written.proofs.Laws.{bytes_most, body-written, icb-covered, icb-written}
+use Rattle.vat_icb_written.proofs.Laws.{bytes_most, body-written, icb-written}
 use Rattle.vat_icb_written.proofs.write_icb.Statement.{statement}
 use Rattle.vat_icb_written.proofs.write_icb.Tie as tie
 
@@ -36,11 +36,23 @@ cast-end c = search rules
 add-end : tie.Need-overflow-add-end
 add-end c = search rules
 
+sub-crc : tie.Need-overflow-sub-crc
+sub-crc c = search rules
+
+part-crc-start : tie.Need-slice-bounds-crc-start
+part-crc-start c = search rules
+
+part-crc-end : tie.Need-slice-bounds-crc-end
+part-crc-end c = omega (arith, bytes_most c.before.before.before.before.before.before.before.before.before.before.before.before.args.n)
+
+crc-requires : tie.Need-crc-requires
+crc-requires c κs = search rules
+
 sub-covered : tie.Need-overflow-sub-covered
 sub-covered c = search rules
 
 cast-covered : tie.Need-overflow-cast-covered
-cast-covered c = omega (arith, bytes_most c.before.before.before.before.before.before.before.before.before.before.before.args.n)
+cast-covered c = omega (arith, bytes_most c.before.before.before.before.before.before.before.before.before.before.before.before.before.before.args.n)
 
 slice-relend-prefix-write-tag : tie.Need-slice-relend-prefix-write-tag
 slice-relend-prefix-write-tag c = search rules
@@ -51,36 +63,23 @@ slice-aggregate-write-tag c = simp length-take (omega arith)
 write-tag-requires : tie.Need-write-tag-requires
 write-tag-requires c κs = simp length-take (omega arith)
 
-renew-requires : tie.Need-renew-requires
-renew-requires c κs =
-    let w = c.before.before.before in
-    let n = w.before.before in
-    let l = n.before.before.before in
-    let e = l.before.before.before.before in
-    let s = e.before.before.before.before in
-    let a = s.args in
-    icb-covered a.k.0 a.t.now _ _ a.n a.previous.0 _
-    (body-written a.k.0 a.t.now a.sector.now _ _ a.n a.previous.0 e.write-entry.ensures l.write-allocation.ensures)
-    n.allocation-bytes.ensures
-    w.write-tag.ensures
-
 same_length : tie.Need-same-length
 same_length c = search rules
 
 returns : tie.Need-returns
 returns c =
-    let r = c.before.before in
-    let w = r.before.before.before.before in
-    let n = w.before.before in
+    let w = c.before.before in
+    let r = w.before.before in
+    let n = r.before.before.before in
     let l = n.before.before.before in
     let e = l.before.before.before.before in
     let s = e.before.before.before.before in
     let a = s.args in
-    icb-written a.k.0 a.t.now _ _ _ a.n a.previous.0 _ s.requires.1.0.1
+    icb-written a.k.0 a.t.now _ _ a.n a.previous.0 _ _ s.requires.1.0.1
     (body-written a.k.0 a.t.now a.sector.now _ _ a.n a.previous.0 e.write-entry.ensures l.write-allocation.ensures)
     n.allocation-bytes.ensures
+    r.crc.ensures
     w.write-tag.ensures
-    r.renew.ensures
 
 pub write-icb-spec : {M : Type 1} → statement M
 write-icb-spec =
@@ -96,11 +95,14 @@ write-icb-spec =
     allocation-bytes-requires
     cast-end
     add-end
+    sub-crc
+    part-crc-start
+    part-crc-end
+    crc-requires
     sub-covered
     cast-covered
     slice-relend-prefix-write-tag
     slice-aggregate-write-tag
     write-tag-requires
-    renew-requires
     same_length
     returns)
