@@ -278,10 +278,10 @@ module _ (e : Setting) (d : Disc) (spares : List ℕ) (again : write_once e ≡ 
   settled₂ : Settled d₂ g 0 (flat es)
   settled₂ =
       record {
-        one = one_table.0;
-        table = one_table.1;
-        good = copy-counts one_table.0 one_table.1;
-        newest = copy-sequence one_table.0 one_table.1;
+        one = one_table_law.0;
+        table = one_table_law.1;
+        good = copy-counts one_table_law.0 one_table_law.1;
+        newest = copy-sequence one_table_law.0 one_table_law.1;
         below = λ t i h. omega (arith, copy-sequence t i);
         alike = λ t i h q. copy-table t i;
       }
