@@ -1,4 +1,4 @@
--- `bitmap_written::run_fits_law` meets its contract. Assumes nothing.
+-- `bitmap_written::run_fits` meets its contract. Assumes nothing.
 use native.Mathlib.Omega.{arith}
 use Rattle.bitmap_written.proofs.Calls.{no_length, past_end, state-told}
 use borrow.Author.Rules.{rules}

@@ -1,4 +1,4 @@
--- `sparing_copy::none_inside_law` meets its contract. The invariant: what was found and the entries left answer together for all. The measure is the entries left. Assumes nothing.
+-- `sparing_copy::none_inside` meets its contract. The invariant: what was found and the entries left answer together for all. The measure is the entries left. Assumes nothing.
 use Rattle.std.proofs.Common.{◌≡◌, ◌-◌, ◌&&◌, drop, sym, refl, ◌∙◌, ⊎_elim, rules}
 use Rattle.sparing_copy.specs.Entries.{entries_in}
 use Rattle.sparing_copy.specs.Slots.{none_inside}

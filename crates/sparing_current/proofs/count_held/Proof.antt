@@ -1,4 +1,4 @@
--- `sparing_current::count_held_law` meets its contract, by the kind of the record. Assumes nothing.
+-- `sparing_current::count_held` meets its contract, by the kind of the record. Assumes nothing.
 use mathlib.Core.Path.{sym, ap}
 use borrow.Author.Rules.{rules}
 use Rattle.sparing_current.specs.Held.{count_held}
