@@ -134,7 +134,7 @@ fn put_sector(disc: &mut [u8], at: usize, block: &[u8]) {
     }
     let from = SECTOR * at;
     let to = from + SECTOR;
-    bytes::copy(block, &mut disc[from..to]);
+    disc[from..to].copy_from_slice(block);
 }
 
 fn poke(disc: &mut [u8], sector: usize, at: usize, n: u32) {

@@ -77,6 +77,6 @@ pub fn read_block(
     }
     let from = SECTOR * at.0 as usize;
     let to = from + SECTOR;
-    bytes::copy(&disc[from..to], out);
+    out.copy_from_slice(&disc[from..to]);
     Given::Block
 }
