@@ -6,7 +6,7 @@ use native.Mathlib.Omega.{arith}
 use native.Mathlib.Nat.{div-add-mod, div-le_of_le-mul, mod-lt, mul-add, mul_comm, mul-le-mul_left}
 use borrow.Author.Tests.{ltb-true, ltb-false, lt-ltb, le-ltb}
 use lib.Dec.{ltb}
-use Rattle.label.specs.PerMille.{nearest, per_mille, apart, Nearest, PerMilleNearest}
+use Rattle.label.specs.PerMille.{nearest, per_mille, Nearest, PerMilleNearest}
 
 -- ---- the three kinds of remainder
 

@@ -30,7 +30,7 @@ use Rattle.model.specs.Once.{next_on, entries_held, next_held, is_found, found_a
 use Rattle.model.specs.Rewrite.{other_mark}
 use Rattle.model.specs.Both.{open_verdict, record_on, passed_on, opened_by, opening}
 use Rattle.model.specs.Calls.{State, answers, answer_of_opening, is_opened, is_cut, accepted, Proper, ends_cut, final}
-use Rattle.model.specs.Store.{Slot, holds, blank, store, slot_at, entry_slot, entry_slots, blocks_on, start, shape_of, cut_in, writes_in, was_cut, put, taken, next, bytes, turned, seen_as, look}
+use Rattle.model.specs.Store.{Slot, holds, blank, store, slot_at, entry_slot, entry_slots, blocks_on, start, shape_of, cut_in, writes_in, was_cut, put, taken, next, turned, seen_as, look}
 use Rattle.model.specs.Demand.{after_opening, followed, seen, Demand3}
 use Rattle.model.specs.Consequences.{Follows, saves, leaves, BlankStays}
 use Rattle.model.specs.Run.{lent, ones, failing}

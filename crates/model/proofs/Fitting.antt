@@ -23,7 +23,7 @@ use Rattle.model.specs.Once.{next_on, entries_held, next_held, last_held, held_f
 use Rattle.model.specs.declared.Forecast.{Forecast}
 use Rattle.model.specs.Calls.{save_virtual, refused, step, answers}
 use Rattle.model.specs.Store.{holds, put}
-use Rattle.model.specs.Run.{twelve, lent, ones, before}
+use Rattle.model.specs.Run.{twelve, ones, before}
 use Rattle.model.specs.Forecast.{is_commit, item_tests, item_record, item_by, forecast_from, forecast_by, forecast, item_call, item_calls, or_refused, told as told_of, carried_out, day, day_given, gap, many, Fitting}
 use Rattle.model.proofs.Verdicts.{go-then, examined-once}
 use Rattle.model.proofs.WrittenVat.{length-icb, icb-passes}

@@ -11,7 +11,7 @@ use Rattle.maps.specs.declared.Kind.TheVariants.{WriteOnce, Rewritable}
 use Rattle.maps.specs.Kinds.{tables_in_range, tables_apart, read_maps}
 use Rattle.maps.specs.Written.{kind_in_range}
 use Rattle.maps.proofs.Laws.{read-fine}
-use Rattle.model.specs.Disc.{Disc, inside}
+use Rattle.model.specs.Disc.{Disc}
 use Rattle.model.specs.Sparing.{Geometry}
 use Rattle.model.specs.Examine.{Setting, volume, size_in, write_once, geometry, all_outside, aligned}
 use Rattle.model.proofs.Basics.{and-true}

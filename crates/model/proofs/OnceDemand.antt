@@ -19,7 +19,6 @@ use Rattle.model.specs.Calls.{Call, save_virtual, free_virtual, commit, save_blo
 use Rattle.model.specs.Store.{Store, Shape, shape_of, start, cut_in}
 use Rattle.model.specs.Demand.{after_opening, followed, Kept}
 use Rattle.model.proofs.Verdicts.{open-maps, by-verdict, then-go}
-use Rattle.model.proofs.Once as once-kept
 use Rattle.model.proofs.OnceRead.{Live, live-length, read-once}
 use Rattle.model.proofs.OnceSave.{OnceOk, sound-save, sound-free, told-save, told_free}
 use Rattle.model.proofs.OnceOpen.{reopened, first_live}

@@ -12,7 +12,6 @@ use Rattle.refusal.specs.declared.Refusal.TheVariants.{NumberOutside, BelongsToS
 use Rattle.refusal.specs.declared.Verdict.{Verdict}
 use Rattle.refusal.specs.declared.Verdict.TheVariants.{Go, Stop}
 use Rattle.refusal.specs.Tests.{test, first, need}
-use Rattle.fields.specs.Bytes.{same}
 use Rattle.fields.proofs.Laws.{same-equal}
 use Rattle.maps.specs.Kinds.{read_maps}
 use Rattle.model.specs.declared.Record.{Record}

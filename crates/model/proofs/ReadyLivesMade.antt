@@ -1,7 +1,7 @@
 -- The disc that making leaves of a rewritable volume: zeros in the partition and the same table of free entries in every copy. Assumes nothing.
 use Prim.Native.Nat.{ℕ, zero, suc, ◌+◌, ◌-◌, ◌*◌, ◌%◌, ◌≤◌, ◌<◌}
 use mathlib.Core.Bool.{true, false, cond, ◌||◌, false≢true}
-use mathlib.Core.Logic.{◌≢◌, ◌⊎◌, inl, ⊎_elim}
+use mathlib.Core.Logic.{◌≢◌, inl, ⊎_elim}
 use mathlib.Core.Path.{◌≡◌, refl, sym, ap, ◌∙◌}
 use mathlib.Core.List.{List, [], ◌∷◌, ◌++◌}
 use native.Mathlib.Omega.{arith}

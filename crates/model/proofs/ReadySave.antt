@@ -8,7 +8,7 @@ use native.Mathlib.Omega.{arith}
 use lib.ListN.{length, get_or}
 use Rattle.fields.specs.Bytes.{part}
 use Rattle.model.specs.declared.Cut.{Cut}
-use Rattle.model.specs.Disc.{Disc, sector, mark, inside}
+use Rattle.model.specs.Disc.{Disc, sector, mark}
 use Rattle.model.specs.Writes.{landing, landed, writes, upward}
 use Rattle.model.specs.Sparing.{Geometry, entries, table_at, packet_of, of_spare, locate}
 use Rattle.model.specs.Examine.{Setting, geometry}

@@ -27,7 +27,7 @@ use Rattle.model.specs.Plan.{carry, unless, reply_of}
 use Rattle.model.specs.Rewrite.{entries_on, of_spare_on, copy_tests, rewritable_verdict, packet_verdict, packet_physical, block_test, spare_test, save_block_tests, block_lent, save_block_plan, packet_tests, packet_lent, save_packet_plan, spare_tests, spare_plan}
 use Rattle.model.specs.Both.{read_rewritable_tests}
 use Rattle.model.specs.Calls.{save_block, save_packet, spare_packet, refused, State, answer_of, carried, step, final}
-use Rattle.model.specs.Store.{Slot, slot_at, Store, start, turned, seen_as, look}
+use Rattle.model.specs.Store.{Slot, slot_at, Store, turned, seen_as, look}
 use Rattle.model.specs.Demand.{after_opening, seen}
 use Rattle.model.specs.Examples.{entry}
 use Rattle.model.specs.SparesInside.{ClearOriginals, CopyRule, ThirtyAfterTwelve, Addressed, Apart, NeverShare, SameThroughout, ThirtyThroughout}

@@ -190,7 +190,9 @@ module _ (es : List Entry) (i : ℕ) (e : Entry) (h : drop i es ≡ e ∷ drop (
     -- it does
     pub ascending-next : may_follow o p ≡ true → ascending (drop (i + 1) es) ≡ ascending (drop i es)
     unfolding ascending
-    ascending-next q = ap ascending k ∙ sym (ap ascending (h ∙ ap (λ (x : List Entry). e ∷ x) k) ∙ rw (← s, ← t, q))
+    ascending-next q =
+        let w : may_follow e.original f.original ≡ true = rw (← s, ← t) q in
+        ap ascending k ∙ sym (ap ascending (h ∙ ap (λ (x : List Entry). e ∷ x) k) ∙ ap (λ (a : Bool). a && ascending (f ∷ drop (i + 1 + 1) es)) w)
 
 -- where entries from a place on do not fit, all do not
 pub mapped-rest : (g : Geometry) (es : List Entry) (i : ℕ) → false ≡ mapped_fit g (drop i es) → false ≡ mapped_fit g es

@@ -1,0 +1,24 @@
+-- `bitmap::count_free` meets its contract. The invariant of both loops: the free blocks of the first q bytes are counted. Assumes nothing.
+use Prim.Native.Nat.{ℕ, ◌+◌, ◌-◌, ◌*◌, ◌%◌, ◌≤◌}
+use mathlib.Core.Path.{◌≡◌, refl, sym, ap, ◌∙◌}
+use native.Mathlib.Omega.{arith}
+use native.Mathlib.Nat.{mod-eq_of_lt}
+use lib.ListN.{get_or}
+use lib.Count.{ones}
+use borrow.Author.Rules.{rules}
+use Rattle.fields.proofs.Laws.{AllBytes}
+use Rattle.bitmap.specs.Bits.{free_from}
+use Rattle.bitmap.proofs.Ones.{free-low, free-field, free_more, weight-8}
+use Rattle.bitmap.proofs.count_free.Given as goal
+
+abbrev pub invariant-loop-q : goal.invariant-loop-q
+invariant-loop-q l = (8 * l.q ≤ l.l) × (l.free ≡ free_from l.b 0 (8 * l.q)) × (l.free ≤ 8 * l.q)
+
+abbrev pub decreases-loop-q : goal.decreases-loop-q
+decreases-loop-q l = l.l - 8 * l.q
+
+abbrev pub invariant-loop-q-2 : goal.invariant-loop-q-2
+invariant-loop-q-2 l = (8 * l.q ≤ l.l) × (l.free ≡ free_from l.b 0 (8 * l.q)) × (l.free ≤ 8 * l.q)
+
+abbrev pub decreases-loop-q-2 : goal.decreases-loop-q-2
+decreases-loop-q-2 l = l.l - 8 * l.q

@@ -1,0 +1,19 @@
+-- `sparing_copies::newest_copy` meets its contract. The invariant: it is the newest of the copies passed, from the last down. The measure is the copies left. Assumes nothing.
+use Prim.Native.Nat.{ℕ, ◌-◌, ◌≤◌, ◌<◌}
+use mathlib.Core.Path.{◌≡◌, ap, ◌∙◌}
+use mathlib.Core.Bool.{true, false}
+use borrow.Author.Rules.{rules}
+use native.Mathlib.Omega.{arith}
+use lib.ListN.{length, take, drop}
+use Rattle.sparing_copies.proofs.Copies.{newest-none, newest-next, found-on, found-counts}
+use Rattle.sparing_copy.proofs.Places.{later-below}
+use Rattle.sparing_copies.specs.Copies.{newest_of}
+use Rattle.sparing_copy.specs.Layout.{geometry_in}
+use Rattle.model.specs.Disc.{disc as disc_of}
+use Rattle.sparing_copies.proofs.newest_copy.Given as goal
+
+abbrev pub invariant-loop-i : goal.invariant-loop-i
+invariant-loop-i l = (l.i ≤ l.x.count) × (l.newest ≡ newest_of (disc_of l.disc l.marks) (geometry_in l.x) (drop l.i (take l.x.count l.tables)))
+
+abbrev pub decreases-loop-i : goal.decreases-loop-i
+decreases-loop-i l = l.i

@@ -1,0 +1,30 @@
+use Rattle.std.proofs.Common.{◌≡◌, ◌-◌, length, drop, refl, ◌∙◌, rules}
+use borrow.Author.Tests.{not-true, not-false}
+use Rattle.sparing_copy.proofs.Rule.{mapped_end, mapped-off, mapped-twice, mapped_next}
+use Rattle.sparing_copy.proofs.Entries.{spare-step, spare-end}
+use Rattle.sparing_copy.specs.Layout.{geometry_in}
+use Rattle.model.specs.Both.{spare_entries}
+use Rattle.model.specs.Sparing.{mapped_fit}
+use Rattle.sparing_copy.proofs.spares_placed.Goals as goal
+
+pub loop-i-init : goal.loop-i-init
+loop-i-init c = refl
+
+pub returns-then-not-is_placed : goal.returns-then-not-is_placed
+returns-then-not-is_placed c = let s = c.args.spares.now in
+    mapped-off (spare_entries s) c.loop-i.i _ (spare-step s c.loop-i.i c.loop-i-test.true) _ _ c.mapped_to_physical-m.ensures _ c.is_placed.ensures (not-true _ c.if-not-is_placed.true-raw)
+    ∙ c.loop-i.invariant
+
+pub returns-then-not-is_absent_spare : goal.returns-then-not-is_absent_spare
+returns-then-not-is_absent_spare c = let s = c.args.spares.now in
+    mapped-twice (spare_entries s) c.loop-i.i _ (spare-step s c.loop-i.i c.loop-i-test.true) _ _ c.mapped_to_physical-m.ensures _ _ c.is_placed.ensures (not-false _ c.if-not-is_placed.false-raw) c.is_absent_spare.ensures (not-true _ c.if-not-is_absent_spare.true-raw)
+    ∙ c.loop-i.invariant
+
+pub loop-i-preserved : goal.loop-i-preserved
+loop-i-preserved c = let s = c.args.spares.now in
+    mapped_next (spare_entries s) c.loop-i.i _ (spare-step s c.loop-i.i c.loop-i-test.true) _ _ c.mapped_to_physical-m.ensures _ _ c.is_placed.ensures (not-false _ c.if-not-is_placed.false-raw) c.is_absent_spare.ensures (not-false _ c.if-not-is_absent_spare.false-raw)
+    ∙ c.loop-i.invariant
+
+pub returns : goal.returns
+returns c = let s = c.args.spares.now in
+    mapped_end (spare_entries s) c.loop-i.i (spare-end s c.loop-i.i c.loop-i-test.false) _ ∙ c.loop-i.invariant

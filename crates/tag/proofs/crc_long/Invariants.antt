@@ -1,0 +1,13 @@
+-- `tag::crc_long` meets its contract. The invariant: what is left of the bytes, with the masks of the next four words, leads to the CRC of the whole.
+-- Assumes nothing.
+use Rattle.std.proofs.Common.{◌≡◌, ℕ, ◌+◌, ◌-◌, ◌≤◌, length, ap, ◌∙◌, arith, rules}
+use Rattle.tag.specs.Crc.{crc_from}
+use Rattle.tag.specs.Word.{carried}
+use Rattle.tag.proofs.Words.{carry-starts, carry-next}
+use Rattle.tag.proofs.crc_long.Given as goal
+
+abbrev pub invariant-loop-i : goal.invariant-loop-i
+invariant-loop-i l = (l.i + 16 ≤ length l.bytes) × (carried l.bytes l.i l.a l.b l.c l.d ≡ crc_from l.start l.bytes)
+
+abbrev pub decreases-loop-i : goal.decreases-loop-i
+decreases-loop-i l = length l.bytes - l.i

@@ -1,0 +1,7 @@
+-- `tag::renew` meets its contract (`renew-told`). Assumes nothing.
+use Rattle.std.proofs.Common.{rules}
+use Rattle.tag.proofs.Renewed.{renew-told}
+use Rattle.tag.proofs.renew.Goals as goal
+
+pub returns : goal.returns
+returns c = renew-told _ _ _ _ _ c.end_of-end.ensures c.crc-crc.ensures c.write16.ensures c.checksum-sum.ensures

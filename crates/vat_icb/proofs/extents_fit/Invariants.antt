@@ -1,0 +1,27 @@
+-- `vat_icb::extents_fit` meets its contract. The loop's invariant: the extents from `i` on, after those passed, answer for all of them; `whole` says
+-- that the last one passed is a multiple of a sector, and `sum` is the bytes passed. Assumes nothing.
+use Prim.Native.Nat.{ℕ, ◌+◌, ◌-◌, ◌*◌, ◌/◌, ◌≤◌}
+use mathlib.Core.Path.{◌≡◌, refl, ap, ◌∙◌}
+use mathlib.Core.Bool.{true}
+use mathlib.Core.List.{List}
+use native.Mathlib.Omega.{arith}
+use borrow.Author.Rules.{rules}
+use borrow.Author.Tests.{not-true, not-false}
+use lib.Dec.{eqb}
+use Rattle.model.specs.Disc.{disc}
+use Rattle.model.specs.Vat.{Extent, attributes, allocation, extents, file_length}
+use Rattle.vat_icb.specs.Extents.{extents_fit}
+use Rattle.vat_icb.proofs.Extents.{extents_from, from_start, from_end, from_zero, from_next, none_left, too_many, next-unfit, next_fits}
+use Rattle.vat_icb.proofs.Entry.{entry-ends}
+use Rattle.vat_icb.proofs.extents_fit.Given as goal
+
+abbrev pub invariant-loop-i : goal.invariant-loop-i
+invariant-loop-i l = (l.first ≡ 176 + attributes l.icb)
+    × (l.count ≡ allocation l.icb / 8)
+    × (l.first + 8 * l.count ≤ 2048)
+    × (l.i ≤ l.count)
+    × (l.sum ≤ 4294967296 * l.i)
+    × ((bytes : List ℕ) → extents_fit (disc bytes l.marks) l.s l.k.0 (file_length l.icb) l.whole l.sum (extents_from l.icb l.i) ≡ extents_fit (disc bytes l.marks) l.s l.k.0 (file_length l.icb) true 0 (extents l.icb))
+
+abbrev pub decreases-loop-i : goal.decreases-loop-i
+decreases-loop-i l = l.count - l.i
