@@ -3,6 +3,8 @@
 use crate::state::State;
 use crate::{calls, line, state};
 use model::Forecast;
+use say::Out;
+use std::io;
 
 // The most items.
 const MOST: usize = 4352;
@@ -35,21 +37,29 @@ fn put(items: &mut [u32], v: u32, step: u32, saves: u32) {
     }
 }
 
-fn told(forecast: Forecast) {
+fn told(out: &mut Out, forecast: Forecast) -> io::Result<()> {
     match forecast {
         Forecast::Ends { next, entries } => {
-            calls::say_part(b": ends at NWA", next);
-            calls::say_part(b", N", entries);
+            calls::say_part(out, b": ends at NWA", next)?;
+            calls::say_part(out, b", N", entries)
         }
         Forecast::Stops { index, why } => {
-            calls::say_part(b": item", index);
-            calls::say_part(b" refused", refusal::number(why));
+            calls::say_part(out, b": item", index)?;
+            calls::say_part(out, b" refused", refusal::number(why))
         }
-        Forecast::Refused(why) => calls::say_refused(why),
+        Forecast::Refused(why) => calls::say_refused(out, why),
     }
 }
 
-pub fn call(disc: &[u8], marks: &[u8], table: &[u32], list: &[u8], state: State, words: &[u8]) {
+pub fn call(
+    out: &mut Out,
+    disc: &[u8],
+    marks: &[u8],
+    table: &[u32],
+    list: &[u8],
+    state: State,
+    words: &[u8],
+) -> io::Result<()> {
     let mut items = [0u32; MOST];
     put(
         &mut items,
@@ -59,17 +69,20 @@ pub fn call(disc: &[u8], marks: &[u8], table: &[u32], list: &[u8], state: State,
     );
     let count = line::size(words, 3);
     if MOST < count {
-        return;
+        return Ok(());
     }
     let held = state::held(state);
-    told(blocks::forecast(
-        disc,
-        marks,
-        list,
-        state.s,
-        state.l,
-        table,
-        held,
-        &items[0..count],
-    ));
+    told(
+        out,
+        blocks::forecast(
+            disc,
+            marks,
+            list,
+            state.s,
+            state.l,
+            table,
+            held,
+            &items[0..count],
+        ),
+    )
 }

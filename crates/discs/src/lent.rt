@@ -3,6 +3,8 @@ ghost use Rattle.std.specs.Prelude.{◌≤◌};
 
 use crate::calls;
 use crate::state::State;
+use say::Out;
+use std::io;
 
 // The disc of 2,144 sectors, its marks, the table, the map list, a block and a packet, these two with a byte to spare.
 pub type Disc = [u8; 4390912];
@@ -29,6 +31,7 @@ fn smaller(a: usize, b: usize) -> usize
 
 // Lends the first elements of each to a call, at most what there is.
 fn lend_parts(
+    out: &mut Out,
     disc: &mut [u8],
     marks: &mut [u8],
     table: &mut [u32],
@@ -38,7 +41,7 @@ fn lend_parts(
     state: State,
     words: &[u8],
     name: u32,
-) -> State {
+) -> io::Result<State> {
     let bytes = smaller(state.disc, disc.len());
     let sectors = smaller(state.marks, marks.len());
     let entries = smaller(state.table, table.len());
@@ -46,6 +49,7 @@ fn lend_parts(
     let blocked = smaller(state.block, block.len());
     let packed = smaller(state.packet, packet.len());
     calls::call(
+        out,
         &mut disc[0..bytes],
         &mut marks[0..sectors],
         &mut table[0..entries],
@@ -59,6 +63,7 @@ fn lend_parts(
 }
 
 pub fn lend(
+    out: &mut Out,
     disc: &mut Disc,
     marks: &mut Marks,
     table: &mut Table,
@@ -68,6 +73,8 @@ pub fn lend(
     state: State,
     words: &[u8],
     name: u32,
-) -> State {
-    lend_parts(disc, marks, table, list, block, packet, state, words, name)
+) -> io::Result<State> {
+    lend_parts(
+        out, disc, marks, table, list, block, packet, state, words, name,
+    )
 }

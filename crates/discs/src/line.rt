@@ -1,12 +1,23 @@
 // A line of the file stdin: a name, of which the first four letters count, and numbers, each behind a blank.
 ghost use Rattle.std.specs.Prelude.{◌<◌, ◌≤◌, length};
 
+// Where the byte stands first, at `at` or behind it; the end where there is none.
+fn find(bytes: &[u8], at: usize, byte: u8) -> usize
+    requires { at ≤ length bytes.now }
+    ensures { (at ≤ result) × (result ≤ length bytes.now) }
+{
+    match bytes[at..].iter().position(|b| *b == byte) {
+        Some(n) => at + n,
+        None => bytes.len(),
+    }
+}
+
 // Where the line after the one at `at` begins: each line ends with a newline.
 pub fn next(script: &[u8], at: usize) -> usize
     requires { at < length script.now }
     ensures { (at < result) × (result ≤ length script.now) }
 {
-    let end = bytes::scan::find(script, at, script.len(), b'\n');
+    let end = find(script, at, b'\n');
     if end == script.len() {
         return end;
     }
@@ -39,7 +50,7 @@ fn word(line: &[u8], n: usize) -> usize
     let mut at: usize = 0;
     let mut left = n;
     while 0 < left {
-        let blank = bytes::scan::find(line, at, line.len(), b' ');
+        let blank = find(line, at, b' ');
         if blank == line.len() {
             return blank;
         }

@@ -12,11 +12,14 @@ mod prepare;
 mod state;
 
 use lent::{Block, Disc, List, Marks, Packet, Table};
-use libc::STDIN_FILENO;
+use say::Out;
 use state::State;
+use std::io;
+use std::io::{Read, Write};
 
 // What a line asks for.
 fn step(
+    out: &mut Out,
     disc: &mut Disc,
     marks: &mut Marks,
     table: &mut Table,
@@ -25,18 +28,21 @@ fn step(
     packet: &mut Packet,
     state: State,
     words: &[u8],
-) -> State {
+) -> io::Result<State> {
     let name = line::name(words);
     let set = prepare::values(state, words, name);
-    prepare::disc(disc, marks, block, words, name);
-    prepare::table(table, words, name);
+    prepare::disc(out, disc, marks, block, words, name)?;
+    prepare::table(out, table, words, name)?;
     prepare::list(list, words, name);
     prepare::blocks(packet, words, name);
     forge::block(block, words, name);
-    lent::lend(disc, marks, table, list, block, packet, set, words, name)
+    lent::lend(
+        out, disc, marks, table, list, block, packet, set, words, name,
+    )
 }
 
 fn run(
+    out: &mut Out,
     disc: &mut Disc,
     marks: &mut Marks,
     table: &mut Table,
@@ -44,21 +50,22 @@ fn run(
     block: &mut Block,
     packet: &mut Packet,
     script: &[u8],
-) {
+) -> io::Result<()> {
     let mut state = state::fresh();
     let mut at: usize = 0;
     while at < script.len() {
         let next = line::next(script, at);
         let end = next - 1;
         let words = &script[at..end];
-        say::text(words);
-        state = step(disc, marks, table, list, block, packet, state, words);
-        say::end();
+        say::text(out, words)?;
+        state = step(out, disc, marks, table, list, block, packet, state, words)?;
+        say::end(out)?;
         at = next;
     }
+    Ok(())
 }
 
-fn begin(script: &[u8]) {
+fn begin(out: &mut Out, script: &[u8]) -> io::Result<()> {
     let mut disc = [0u8; 4390912];
     let mut marks = [0u8; 2144];
     let mut table = [0u32; 4096];
@@ -66,6 +73,7 @@ fn begin(script: &[u8]) {
     let mut block = [0u8; 2049];
     let mut packet = [0u8; 65537];
     run(
+        out,
         &mut disc,
         &mut marks,
         &mut table,
@@ -73,11 +81,13 @@ fn begin(script: &[u8]) {
         &mut block,
         &mut packet,
         script,
-    );
+    )
 }
 
-fn main() {
-    let mut script = [0u8; 131072];
-    let n = io::read_full(STDIN_FILENO, &mut script);
-    begin(&script[..n]);
+fn main(rt: HostRuntime) -> io::Result<()> {
+    let mut script = Vec::new(rt.alloc());
+    rt.stdin().read_to_end(&mut script)?;
+    let mut out = say::out(&rt)?;
+    begin(&mut out, &script)?;
+    out.flush()
 }

@@ -4,6 +4,8 @@ use crate::state::State;
 use crate::{line, state};
 use address::Span;
 use maps::{Kind, Volume};
+use say::Out;
+use std::io;
 
 // The first four letters of each name, as numbers of 4 bytes.
 const CLEAR: u32 = 0x61656c63;
@@ -90,7 +92,14 @@ fn lengths(state: State, words: &[u8]) -> State {
 }
 
 // clear; mark SECTOR MARK; put SECTOR MARK, which records the block; poke SECTOR AT NUMBER, of 4 bytes; show SECTOR.
-pub fn disc(disc: &mut Disc, marks: &mut Marks, block: &mut Block, words: &[u8], name: u32) {
+pub fn disc(
+    out: &mut Out,
+    disc: &mut Disc,
+    marks: &mut Marks,
+    block: &mut Block,
+    words: &[u8],
+    name: u32,
+) -> io::Result<()> {
     match name {
         CLEAR => {
             fields_written::clear(disc);
@@ -107,9 +116,10 @@ pub fn disc(disc: &mut Disc, marks: &mut Marks, block: &mut Block, words: &[u8],
             line::size(words, 2),
             line::number(words, 3),
         ),
-        SHOW => show(disc, marks, line::size(words, 1)),
+        SHOW => show(out, disc, marks, line::size(words, 1))?,
         _ => {}
     }
+    Ok(())
 }
 
 fn mark(marks: &mut [u8], at: usize, mark: u8) {
@@ -147,24 +157,24 @@ fn poke(disc: &mut [u8], sector: usize, at: usize, n: u32) {
     fields_written::write32(disc, SECTOR * sector + at, n);
 }
 
-fn show(disc: &[u8], marks: &[u8], at: usize) {
+fn show(out: &mut Out, disc: &[u8], marks: &[u8], at: usize) -> io::Result<()> {
     if disc.len() / SECTOR <= at {
-        return;
+        return Ok(());
     }
     if marks.len() <= at {
-        return;
+        return Ok(());
     }
     let from = SECTOR * at;
     let to = from + SECTOR;
-    say::text(b": mark");
-    say::byte(marks[at]);
-    say::text(b", crc");
-    say::hex(tag::crc(&disc[from..to], 0) as u64, 4);
+    say::text(out, b": mark")?;
+    say::byte(out, marks[at])?;
+    say::text(out, b", crc")?;
+    say::hex(out, tag::crc(&disc[from..to], 0) as u64, 4)
 }
 
 // entry NUMBER BLOCK; fill, with four numbers that stand by turns in all of the table; table, which shows it;
 // numbers COUNT, which shows the first of them.
-pub fn table(table: &mut Table, words: &[u8], name: u32) {
+pub fn table(out: &mut Out, table: &mut Table, words: &[u8], name: u32) -> io::Result<()> {
     match name {
         ENTRY => set_entry(table, line::size(words, 1), line::number(words, 2)),
         FILL => fill(
@@ -174,10 +184,11 @@ pub fn table(table: &mut Table, words: &[u8], name: u32) {
             line::number(words, 3),
             line::number(words, 4),
         ),
-        TABLE => show_table(table),
-        NUMBERS => show_numbers(table, line::size(words, 1)),
+        TABLE => show_table(out, table)?,
+        NUMBERS => show_numbers(out, table, line::size(words, 1))?,
         _ => {}
     }
+    Ok(())
 }
 
 fn set_entry(table: &mut [u32], at: usize, n: u32) {
@@ -221,26 +232,27 @@ fn table_crc(table: &[u32]) -> u16 {
     crc
 }
 
-fn show_table(table: &[u32]) {
-    say::text(b": crc");
-    say::hex(table_crc(table) as u64, 4);
+fn show_table(out: &mut Out, table: &[u32]) -> io::Result<()> {
+    say::text(out, b": crc")?;
+    say::hex(out, table_crc(table) as u64, 4)
 }
 
-fn show_entry(n: u32) {
-    say::decimal(n as u64);
+fn show_entry(out: &mut Out, n: u32) -> io::Result<()> {
+    say::decimal(out, n as u64)
 }
 
 // The first numbers of the table.
-fn show_numbers(table: &[u32], count: usize) {
-    say::text(b":");
+fn show_numbers(out: &mut Out, table: &[u32], count: usize) -> io::Result<()> {
+    say::text(out, b":")?;
     let mut i: usize = 0;
     while i < count {
         if table.len() <= i {
-            return;
+            return Ok(());
         }
-        show_entry(table[i]);
+        show_entry(out, table[i])?;
         i += 1;
     }
+    Ok(())
 }
 
 // once; rewritable TABLES SIZE, then the tables' sectors; list AT BYTE.

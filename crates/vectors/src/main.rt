@@ -11,13 +11,18 @@ mod numbers;
 mod tags;
 mod unwritten;
 
-fn main() {
-    crcs::run();
-    tags::run();
-    numbers::run();
-    lists::run();
-    damaged::run();
-    unwritten::run();
-    addresses::run();
-    files::run();
+use std::io;
+use std::io::Write;
+
+fn main(rt: HostRuntime) -> io::Result<()> {
+    let mut out = say::out(&rt)?;
+    crcs::run(&mut out)?;
+    tags::run(&mut out)?;
+    numbers::run(&mut out)?;
+    lists::run(&mut out)?;
+    damaged::run(&mut out)?;
+    unwritten::run(&mut out)?;
+    addresses::run(&mut out)?;
+    files::run(&mut out)?;
+    out.flush()
 }
