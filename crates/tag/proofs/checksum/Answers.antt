@@ -1,6 +1,6 @@
 -- `tag::checksum` meets its contract: the sums of the two parts around byte 4 add up to it.
 -- Assumes nothing.
-use Rattle.std.proofs.Common.{arith, length-take, rules}
+use Rattle.std.proofs.Common.{arith, length-take}
 use Rattle.tag.proofs.Laws.{checksum-parts}
 use Rattle.tag.proofs.checksum.Goals as goal
 

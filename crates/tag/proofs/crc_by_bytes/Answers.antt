@@ -1,5 +1,4 @@
-use Rattle.std.proofs.Common.{◌≡◌, ◌-◌, ◌≤◌, length, drop, sym, refl, ◌∙◌, arith, rules}
-use Rattle.tag.specs.Crc.{crc_from}
+use Rattle.std.proofs.Common.{sym, refl, ◌∙◌, arith, rules}
 use Rattle.tag.proofs.Laws.{crc-next, crc-end}
 use Rattle.tag.proofs.crc_by_bytes.Goals as goal
 

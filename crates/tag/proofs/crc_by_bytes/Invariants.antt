@@ -1,8 +1,7 @@
 -- `tag::crc_by_bytes` meets its contract. The invariant: what is left of the bytes leads from the CRC so far to the CRC of the whole.
 -- Assumes nothing.
-use Rattle.std.proofs.Common.{◌≡◌, ◌-◌, ◌≤◌, length, drop, sym, refl, ◌∙◌, arith, rules}
+use Rattle.std.proofs.Common.{◌≡◌, ◌-◌, ◌≤◌, length, drop}
 use Rattle.tag.specs.Crc.{crc_from}
-use Rattle.tag.proofs.Laws.{crc-next, crc-end}
 use Rattle.tag.proofs.crc_by_bytes.Given as goal
 
 abbrev pub invariant-loop-i : goal.invariant-loop-i

@@ -1,4 +1,4 @@
-use Rattle.std.proofs.Common.{◌≡◌, ◌-◌, ◌≤◌, length, drop, refl, ap, ◌∙◌, arith, rules}
+use Rattle.std.proofs.Common.{refl, ap, ◌∙◌, arith, rules}
 use Rattle.tag.specs.Crc.{crc_from}
 use Rattle.tag.proofs.Words.{crc-next-four, part_left}
 use Rattle.tag.proofs.crc_by_words.Goals as goal

@@ -1,6 +1,6 @@
 -- `tag::crc_byte` meets its contract: the low byte moves up, and the step from 0 brings in the high byte xored with the new one.
 -- Assumes nothing.
-use Rattle.std.proofs.Common.{◌*◌, ◌%◌, sym, ap, ◌∙◌, rules}
+use Rattle.std.proofs.Common.{◌*◌, ◌%◌, sym, ap, ◌∙◌}
 use lib.Bits.{bit_xor}
 use Rattle.tag.proofs.Laws.{byte_step-zero}
 use Rattle.tag.proofs.crc_byte.Goals as goal

@@ -1,5 +1,4 @@
-use Rattle.std.proofs.Common.{◌≡◌, ℕ, ◌+◌, ◌-◌, ◌≤◌, length, ap, ◌∙◌, arith, rules}
-use Rattle.tag.specs.Crc.{crc_from}
+use Rattle.std.proofs.Common.{ℕ, ap, ◌∙◌, arith}
 use Rattle.tag.specs.Word.{carried}
 use Rattle.tag.proofs.Words.{carry-starts, carry-next}
 use Rattle.tag.proofs.crc_long.Goals as goal

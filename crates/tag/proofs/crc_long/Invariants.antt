@@ -1,9 +1,8 @@
 -- `tag::crc_long` meets its contract. The invariant: what is left of the bytes, with the masks of the next four words, leads to the CRC of the whole.
 -- Assumes nothing.
-use Rattle.std.proofs.Common.{◌≡◌, ℕ, ◌+◌, ◌-◌, ◌≤◌, length, ap, ◌∙◌, arith, rules}
+use Rattle.std.proofs.Common.{◌≡◌, ◌+◌, ◌-◌, ◌≤◌, length}
 use Rattle.tag.specs.Crc.{crc_from}
 use Rattle.tag.specs.Word.{carried}
-use Rattle.tag.proofs.Words.{carry-starts, carry-next}
 use Rattle.tag.proofs.crc_long.Given as goal
 
 abbrev pub invariant-loop-i : goal.invariant-loop-i

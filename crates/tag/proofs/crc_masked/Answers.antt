@@ -1,6 +1,6 @@
 -- `tag::crc_masked` meets its contract: four steps by a word, then the bytes left.
 -- Assumes nothing.
-use Rattle.std.proofs.Common.{◌+◌, ap, ◌∙◌, ap₂, arith, rules}
+use Rattle.std.proofs.Common.{◌+◌, ap, ◌∙◌, ap₂, arith}
 use Rattle.tag.specs.Crc.{crc_from}
 use Rattle.tag.specs.Word.{word_step}
 use Rattle.tag.proofs.Words.{part_left}

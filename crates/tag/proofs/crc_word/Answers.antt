@@ -1,6 +1,6 @@
 -- `tag::crc_word` meets its contract: the CRC so far, raised, is xored into the word of the four bytes.
 -- Assumes nothing.
-use Rattle.std.proofs.Common.{ℕ, ◌∙◌, ap₂, rules}
+use Rattle.std.proofs.Common.{ℕ, ◌∙◌, ap₂}
 use lib.Bits.{bit_xor}
 use Rattle.tag.specs.Word.{word_of, word_step}
 use Rattle.tag.proofs.Words.{step-raised, word_bytes}

@@ -1,6 +1,5 @@
 -- `tag::fold` meets its contract: its rule is computed at the powers of two.
 -- Assumes nothing.
-use Rattle.std.proofs.Common.{rules}
 use Rattle.tag.proofs.Words.{fold-rule}
 use Rattle.tag.proofs.fold.Goals as goal
 

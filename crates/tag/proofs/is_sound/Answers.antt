@@ -1,5 +1,5 @@
 -- `tag::is_sound` meets its contract: the checksum, then the CRC. Assumes nothing.
-use Rattle.std.proofs.Common.{eqb, sym, ◌∙◌, ap₂, rules, eq-eqb, ne_eqb}
+use Rattle.std.proofs.Common.{eqb, sym, ◌∙◌, ap₂, eq-eqb, ne_eqb}
 use Rattle.fields.proofs.Tests.{fails, holds}
 use Rattle.tag.specs.Sound.{sound}
 use Rattle.tag.proofs.Renewed.{crc-told}

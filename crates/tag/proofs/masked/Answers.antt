@@ -1,6 +1,6 @@
 -- `tag::masked` meets its contract: an exclusive or of two words is a word.
 -- Assumes nothing.
-use Rattle.std.proofs.Common.{ap, arith, rules}
+use Rattle.std.proofs.Common.{ap, arith}
 use lib.Bits.{bit_xor, xor_lt}
 use Rattle.tag.proofs.masked.Goals as goal
 

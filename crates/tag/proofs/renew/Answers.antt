@@ -1,5 +1,4 @@
 -- `tag::renew` meets its contract (`renew-told`). Assumes nothing.
-use Rattle.std.proofs.Common.{rules}
 use Rattle.tag.proofs.Renewed.{renew-told}
 use Rattle.tag.proofs.renew.Goals as goal
 

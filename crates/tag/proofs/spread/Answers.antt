@@ -1,6 +1,6 @@
 -- `tag::spread` meets its contract: its rule is computed here at each of the 256 bytes.
 -- Assumes nothing.
-use Rattle.std.proofs.Common.{◌≡◌, ℕ, ◌*◌, ◌/◌, ◌%◌, ◌<◌, refl, ap, ◌∙◌, rules}
+use Rattle.std.proofs.Common.{◌≡◌, ℕ, ◌*◌, ◌/◌, ◌%◌, ◌<◌, refl, ap, ◌∙◌}
 use lib.Bits.{bit_xor}
 use Rattle.tag.specs.Crc.{bit_step, bits_of, bits_from, byte_step}
 use Rattle.tag.proofs.Laws.{listed-agree}

@@ -1,6 +1,5 @@
 -- `tag::step` meets its contract: the four bytes of the word go through the word's step.
 -- Assumes nothing.
-use Rattle.std.proofs.Common.{rules}
 use Rattle.tag.proofs.Words.{bytes_word}
 use Rattle.tag.proofs.step.Goals as goal
 

@@ -1,4 +1,4 @@
-use Rattle.std.proofs.Common.{◌≡◌, ℕ, ◌-◌, ◌%◌, ◌≤◌, List, length, take, refl, ap, ◌∙◌, arith, take_all, rules}
+use Rattle.std.proofs.Common.{ℕ, ◌%◌, List, refl, ap, ◌∙◌, arith, take_all, rules}
 use Rattle.tag.specs.Checksum.{total}
 use Rattle.tag.proofs.Laws.{total-next}
 use Rattle.tag.proofs.sum.Goals as goal

@@ -1,8 +1,7 @@
 -- `tag::sum` meets its contract. The invariant: the sum so far is that of the bytes passed, modulo 256.
 -- Assumes nothing.
-use Rattle.std.proofs.Common.{◌≡◌, ℕ, ◌-◌, ◌%◌, ◌≤◌, List, length, take, refl, ap, ◌∙◌, arith, take_all, rules}
+use Rattle.std.proofs.Common.{◌≡◌, ◌-◌, ◌%◌, ◌≤◌, length, take}
 use Rattle.tag.specs.Checksum.{total}
-use Rattle.tag.proofs.Laws.{total-next}
 use Rattle.tag.proofs.sum.Given as goal
 
 abbrev pub invariant-loop-i : goal.invariant-loop-i
