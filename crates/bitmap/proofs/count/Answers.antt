@@ -6,7 +6,6 @@ use Rattle.bitmap.specs.Bits.{free_from}
 use Rattle.bitmap.proofs.Laws.{formed, room, counted-free, not-counted}
 use Rattle.fields.proofs.Tests.{not-true, not-false}
 use Rattle.bitmap.proofs.Ones.{free-few}
-use borrow.Author.Rules.{rules}
 use Rattle.bitmap.proofs.count.Goals as goal
 
 pub returns-then-not-fits : goal.returns-then-not-fits

@@ -1,10 +1,9 @@
-use Prim.Native.Nat.{ℕ, ◌+◌, ◌-◌, ◌*◌, ◌%◌, ◌≤◌}
+use Prim.Native.Nat.{ℕ, ◌+◌, ◌-◌, ◌*◌, ◌%◌}
 use mathlib.Core.Path.{◌≡◌, refl, sym, ap, ◌∙◌}
 use native.Mathlib.Omega.{arith}
 use native.Mathlib.Nat.{mod-eq_of_lt}
 use lib.ListN.{get_or}
 use lib.Count.{ones}
-use borrow.Author.Rules.{rules}
 use Rattle.fields.proofs.Laws.{AllBytes}
 use Rattle.bitmap.specs.Bits.{free_from}
 use Rattle.bitmap.proofs.Ones.{free-low, free-field, free_more, weight-8}

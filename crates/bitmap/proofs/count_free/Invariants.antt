@@ -1,14 +1,7 @@
 -- `bitmap::count_free` meets its contract. The invariant of both loops: the free blocks of the first q bytes are counted. Assumes nothing.
-use Prim.Native.Nat.{ℕ, ◌+◌, ◌-◌, ◌*◌, ◌%◌, ◌≤◌}
-use mathlib.Core.Path.{◌≡◌, refl, sym, ap, ◌∙◌}
-use native.Mathlib.Omega.{arith}
-use native.Mathlib.Nat.{mod-eq_of_lt}
-use lib.ListN.{get_or}
-use lib.Count.{ones}
-use borrow.Author.Rules.{rules}
-use Rattle.fields.proofs.Laws.{AllBytes}
+use Prim.Native.Nat.{◌-◌, ◌*◌, ◌≤◌}
+use mathlib.Core.Path.{◌≡◌}
 use Rattle.bitmap.specs.Bits.{free_from}
-use Rattle.bitmap.proofs.Ones.{free-low, free-field, free_more, weight-8}
 use Rattle.bitmap.proofs.count_free.Given as goal
 
 abbrev pub invariant-loop-q : goal.invariant-loop-q

@@ -8,7 +8,6 @@ use lib.ListN.{length}
 use Rattle.fields.specs.Number.{field}
 use Rattle.bitmap.specs.Formed.{bitmap_fits}
 use Rattle.fields.proofs.Tests.{fails, holds}
-use borrow.Author.Rules.{rules}
 use Rattle.bitmap.proofs.fits.Tie as tie
 use Rattle.bitmap.proofs.fits.Lts as lts
 use Rattle.bitmap.proofs.fits.Reads as reads

@@ -1,8 +1,7 @@
-use Prim.Native.Nat.{ℕ, ◌+◌, ◌-◌, ◌*◌, ◌≤◌, ◌<◌}
+use Prim.Native.Nat.{ℕ, ◌+◌, ◌*◌, ◌≤◌, ◌<◌}
 use mathlib.Core.Path.{◌≡◌}
 use native.Mathlib.Omega.{arith}
 use native.Mathlib.Decide.{dec_le}
-use borrow.Author.Rules.{rules}
 use Rattle.fields.proofs.Laws.{by-dec}
 use Rattle.bitmap.specs.Bits.{bit_at}
 use Rattle.bitmap.proofs.Windows.{holds, last-hit, last-passed}

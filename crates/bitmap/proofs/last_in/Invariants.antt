@@ -1,12 +1,7 @@
 -- `bitmap::last_in` meets its contract. The invariant: no block from e up to `to` is in this state. Assumes nothing.
-use Prim.Native.Nat.{ℕ, ◌+◌, ◌-◌, ◌*◌, ◌≤◌, ◌<◌}
+use Prim.Native.Nat.{ℕ, ◌≤◌, ◌<◌}
 use mathlib.Core.Path.{◌≡◌}
-use native.Mathlib.Omega.{arith}
-use native.Mathlib.Decide.{dec_le}
-use borrow.Author.Rules.{rules}
-use Rattle.fields.proofs.Laws.{by-dec}
 use Rattle.bitmap.specs.Bits.{bit_at}
-use Rattle.bitmap.proofs.Windows.{holds, last-hit, last-passed}
 use Rattle.bitmap.proofs.last_in.Given as goal
 
 abbrev pub invariant-loop-e : goal.invariant-loop-e

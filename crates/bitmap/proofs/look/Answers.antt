@@ -3,7 +3,6 @@ use Prim.Native.Nat.{ℕ, ◌<◌, ◌^◌}
 use mathlib.Core.Path.{refl, sym, ◌∙◌, subst}
 use mathlib.Core.Logic.{inl, inr}
 use native.Mathlib.Omega.{arith}
-use borrow.Author.Rules.{rules}
 use Rattle.fields.proofs.Laws.{AllBytes, field_below}
 use Rattle.bitmap.proofs.Windows.{byte-field, shows-free, shows-allocated}
 use Rattle.bitmap.proofs.look.Goals as goal

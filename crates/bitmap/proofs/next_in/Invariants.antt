@@ -1,15 +1,7 @@
 -- `bitmap::next_in` meets its contract. The invariant: no block from `from` up to s is in this state. Assumes nothing.
-use Prim.Native.Nat.{ℕ, suc, ◌+◌, ◌-◌, ◌*◌, ◌/◌, ◌≤◌, ◌<◌}
-use mathlib.Core.Logic.{⊎_elim}
-use mathlib.Core.List.{List}
+use Prim.Native.Nat.{ℕ, ◌-◌, ◌≤◌, ◌<◌}
 use mathlib.Core.Path.{◌≡◌}
-use native.Mathlib.Omega.{arith}
-use native.Mathlib.Decide.{dec_le}
-use borrow.Author.Rules.{rules}
-use Rattle.fields.proofs.Laws.{by-dec}
 use Rattle.bitmap.specs.Bits.{bit_at}
-use Rattle.bitmap.specs.Scan.{Shows}
-use Rattle.bitmap.proofs.Windows.{enough, next-hit, next-passed}
 use Rattle.bitmap.proofs.next_in.Given as goal
 
 abbrev pub invariant-loop-s : goal.invariant-loop-s

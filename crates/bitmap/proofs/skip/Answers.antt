@@ -1,10 +1,7 @@
-use Prim.Native.Nat.{ℕ, suc, ◌+◌, ◌-◌, ◌*◌, ◌≤◌, ◌<◌}
-use mathlib.Core.Path.{◌≡◌}
+use Prim.Native.Nat.{suc, ◌*◌}
 use native.Mathlib.Omega.{arith}
 use native.Mathlib.Decide.{dec_le}
-use borrow.Author.Rules.{rules}
 use Rattle.fields.proofs.Laws.{by-dec, AllBytes}
-use Rattle.bitmap.specs.Bits.{bit_at}
 use Rattle.bitmap.proofs.Windows.{none_here}
 use Rattle.bitmap.proofs.skip.Goals as goal
 

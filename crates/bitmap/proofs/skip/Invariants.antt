@@ -1,12 +1,7 @@
 -- `bitmap::skip` meets its contract. The invariant: no block from byte q up to byte i is in this state. Assumes nothing.
-use Prim.Native.Nat.{ℕ, suc, ◌+◌, ◌-◌, ◌*◌, ◌≤◌, ◌<◌}
+use Prim.Native.Nat.{ℕ, ◌+◌, ◌-◌, ◌*◌, ◌≤◌, ◌<◌}
 use mathlib.Core.Path.{◌≡◌}
-use native.Mathlib.Omega.{arith}
-use native.Mathlib.Decide.{dec_le}
-use borrow.Author.Rules.{rules}
-use Rattle.fields.proofs.Laws.{by-dec, AllBytes}
 use Rattle.bitmap.specs.Bits.{bit_at}
-use Rattle.bitmap.proofs.Windows.{none_here}
 use Rattle.bitmap.proofs.skip.Given as goal
 
 abbrev pub invariant-loop-i : goal.invariant-loop-i

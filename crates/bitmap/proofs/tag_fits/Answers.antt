@@ -9,7 +9,6 @@ use lib.ListN.{length}
 use Rattle.fields.specs.Number.{field}
 use Rattle.bitmap.specs.Formed.{tag_fits}
 use Rattle.fields.proofs.Tests.{fails, holds}
-use borrow.Author.Rules.{rules}
 use Rattle.bitmap.proofs.tag_fits.Tie as tie
 use Rattle.bitmap.proofs.tag_fits.Lts as lts
 use Rattle.bitmap.proofs.tag_fits.Reads as reads

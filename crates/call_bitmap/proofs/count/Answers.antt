@@ -1,5 +1,4 @@
 -- `call_bitmap::count` meets its contract: each return by the law of its case. Assumes nothing.
-use borrow.Author.Rules.{rules}
 use Rattle.call_bitmap.proofs.Laws.{count-short, count-told, count-refused}
 use Rattle.call_bitmap.proofs.count.Goals as goal
 

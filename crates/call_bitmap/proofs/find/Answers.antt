@@ -1,5 +1,4 @@
 -- `call_bitmap::find` meets its contract: each return by the law of its case. Assumes nothing.
-use borrow.Author.Rules.{rules}
 use Rattle.call_bitmap.proofs.Laws.{find-short, find-told, find-refused}
 use Rattle.call_bitmap.proofs.find.Goals as goal
 

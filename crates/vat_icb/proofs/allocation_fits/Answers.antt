@@ -1,7 +1,6 @@
 -- `vat_icb::allocation_fits` meets its contract, case by case. Assumes nothing.
 use Prim.Native.Nat.{ℕ, ◌%◌}
 use mathlib.Core.Path.{sym, ap, ◌∙◌}
-use borrow.Author.Rules.{rules}
 use Rattle.vat_icb.proofs.Extents.{allocation-embedded, allocation-odd, allocation-extents}
 use Rattle.vat_icb.proofs.allocation_fits.Goals as goal
 

@@ -1,6 +1,5 @@
 -- `vat_icb::allocation_of` meets its contract. Assumes nothing.
 use native.Mathlib.Omega.{arith}
-use borrow.Author.Rules.{rules}
 use Rattle.model.specs.Vat.{allocation}
 use Rattle.vat_icb.proofs.allocation_of.Goals as goal
 

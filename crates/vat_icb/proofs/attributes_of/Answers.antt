@@ -1,6 +1,5 @@
 -- `vat_icb::attributes_of` meets its contract. Assumes nothing.
 use native.Mathlib.Omega.{arith}
-use borrow.Author.Rules.{rules}
 use Rattle.model.specs.Vat.{attributes}
 use Rattle.vat_icb.proofs.attributes_of.Goals as goal
 

@@ -5,7 +5,6 @@ use native.Mathlib.Omega.{arith}
 use Rattle.fields.specs.Number.{field}
 use Rattle.vat_icb.specs.Extents.{block_at}
 use Rattle.vat_icb.proofs.Extents.{extent-inside}
-use borrow.Author.Rules.{rules}
 use Rattle.vat_icb.proofs.block_at.Tie as tie
 use Rattle.vat_icb.proofs.block_at.Lts as lts
 use Rattle.vat_icb.proofs.block_at.Reads as reads

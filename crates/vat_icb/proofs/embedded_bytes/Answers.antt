@@ -1,7 +1,6 @@
 -- `vat_icb::embedded_bytes` meets its contract. Assumes nothing.
 use mathlib.Core.Path.{sym, ◌∙◌}
 use native.Mathlib.Omega.{arith}
-use borrow.Author.Rules.{rules}
 use Rattle.vat_icb.proofs.Extents.{bytes-embedded, bytes-other}
 use Rattle.vat_icb.proofs.embedded_bytes.Goals as goal
 

@@ -1,7 +1,6 @@
 -- `vat_icb::entry_fits` meets its contract, test by test. Assumes nothing.
 use Prim.Native.Nat.{ℕ, ◌+◌}
 use mathlib.Core.Path.{sym, ap₂, ◌∙◌}
-use borrow.Author.Rules.{rules}
 use borrow.Author.Tests.{eq-eqb, ne_eqb, not-true, not-false}
 use lib.Dec.{leb}
 use Rattle.fields.proofs.Tests.{fails, holds}

@@ -1,5 +1,4 @@
 -- `vat_icb::extent_fits` meets its contract, test by test. Assumes nothing.
-use borrow.Author.Rules.{rules}
 use borrow.Author.Tests.{lt-ltb, le-ltb, le-leb, lt-leb}
 use Rattle.fields.proofs.Tests.{fails, holds}
 use Rattle.model.specs.Vat.{blocks_in}

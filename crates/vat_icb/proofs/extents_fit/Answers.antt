@@ -1,15 +1,14 @@
-use Prim.Native.Nat.{ℕ, ◌+◌, ◌-◌, ◌*◌, ◌/◌, ◌≤◌}
+use Prim.Native.Nat.{ℕ, ◌/◌}
 use mathlib.Core.Path.{◌≡◌, refl, ap, ◌∙◌}
 use mathlib.Core.Bool.{true}
 use mathlib.Core.List.{List}
 use native.Mathlib.Omega.{arith}
-use borrow.Author.Rules.{rules}
 use borrow.Author.Tests.{not-true, not-false}
 use lib.Dec.{eqb}
 use Rattle.model.specs.Disc.{disc}
-use Rattle.model.specs.Vat.{Extent, attributes, allocation, extents, file_length}
+use Rattle.model.specs.Vat.{Extent, attributes, allocation, file_length}
 use Rattle.vat_icb.specs.Extents.{extents_fit}
-use Rattle.vat_icb.proofs.Extents.{extents_from, from_start, from_end, from_zero, from_next, none_left, too_many, next-unfit, next_fits}
+use Rattle.vat_icb.proofs.Extents.{from_start, from_end, from_zero, from_next, none_left, too_many, next-unfit, next_fits}
 use Rattle.vat_icb.proofs.Entry.{entry-ends}
 use Rattle.vat_icb.proofs.extents_fit.Goals as goal
 

@@ -1,7 +1,6 @@
 -- `vat_icb::form_fits` meets its contract, test by test. Assumes nothing.
 use Prim.Native.Nat.{ℕ}
 use mathlib.Core.Path.{sym, ap, ◌∙◌}
-use borrow.Author.Rules.{rules}
 use borrow.Author.Tests.{eq-eqb, ne_eqb}
 use lib.Dec.{eqb}
 use Rattle.vat_icb.proofs.form_fits.Goals as goal

@@ -1,6 +1,5 @@
 -- `vat_icb::form_of` meets its contract. Assumes nothing.
 use mathlib.Core.Path.{refl}
-use borrow.Author.Rules.{rules}
 use Rattle.model.specs.Vat.{form}
 use Rattle.vat_icb.proofs.form_of.Goals as goal
 

@@ -2,7 +2,6 @@
 use Prim.Native.Nat.{ℕ, ◌+◌, ◌*◌, ◌/◌}
 use mathlib.Core.Path.{sym, ap, ◌∙◌}
 use native.Mathlib.Omega.{arith}
-use borrow.Author.Rules.{rules}
 use Rattle.fields.specs.Number.{field}
 use Rattle.vat_icb.specs.Extents.{size_at}
 use Rattle.vat_icb.proofs.Extents.{has-embedded, has-past, has-size, pair_inside}

@@ -1,5 +1,4 @@
 -- `vat_icb::length_of` meets its contract. Assumes nothing.
-use borrow.Author.Rules.{rules}
 use Rattle.model.specs.Vat.{file_length}
 use Rattle.vat_icb.proofs.length_of.Goals as goal
 

@@ -2,7 +2,6 @@
 use Prim.Native.Nat.{ℕ, ◌%◌}
 use mathlib.Core.Path.{sym, ap, ◌∙◌}
 use lib.Dec.{eqb}
-use borrow.Author.Rules.{rules}
 use Rattle.vat_icb.proofs.Extents.{pairs-embedded, pairs-other}
 use Rattle.vat_icb.proofs.pairs_fit.Goals as goal
 

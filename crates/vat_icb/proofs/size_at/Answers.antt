@@ -5,7 +5,6 @@ use native.Mathlib.Omega.{arith}
 use Rattle.fields.specs.Number.{field}
 use Rattle.vat_icb.specs.Extents.{size_at}
 use Rattle.vat_icb.proofs.Extents.{extent-inside}
-use borrow.Author.Rules.{rules}
 use Rattle.vat_icb.proofs.size_at.Tie as tie
 use Rattle.vat_icb.proofs.size_at.Lts as lts
 use Rattle.vat_icb.proofs.size_at.Reads as reads

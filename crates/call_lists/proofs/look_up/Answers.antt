@@ -1,0 +1,12 @@
+-- `call_lists::look_up` meets its contract: each return by the law of its case. Assumes nothing.
+use Rattle.call_lists.proofs.Listing.{look-short, look_at, look-refused}
+use Rattle.call_lists.proofs.look_up.Goals as goal
+
+pub returns-then-res-ne-ONE : goal.returns-then-res-ne-ONE
+returns-then-res-ne-ONE c = let told = look-short _ _ _ c.if-res-ne-ONE.true c.number.ensures in record { value = told.0; res_after = told.1 }
+
+pub returns-in-At : goal.returns-in-At
+returns-in-At c = let told = look_at _ _ _ c.if-res-ne-ONE.false c.look_up-found.ensures.answer c.in-At.is in record { value = told.0; res_after = told.1 }
+
+pub returns-in-Refused : goal.returns-in-Refused
+returns-in-Refused c = let told = look-refused _ _ _ c.if-res-ne-ONE.false c.look_up-found.ensures.answer c.in-Refused.is c.number-in-Refused.ensures in record { value = told.0; res_after = told.1 }
