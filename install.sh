@@ -5,7 +5,7 @@
 #     PREFIX=/usr sh install.sh              elsewhere; LIBDIR and INCLUDEDIR name folders that are not lib and include there
 #     DESTDIR=stage PREFIX=/usr sh install.sh   below another folder, for a package
 #
-# The library is target/staticlib/libcapi.a, which `rt staticlib capi` writes, or the one in the folder that TUORMIK_LIB names.
+# The library is target/staticlib/libcapi.a, which README's first command writes, or the one in the folder that TUORMIK_LIB names.
 set -eu
 case ${DESTDIR:-} in '' | /*) ;; *) DESTDIR=$(pwd)/$DESTDIR ;; esac
 case ${TUORMIK_LIB:-} in '' | /*) ;; *) TUORMIK_LIB=$(pwd)/$TUORMIK_LIB ;; esac
@@ -25,7 +25,7 @@ for folder in "$prefix" "$libdir" "$includedir"; do
     esac
 done
 if [ ! -f "$library" ]; then
-    echo "install.sh: $library is not there: build it by 'rt staticlib capi', or name its folder in TUORMIK_LIB" >&2
+    echo "install.sh: $library is not there: build it by README's first command, or name its folder in TUORMIK_LIB" >&2
     exit 1
 fi
 version=$(sed -n 's/^#define TUORMIK_VERSION "\(.*\)"$/\1/p' include/tuormik.h)

@@ -17,7 +17,7 @@ def read(path):
         line = line.split("#")[0].strip()
         if line:
             name, _, deps = line.partition(":")
-            listed[name.strip()] = deps.split()
+            listed[name.split()[0]] = deps.split()
     return {name: [d for d in deps if d in listed] for name, deps in listed.items()}
 
 

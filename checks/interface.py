@@ -70,7 +70,7 @@ CONSTANTS = {
 IN_RUST = ("NONE", "DEFECTIVE")
 
 # parameters that the source calls otherwise than the header does
-RENAMED = {"kept": "record", "at": "cut_at", "effect": "cut_effect", "size": "table_bytes"}
+RENAMED = {"kept": "record", "res": "result", "at": "cut_at", "effect": "cut_effect", "size": "table_bytes"}
 RENAMED_IN = {"tuormik_read": {"v": "number"}}
 
 # older names that the header keeps for refusals
@@ -135,11 +135,11 @@ def of_source(text):
     """The exported functions: name to (parameters as (name, type), returned type)."""
     text = re.sub(r"//[^\n]*", "", text)
     functions = {}
-    for name, parameters, returned in re.findall(r'#\[no_mangle\]\s*pub extern "C" fn (\w+)\(([^)]*)\)\s*->\s*(\w+)', text):
+    for name, parameters, returned in re.findall(r'#\[unsafe\(no_mangle\)\]\s*pub extern "C" fn (\w+)\(([^)]*)\)\s*->\s*(\w+)', text):
         signature = in_c(parameters, {**RENAMED, **RENAMED_IN.get(name, {})}, "%s: %s" % (SOURCE, name))
         added(functions, name, (signature, returned), SOURCE)
-    if len(functions) != text.count("#[no_mangle]") or len(functions) != text.count('extern "C"'):
-        raise Wrong('%s: #[no_mangle] and extern "C" do not stand by turns' % SOURCE)
+    if len(functions) != text.count("#[unsafe(no_mangle)]") or len(functions) != text.count('extern "C"'):
+        raise Wrong('%s: #[unsafe(no_mangle)] and extern "C" do not stand by turns' % SOURCE)
     return functions
 
 
@@ -427,8 +427,8 @@ SLIPS = [
     (SOURCE, "crc: u16, a: u8, b: u8", "a: u8, crc: u16, b: u8"),
     (SOURCE, "c: u8, d: u8", "d: u8, c: u8"),
     (SOURCE, 'pub extern "C" fn tuormik_run(', 'pub extern "C" fn tuormik_run_on('),
-    (SOURCE, '#[no_mangle]\npub extern "C" fn tuormik_run(', "pub fn tuormik_run("),
-    (SOURCE, '#[no_mangle]\npub extern "C" fn tuormik_run(', 'pub extern "C" fn tuormik_run('),
+    (SOURCE, '#[unsafe(no_mangle)]\npub extern "C" fn tuormik_run(', "pub fn tuormik_run("),
+    (SOURCE, '#[unsafe(no_mangle)]\npub extern "C" fn tuormik_run(', 'pub extern "C" fn tuormik_run('),
     (REFUSALS, "Refusal::NoRoom => 16", "Refusal::NoRoom => 17"),
     (REFUSALS, "    NoRoom,\n", ""),
     (REFUSALS, "Refusal::WrongRun => 32", "Refusal::WrongRun => 33"),
@@ -451,7 +451,7 @@ SLIPS = [
 
 # a function more, as each file has it: they agree with it in all of them, and not where it is missing in one
 MORE = {
-    SOURCE: '#[no_mangle]\npub extern "C" fn tuormik_more(season: u16, weights: &[u64], result: &mut [u64]) -> u32 { 0 }\n',
+    SOURCE: '#[unsafe(no_mangle)]\npub extern "C" fn tuormik_more(season: u16, weights: &[u64], result: &mut [u64]) -> u32 { 0 }\n',
     HEADER: "uint32_t tuormik_more(uint16_t season, const uint64_t *weights, size_t weights_length,\n"
             "                      uint64_t *result, size_t result_length);\n",
     DECLARED: "fn more(season: u16, weights: &[u64], result: &mut [u64]) -> u32;\n",

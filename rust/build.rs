@@ -1,5 +1,5 @@
-//! Links the proved library in the folder that `TUORMIK_LIB` names, or in `../target/staticlib`: `libcapi.a`, as `rt staticlib capi` builds
-//! it, or else `libtuormik.a`, as `install.sh` installs it. With the feature `stand-in` nothing is linked.
+//! Links the proved library in the folder that `TUORMIK_LIB` names, or in `../target/staticlib`: `libcapi.a`, as README's first
+//! command builds it, or else `libtuormik.a`, as `install.sh` installs it. With the feature `stand-in` nothing is linked.
 
 use std::path::PathBuf;
 
@@ -22,7 +22,7 @@ fn main() {
     let found = NAMES.into_iter().find(|name| archive(name).is_file());
     if found.is_none() {
         println!(
-            "cargo:warning={} has no libcapi.a and no libtuormik.a: build the library by `rt staticlib capi`, name its folder in \
+            "cargo:warning={} has no libcapi.a and no libtuormik.a: build the library by README's first command, name its folder in \
              TUORMIK_LIB, or try the stand-in by `--features stand-in`",
             folder.display()
         );

@@ -1,6 +1,5 @@
 -- `call_numbers::cut_of` meets its contract: its effect is that of the number. Assumes nothing.
 use mathlib.Core.Path.{ap}
-use borrow.Author.Rules.{rules}
 use Rattle.model.specs.declared.Effect.{Effect}
 use Rattle.call_numbers.proofs.cut_of.Goals as goal
 

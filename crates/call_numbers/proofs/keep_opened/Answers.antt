@@ -1,6 +1,5 @@
 -- `call_numbers::keep_opened` meets its contract: by cases of the answer. Assumes nothing.
 use mathlib.Core.Path.{sym, ap, ◌∙◌}
-use borrow.Author.Rules.{rules}
 use Rattle.model.specs.declared.Opened.{Opened}
 use Rattle.call_numbers.specs.Numbers.{record_opened}
 use Rattle.call_numbers.proofs.keep_opened.Goals as goal

@@ -1,6 +1,5 @@
 -- `call_numbers::keep_record` meets its contract: by cases of the reply. Assumes nothing.
 use mathlib.Core.Path.{sym, ap, ◌∙◌}
-use borrow.Author.Rules.{rules}
 use Rattle.model.specs.declared.Reply.{Reply}
 use Rattle.call_numbers.specs.Numbers.{record_after}
 use Rattle.call_numbers.proofs.keep_record.Goals as goal

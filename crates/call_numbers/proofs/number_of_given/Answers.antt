@@ -1,6 +1,5 @@
 -- `call_numbers::number_of_given` meets its contract: by cases of the answer. Assumes nothing.
 use mathlib.Core.Path.{sym, ap, ◌∙◌}
-use borrow.Author.Rules.{rules}
 use Rattle.model.specs.Told.{given_number}
 use Rattle.call_numbers.proofs.number_of_given.Goals as goal
 

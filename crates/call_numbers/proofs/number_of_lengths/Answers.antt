@@ -1,6 +1,5 @@
 -- `call_numbers::number_of_lengths` meets its contract: the number of that reason. Assumes nothing.
 use mathlib.Core.Path.{ap, ◌∙◌}
-use borrow.Author.Rules.{rules}
 use Rattle.refusal.specs.Number.{number_of}
 use Rattle.call_numbers.proofs.number_of_lengths.Goals as goal
 

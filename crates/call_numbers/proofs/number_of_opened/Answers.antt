@@ -1,6 +1,5 @@
 -- `call_numbers::number_of_opened` meets its contract: by cases of the answer. Assumes nothing.
 use mathlib.Core.Path.{sym, ap, ◌∙◌}
-use borrow.Author.Rules.{rules}
 use Rattle.model.specs.Told.{opened_number}
 use Rattle.call_numbers.proofs.number_of_opened.Goals as goal
 

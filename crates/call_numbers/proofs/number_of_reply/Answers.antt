@@ -1,6 +1,5 @@
 -- `call_numbers::number_of_reply` meets its contract: by cases of the reply. Assumes nothing.
 use mathlib.Core.Path.{sym, ap, ◌∙◌}
-use borrow.Author.Rules.{rules}
 use Rattle.model.specs.Told.{reply_number}
 use Rattle.call_numbers.proofs.number_of_reply.Goals as goal
 

@@ -1,6 +1,5 @@
 -- `call_numbers::number_of_verdict` meets its contract: by cases of the verdict. Assumes nothing.
 use mathlib.Core.Path.{sym, ap, ◌∙◌}
-use borrow.Author.Rules.{rules}
 use Rattle.refusal.specs.Number.{verdict_number}
 use Rattle.call_numbers.proofs.number_of_verdict.Goals as goal
 

@@ -1,6 +1,5 @@
 -- `call_numbers::put_record` meets its contract: each of the five places is set. Assumes nothing.
 use native.Mathlib.Omega.{arith}
-use borrow.Author.Rules.{rules}
 use lib.ListN.{length-set}
 use Rattle.call_numbers.proofs.Laws.{put-once, put-rewritable}
 use Rattle.call_numbers.proofs.put_record.Goals as goal

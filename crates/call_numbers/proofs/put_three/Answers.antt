@@ -1,5 +1,4 @@
 -- `call_numbers::put_three` meets its contract: each of the three places is set. Assumes nothing.
-use borrow.Author.Rules.{rules}
 use Rattle.call_numbers.proofs.Laws.{three-set}
 use Rattle.call_numbers.proofs.put_three.Goals as goal
 

@@ -1,6 +1,5 @@
 -- `call_numbers::read_record` meets its contract: the tests are the definition's. Assumes nothing.
 use borrow.Author.Tests.{eq-eqb, ne_eqb}
-use borrow.Author.Rules.{rules}
 use Rattle.call_numbers.specs.Numbers.{record_of}
 use Rattle.call_numbers.proofs.read_record.Goals as goal
 

@@ -1,5 +1,4 @@
 -- `call_numbers::refuse_lengths` meets its contract: the examination stops at line 3 at the latest. Assumes nothing.
-use borrow.Author.Rules.{rules}
 use Rattle.call_numbers.proofs.Laws.{short-reason}
 use Rattle.call_numbers.proofs.refuse_lengths.Goals as goal
 

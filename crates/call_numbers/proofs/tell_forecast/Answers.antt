@@ -1,5 +1,4 @@
 -- `call_numbers::tell_forecast` meets its contract: by cases of the answer. Assumes nothing.
-use borrow.Author.Rules.{rules}
 use Rattle.call_numbers.proofs.Laws.{tells-end, tells-stop, tells-refusal}
 use Rattle.call_numbers.proofs.tell_forecast.Goals as goal
 
