@@ -1,9 +1,5 @@
-use borrow.Author.Rules.{rules}
-use Prim.Native.Nat.{ℕ, ◌+◌, ◌-◌, ◌≤◌}
-use mathlib.Core.Path.{◌≡◌}
-use mathlib.Core.List.{List}
 use native.Mathlib.Omega.{arith}
-use Rattle.model.specs.Disc.{disc, mark, first_mark}
+use Rattle.model.specs.Disc.{disc, mark}
 use Rattle.disc_read.proofs.Laws.{first-all, first-here, first_above, first-none}
 use Rattle.disc_read.proofs.first_mark.Goals as goal
 

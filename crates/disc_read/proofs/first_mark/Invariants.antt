@@ -1,12 +1,9 @@
 -- `disc_read::first_mark` meets its contract. The loop's invariant: the first that is not recorded is among those left to be looked at. Assumes
 -- nothing.
-use borrow.Author.Rules.{rules}
 use Prim.Native.Nat.{ℕ, ◌+◌, ◌-◌, ◌≤◌}
 use mathlib.Core.Path.{◌≡◌}
 use mathlib.Core.List.{List}
-use native.Mathlib.Omega.{arith}
-use Rattle.model.specs.Disc.{disc, mark, first_mark}
-use Rattle.disc_read.proofs.Laws.{first-all, first-here, first_above, first-none}
+use Rattle.model.specs.Disc.{disc, first_mark}
 use Rattle.disc_read.proofs.first_mark.Given as goal
 
 abbrev pub invariant-loop-i : goal.invariant-loop-i

@@ -1,6 +1,5 @@
 -- `disc_read::judge_run` meets its contract: where all are recorded neither line applies, else the lines of the first mark. Assumes nothing.
 use mathlib.Core.Path.{ap, ◌∙◌}
-use borrow.Author.Rules.{rules}
 use Rattle.refusal.specs.Tests.{first}
 use Rattle.model.specs.Disc.{disc, mark_tests}
 use Rattle.disc_read.proofs.Laws.{run-goes}

@@ -1,5 +1,4 @@
 -- `disc_read::judge_sector` meets its contract: the lines of its mark. Assumes nothing.
-use borrow.Author.Rules.{rules}
 use Rattle.model.specs.Disc.{mark}
 use Rattle.disc_read.proofs.judge_sector.Goals as goal
 
