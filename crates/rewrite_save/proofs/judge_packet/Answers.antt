@@ -1,5 +1,4 @@
 -- `rewrite_save::judge_packet` meets its contract: it is judged by `place_packet`, with the test of the lent lengths. Assumes nothing.
-use borrow.Author.Rules.{rules}
 use Rattle.model.specs.Disc.{disc}
 use Rattle.model.specs.Examine.{setting}
 use Rattle.sparing_place.proofs.Laws.{table-lent}

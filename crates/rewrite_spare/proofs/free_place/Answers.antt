@@ -1,5 +1,4 @@
 -- `rewrite_spare::free_place` meets its contract, by what was found. Assumes nothing.
-use borrow.Author.Rules.{rules}
 use Rattle.rewrite_spare.proofs.Spares.{free-at, free-nowhere}
 use Rattle.rewrite_spare.proofs.free_place.Goals as goal
 

@@ -1,5 +1,4 @@
 -- `rewrite_spare::has_free` meets its contract, by what was found. Assumes nothing.
-use borrow.Author.Rules.{rules}
 use Rattle.rewrite_spare.proofs.Spares.{free-some, free-none}
 use Rattle.rewrite_spare.proofs.has_free.Goals as goal
 

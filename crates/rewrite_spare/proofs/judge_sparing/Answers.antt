@@ -3,7 +3,6 @@ use mathlib.Core.Bool.{not}
 use mathlib.Core.Path.{sym, ap, ◌∙◌}
 use mathlib.Core.List.{List}
 use native.Mathlib.Omega.{arith}
-use borrow.Author.Rules.{rules}
 use Rattle.model.specs.Sparing.{Entry, free_of}
 use Rattle.model.specs.Rewrite.{no_entry}
 use Rattle.rewrite_spare.proofs.Spares.{spare-known, spare-off, spare-outside, spare-reserved, spare-one, spare-none, spare-last, spare-fits}
@@ -29,14 +28,14 @@ returns-then-not-has_free c e d start span count lent sequence = spare-none e d 
     (spare-known e d _ start lent c.is_of_spare.ensures c.if-is_of_spare.false)
     (omega (arith, count, c.if-count-lt2.false))
     (c.has_free.ensures ∙ sym (ap (λ (es : List Entry). not (no_entry (free_of es))) lent))
-    c.if-not-has_free.true-raw
+    (ap not c.if-not-has_free.true)
 
 pub returns-then-sequence : goal.returns-then-sequence
 returns-then-sequence c e d start span count lent sequence = spare-last e d c.args.b.0 c.if-b-ne0.false (omega (arith, span, c.if-span-b.false))
     (spare-known e d _ start lent c.is_of_spare.ensures c.if-is_of_spare.false)
     (omega (arith, count, c.if-count-lt2.false))
     (c.has_free.ensures ∙ sym (ap (λ (es : List Entry). not (no_entry (free_of es))) lent))
-    c.if-not-has_free.false-raw
+    (ap not c.if-not-has_free.false)
     (sequence ∙ sym c.sequence_held-sequence.ensures ∙ c.if-sequence.true)
 
 pub returns : goal.returns
@@ -44,5 +43,5 @@ returns c e d start span count lent sequence = spare-fits e d c.args.b.0 c.if-b-
     (spare-known e d _ start lent c.is_of_spare.ensures c.if-is_of_spare.false)
     (omega (arith, count, c.if-count-lt2.false))
     (c.has_free.ensures ∙ sym (ap (λ (es : List Entry). not (no_entry (free_of es))) lent))
-    c.if-not-has_free.false-raw
+    (ap not c.if-not-has_free.false)
     (λ q. c.if-sequence.false (c.sequence_held-sequence.ensures ∙ sym sequence ∙ q))

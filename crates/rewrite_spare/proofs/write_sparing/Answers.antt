@@ -2,7 +2,6 @@
 use Prim.Native.Nat.{ℕ, ◌*◌}
 use mathlib.Core.Path.{sym, ap, ◌∙◌}
 use native.Mathlib.Omega.{arith}
-use borrow.Author.Rules.{rules}
 use Rattle.model.specs.Disc.{disc}
 use Rattle.sparing_copy.specs.Layout.{geometry_in}
 use Rattle.sparing_writes.specs.Order.{numbers_of}
