@@ -3,7 +3,7 @@
 use Prim.Native.Nat.{ℕ, ◌<◌}
 use mathlib.Core.Path.{◌≡◌, sym, ◌∙◌}
 use mathlib.Core.List.{List}
-use native.Mathlib.Omega.{arith}
+use borrow.Author.Rules.{rules}
 use lib.ListN.{get_or}
 use Rattle.model.specs.Disc.{Disc, disc}
 use Rattle.model.specs.Examine.{Setting, setting}
@@ -24,7 +24,7 @@ pub returns-in-Refused : goal.returns-in-Refused
 returns-in-Refused c =
     let e = setting c.args.maps.now c.args.s c.args.l in
     let o = c.open-opened.ensures in
-    let told = promised e c.args.disc.now c.args.marks.now c.args.table.now c.args.numbers.now c.args.pool.now c.args.replies.now _ _ _ _ (λ i. omega (arith, c.slice_known-1.given i))
+    let told = promised e c.args.disc.now c.args.marks.now c.args.table.now c.args.numbers.now c.args.pool.now c.args.replies.now _ _ _ _ (λ i. search rules)
     (run-refused e (disc c.args.disc.now c.args.marks.now) c.args.table.now _ c.args.numbers.now c.args.pool.now c.args.replies.now _ (sym o.answer ∙ c.in-Refused.is) o.table) in
     record { runs = told.0; demand_met = told.1.0; wait_met = told.1.1 }
 
@@ -32,6 +32,6 @@ pub returns-in-Open : goal.returns-in-Open
 returns-in-Open c =
     let e = setting c.args.maps.now c.args.s c.args.l in
     let o = c.open-opened.ensures in
-    let told = promised e c.args.disc.now c.args.marks.now c.args.table.now c.args.numbers.now c.args.pool.now c.args.replies.now _ _ _ _ (λ i. omega (arith, c.slice_known-1.given i))
+    let told = promised e c.args.disc.now c.args.marks.now c.args.table.now c.args.numbers.now c.args.pool.now c.args.replies.now _ _ _ _ (λ i. search rules)
     (c.carry.ensures ∙ run-ended e (disc c.args.disc.now c.args.marks.now) c.args.table.now _ c.args.numbers.now c.args.pool.now c.args.replies.now _ _ (sym o.answer ∙ c.in-Open.is) o.table) in
     record { runs = told.0; demand_met = told.1.0; wait_met = told.1.1 }
