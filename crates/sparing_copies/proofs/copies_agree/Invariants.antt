@@ -1,13 +1,9 @@
 -- `sparing_copies::copies_agree` meets its contract. The invariant: the copies left answer for all. The measure is the copies left. Assumes nothing.
-use Prim.Native.Nat.{ℕ, ◌-◌, ◌≤◌}
-use mathlib.Core.Path.{◌≡◌, refl, ap, ◌∙◌}
-use borrow.Author.Rules.{rules}
-use native.Mathlib.Omega.{arith}
-use lib.ListN.{length, take, drop}
-use borrow.Author.Tests.{not-true, not-false}
-use Rattle.sparing_copies.proofs.Copies.{agreeing-end, agreeing-off, agreeing-next}
+use Prim.Native.Nat.{◌-◌}
+use mathlib.Core.Path.{◌≡◌}
+use lib.ListN.{take, drop}
 use Rattle.sparing_copy.specs.Layout.{geometry_in}
-use Rattle.sparing_copies.specs.Copies.{agrees, agreeing}
+use Rattle.sparing_copies.specs.Copies.{agreeing}
 use Rattle.model.specs.Disc.{disc as disc_of}
 use Rattle.sparing_copies.proofs.copies_agree.Given as goal
 

@@ -1,7 +1,6 @@
 -- `sparing_copies::copy_agrees` meets its contract, case by case. Assumes nothing.
 use mathlib.Core.Path.{sym, ap, ◌∙◌}
 use native.Mathlib.Omega.{arith}
-use borrow.Author.Rules.{rules}
 use Rattle.fields.proofs.Laws.{same_true, same-equal}
 use Rattle.model.specs.Sparing.{table_at}
 use Rattle.model.proofs.Basics.{differ}

@@ -1,6 +1,5 @@
 -- `sparing_copies::copy_counts` meets its contract: by the mark, then by the bytes. Assumes nothing.
 use mathlib.Core.Path.{refl, ap, ◌∙◌}
-use borrow.Author.Rules.{rules}
 use Rattle.sparing_copies.proofs.Copies.{counts-blank, counts-recorded, span-part}
 use Rattle.model.specs.Disc.{sector}
 use Rattle.model.specs.Sparing.{copy_fits}

@@ -1,7 +1,6 @@
 -- `sparing_copies::count_at` meets its contract, by the field of the sector. Assumes nothing.
 use Prim.Native.Nat.{ℕ, ◌+◌}
 use mathlib.Core.Path.{ap, ◌∙◌}
-use borrow.Author.Rules.{rules}
 use Rattle.sparing_copies.proofs.Copies.{count-read}
 use Rattle.fields.specs.Number.{field}
 use Rattle.sparing_copies.proofs.count_at.Goals as goal

@@ -1,5 +1,4 @@
 -- `sparing_copies::counts_after` meets its contract. Assumes nothing.
-use borrow.Author.Rules.{rules}
 use Rattle.sparing_copies.proofs.counts_after.Goals as goal
 
 pub counts_beside-requires : goal.counts_beside-requires

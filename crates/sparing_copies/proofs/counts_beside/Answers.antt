@@ -1,7 +1,6 @@
 -- `sparing_copies::counts_beside` meets its contract: by the bytes, then by the mark. Assumes nothing.
 use mathlib.Core.Path.{sym, ◌∙◌}
 use native.Mathlib.Omega.{arith}
-use borrow.Author.Rules.{rules}
 use borrow.Author.Tests.{not-false}
 use Rattle.fields.proofs.Laws.{same_true}
 use Rattle.sparing_copies.proofs.Copies.{counts-short, counts-alike}

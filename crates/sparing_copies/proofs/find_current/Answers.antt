@@ -2,7 +2,6 @@
 use Prim.Native.Nat.{◌<◌}
 use mathlib.Core.Path.{refl}
 use native.Mathlib.Omega.{arith}
-use borrow.Author.Rules.{rules}
 use borrow.Author.Tests.{not-true, not-false}
 use Rattle.sparing_copy.proofs.Places.{tables-below}
 use Rattle.sparing_copies.proofs.Copies.{none_found, found-on, found-counts, differ-found, current-found}

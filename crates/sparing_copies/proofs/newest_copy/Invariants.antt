@@ -1,12 +1,7 @@
 -- `sparing_copies::newest_copy` meets its contract. The invariant: it is the newest of the copies passed, from the last down. The measure is the copies left. Assumes nothing.
-use Prim.Native.Nat.{ℕ, ◌-◌, ◌≤◌, ◌<◌}
-use mathlib.Core.Path.{◌≡◌, ap, ◌∙◌}
-use mathlib.Core.Bool.{true, false}
-use borrow.Author.Rules.{rules}
-use native.Mathlib.Omega.{arith}
-use lib.ListN.{length, take, drop}
-use Rattle.sparing_copies.proofs.Copies.{newest-none, newest-next, found-on, found-counts}
-use Rattle.sparing_copy.proofs.Places.{later-below}
+use Prim.Native.Nat.{◌≤◌}
+use mathlib.Core.Path.{◌≡◌}
+use lib.ListN.{take, drop}
 use Rattle.sparing_copies.specs.Copies.{newest_of}
 use Rattle.sparing_copy.specs.Layout.{geometry_in}
 use Rattle.model.specs.Disc.{disc as disc_of}

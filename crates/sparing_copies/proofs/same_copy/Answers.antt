@@ -2,7 +2,6 @@
 use mathlib.Core.Path.{refl, ◌∙◌, ap₂}
 use mathlib.Core.List.{[]}
 use native.Mathlib.Omega.{arith}
-use borrow.Author.Rules.{rules}
 use Rattle.fields.specs.Bytes.{same}
 use Rattle.sparing_copies.proofs.Copies.{used-read}
 use Rattle.sparing_copies.proofs.same_copy.Goals as goal

@@ -2,7 +2,6 @@
 use Prim.Native.Nat.{◌+◌, ◌*◌}
 use mathlib.Core.Path.{refl, sym, ◌∙◌, ap₂}
 use native.Mathlib.Omega.{arith}
-use borrow.Author.Rules.{rules}
 use mathlib.Core.List.{[]}
 use Rattle.sparing_copies.proofs.Copies.{tables-differ, span-part, tables-alike}
 use Rattle.model.specs.Disc.{disc as disc_of}

@@ -1,5 +1,4 @@
 -- `sparing_copy::held_with` meets its contract. Assumes nothing.
-use Rattle.std.proofs.Common.{rules}
 use Rattle.sparing_copy.proofs.Slots.{with-one, with-several}
 use Rattle.sparing_copy.proofs.held_with.Goals as goal
 

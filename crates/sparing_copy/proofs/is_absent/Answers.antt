@@ -1,6 +1,4 @@
-use Rattle.std.proofs.Common.{◌≡◌, ◌-◌, ◌&&◌, drop, sym, refl, ◌∙◌, ⊎_elim, rules}
-use Rattle.maps.specs.Kinds.{absent}
-use Rattle.model.specs.Sparing.{mapped_of}
+use Rattle.std.proofs.Common.{sym, refl, ◌∙◌}
 use Rattle.sparing_copy.specs.Entries.{entries_in}
 use Rattle.sparing_copy.proofs.Entries.{sector-step, sector-end}
 use Rattle.sparing_copy.proofs.Rule.{absent-end, absent-found, absent-next}

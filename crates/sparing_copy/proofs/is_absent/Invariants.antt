@@ -1,10 +1,8 @@
 -- `sparing_copy::is_absent` meets its contract. The invariant: what was found and the entries left answer together for those from the first on. The measure is the entries left. Assumes nothing.
-use Rattle.std.proofs.Common.{◌≡◌, ◌-◌, ◌&&◌, drop, sym, refl, ◌∙◌, ⊎_elim, rules}
+use Rattle.std.proofs.Common.{◌≡◌, ◌-◌, ◌&&◌, drop}
 use Rattle.maps.specs.Kinds.{absent}
 use Rattle.model.specs.Sparing.{mapped_of}
 use Rattle.sparing_copy.specs.Entries.{entries_in}
-use Rattle.sparing_copy.proofs.Entries.{sector-step, sector-end}
-use Rattle.sparing_copy.proofs.Rule.{absent-end, absent-found, absent-next}
 use Rattle.sparing_copy.proofs.is_absent.Given as goal
 
 abbrev pub invariant-loop-i : goal.invariant-loop-i

@@ -1,9 +1,7 @@
-use Rattle.std.proofs.Common.{◌≡◌, ◌-◌, ◌&&◌, length, drop, refl, ⊎_elim, rules}
+use Rattle.std.proofs.Common.{refl}
 use Rattle.sparing_copy.proofs.Rule.{absent-end, absent-found, absent-next}
 use Rattle.sparing_copy.proofs.Entries.{spare-step, spare-end}
 use Rattle.model.specs.Both.{spare_entries}
-use Rattle.model.specs.Sparing.{mapped_of}
-use Rattle.maps.specs.Kinds.{absent}
 use Rattle.sparing_copy.proofs.is_absent_spare.Goals as goal
 use Rattle.sparing_copy.proofs.is_absent_spare.Goals.{then-m-spares, else-m-spares}
 

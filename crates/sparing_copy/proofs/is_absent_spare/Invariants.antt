@@ -1,7 +1,5 @@
 -- `sparing_copy::is_absent_spare` meets its contract. The invariant: what was found and the spares left answer together for those from the first on. The measure is the spares left. Assumes nothing.
-use Rattle.std.proofs.Common.{◌≡◌, ◌-◌, ◌&&◌, length, drop, refl, ⊎_elim, rules}
-use Rattle.sparing_copy.proofs.Rule.{absent-end, absent-found, absent-next}
-use Rattle.sparing_copy.proofs.Entries.{spare-step, spare-end}
+use Rattle.std.proofs.Common.{◌≡◌, ◌-◌, ◌&&◌, length, drop}
 use Rattle.model.specs.Both.{spare_entries}
 use Rattle.model.specs.Sparing.{mapped_of}
 use Rattle.maps.specs.Kinds.{absent}

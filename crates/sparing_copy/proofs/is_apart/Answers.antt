@@ -1,5 +1,4 @@
 -- `sparing_copy::is_apart` meets its contract, by which packet begins first. Assumes nothing.
-use Rattle.std.proofs.Common.{rules}
 use Rattle.sparing_copy.proofs.Places.{apart_below, apart_above}
 use Rattle.sparing_copy.proofs.is_apart.Goals as goal
 

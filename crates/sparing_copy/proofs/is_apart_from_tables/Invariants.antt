@@ -1,8 +1,6 @@
 -- `sparing_copy::is_apart_from_tables` meets its contract. The invariant: the tables left answer for all. The measure is the tables left. Assumes nothing.
-use Rattle.std.proofs.Common.{◌≡◌, ℕ, ◌-◌, ◌≤◌, length, take, drop, sym, refl, ap, ◌∙◌, arith, rules}
-use borrow.Author.Tests.{not-true, not-false}
-use Rattle.model.specs.Sparing.{apart, apart_from}
-use Rattle.sparing_copy.proofs.Places.{tables_end, tables-met, tables-next}
+use Rattle.std.proofs.Common.{◌≡◌, ◌-◌, take, drop}
+use Rattle.model.specs.Sparing.{apart_from}
 use Rattle.sparing_copy.proofs.is_apart_from_tables.Given as goal
 
 abbrev pub invariant-loop-i : goal.invariant-loop-i

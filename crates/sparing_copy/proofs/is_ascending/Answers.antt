@@ -1,6 +1,5 @@
-use Rattle.std.proofs.Common.{◌≡◌, ◌+◌, ◌-◌, ◌≤◌, drop, sym, refl, ◌∙◌, arith, rules}
+use Rattle.std.proofs.Common.{◌+◌, sym, refl, ◌∙◌, arith, rules}
 use borrow.Author.Tests.{not-true, not-false}
-use Rattle.model.specs.Sparing.{ascending}
 use Rattle.sparing_copy.specs.Entries.{entries_in}
 use Rattle.sparing_copy.proofs.Entries.{sector-step, sector-end}
 use Rattle.sparing_copy.proofs.Rule.{ascending-end, ascending-off, ascending-next}

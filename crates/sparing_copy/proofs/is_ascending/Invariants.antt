@@ -1,10 +1,7 @@
 -- `sparing_copy::is_ascending` meets its contract. The invariant: the entries left answer for all. The measure is the entries left. Assumes nothing.
-use Rattle.std.proofs.Common.{◌≡◌, ◌+◌, ◌-◌, ◌≤◌, drop, sym, refl, ◌∙◌, arith, rules}
-use borrow.Author.Tests.{not-true, not-false}
+use Rattle.std.proofs.Common.{◌≡◌, ◌-◌, ◌≤◌, drop}
 use Rattle.model.specs.Sparing.{ascending}
 use Rattle.sparing_copy.specs.Entries.{entries_in}
-use Rattle.sparing_copy.proofs.Entries.{sector-step, sector-end}
-use Rattle.sparing_copy.proofs.Rule.{ascending-end, ascending-off, ascending-next}
 use Rattle.sparing_copy.proofs.is_ascending.Given as goal
 
 abbrev pub invariant-loop-i : goal.invariant-loop-i

@@ -1,5 +1,5 @@
 -- `sparing_copy::is_clear` meets its contract, case by case. Assumes nothing.
-use Rattle.std.proofs.Common.{◌≡◌, ℕ, ◌+◌, true, get_or, sym, refl, ap, ◌∙◌, arith, rules}
+use Rattle.std.proofs.Common.{◌≡◌, ℕ, ◌+◌, true, get_or, sym, refl, ap, ◌∙◌, arith}
 use Rattle.model.specs.Vat.{none}
 use Rattle.model.specs.Sparing.{defective, is_used}
 use Rattle.model.proofs.SparingEntries.{free-tests, defective-tests, used-tests}

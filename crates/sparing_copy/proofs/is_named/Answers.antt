@@ -1,5 +1,5 @@
 -- `sparing_copy::is_named` meets its contract, regid by regid. Assumes nothing.
-use Rattle.std.proofs.Common.{◌≡◌, false, sym, ◌∙◌, rules}
+use Rattle.std.proofs.Common.{◌≡◌, false, sym, ◌∙◌}
 use borrow.Author.Tests.{not-true, not-false}
 use Rattle.fields.specs.Regid.{identifier, regid, has_regid}
 use Rattle.fields.proofs.Laws.{regid-told}

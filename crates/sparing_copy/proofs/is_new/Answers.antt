@@ -1,5 +1,5 @@
 -- `sparing_copy::is_new` meets its contract, by what the slot holds. Assumes nothing.
-use Rattle.std.proofs.Common.{sym, ◌∙◌, rules}
+use Rattle.std.proofs.Common.{sym, ◌∙◌}
 use borrow.Author.Tests.{not-true}
 use Rattle.sparing_copy.proofs.Slots.{holds-none}
 use Rattle.sparing_copy.proofs.is_new.Goals as goal

@@ -1,5 +1,5 @@
 -- `sparing_copy::is_placed` meets its contract, test by test. Assumes nothing.
-use Rattle.std.proofs.Common.{sym, ◌∙◌, rules}
+use Rattle.std.proofs.Common.{sym, ◌∙◌}
 use borrow.Author.Tests.{not-true, not-false}
 use Rattle.sparing_copy.proofs.Places.{placed_off, placed-met}
 use Rattle.sparing_copy.proofs.is_placed.Goals as goal

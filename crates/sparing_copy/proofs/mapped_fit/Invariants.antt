@@ -1,13 +1,8 @@
 -- `sparing_copy::mapped_fit` meets its contract. The invariant: the entries passed fit, and the slots tell of them. The measure is the entries left. Assumes nothing.
-use Rattle.std.proofs.Common.{◌≡◌, ℕ, ◌-◌, ◌≤◌, get_or, sym, refl, ap, ◌∙◌, arith, rules}
-use mathlib.Core.Bool.{false≢true}
-use borrow.Author.Tests.{not-true, not-false}
+use Rattle.std.proofs.Common.{◌≤◌}
 use Rattle.sparing_copy.specs.Layout.{geometry_in}
 use Rattle.sparing_copy.specs.Entries.{entries_in}
-use Rattle.sparing_copy.specs.Slots.{may_hold}
-use Rattle.sparing_copy.proofs.Entries.{sector-step, sector-end}
-use Rattle.sparing_copy.proofs.Rule.{mapped-off, mapped-twice, mapped-rest}
-use Rattle.sparing_copy.proofs.Slots.{Passed, passed_none, passed-behind, passed-next}
+use Rattle.sparing_copy.proofs.Slots.{Passed}
 use Rattle.sparing_copy.proofs.mapped_fit.Given as goal
 
 abbrev pub invariant-loop-i : goal.invariant-loop-i

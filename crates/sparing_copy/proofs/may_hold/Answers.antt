@@ -1,5 +1,4 @@
 -- `sparing_copy::may_hold` meets its contract. Assumes nothing.
-use Rattle.std.proofs.Common.{rules}
 use Rattle.sparing_copy.proofs.Slots.{holds-several, holds-one}
 use Rattle.sparing_copy.proofs.may_hold.Goals as goal
 

@@ -1,5 +1,4 @@
-use Rattle.std.proofs.Common.{◌≡◌, ◌-◌, ◌&&◌, drop, refl, ⊎_elim, rules}
-use Rattle.model.specs.Sparing.{none_defective}
+use Rattle.std.proofs.Common.{refl}
 use Rattle.sparing_copy.specs.Entries.{entries_in}
 use Rattle.sparing_copy.proofs.Entries.{sector-step, sector-end}
 use Rattle.sparing_copy.proofs.Rule.{defective-end, defective-found, defective-next}

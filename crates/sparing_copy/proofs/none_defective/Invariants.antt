@@ -1,9 +1,7 @@
 -- `sparing_copy::none_defective` meets its contract. The invariant: what was found and the entries left answer together for all. The measure is the entries left. Assumes nothing.
-use Rattle.std.proofs.Common.{◌≡◌, ◌-◌, ◌&&◌, drop, refl, ⊎_elim, rules}
+use Rattle.std.proofs.Common.{◌≡◌, ◌-◌, ◌&&◌, drop}
 use Rattle.model.specs.Sparing.{none_defective}
 use Rattle.sparing_copy.specs.Entries.{entries_in}
-use Rattle.sparing_copy.proofs.Entries.{sector-step, sector-end}
-use Rattle.sparing_copy.proofs.Rule.{defective-end, defective-found, defective-next}
 use Rattle.sparing_copy.proofs.none_defective.Given as goal
 
 abbrev pub invariant-loop-i : goal.invariant-loop-i

@@ -1,6 +1,5 @@
-use Rattle.std.proofs.Common.{◌≡◌, ◌-◌, ◌&&◌, drop, sym, refl, ◌∙◌, ⊎_elim, rules}
+use Rattle.std.proofs.Common.{sym, refl, ◌∙◌}
 use Rattle.sparing_copy.specs.Entries.{entries_in}
-use Rattle.sparing_copy.specs.Slots.{none_inside}
 use Rattle.sparing_copy.proofs.Entries.{sector-step, sector-end}
 use Rattle.sparing_copy.proofs.Rule.{inside-end, inside_found, inside-next}
 use Rattle.sparing_copy.proofs.none_inside.Goals as goal

@@ -1,9 +1,7 @@
 -- `sparing_copy::none_inside` meets its contract. The invariant: what was found and the entries left answer together for all. The measure is the entries left. Assumes nothing.
-use Rattle.std.proofs.Common.{◌≡◌, ◌-◌, ◌&&◌, drop, sym, refl, ◌∙◌, ⊎_elim, rules}
+use Rattle.std.proofs.Common.{◌≡◌, ◌-◌, ◌&&◌, drop}
 use Rattle.sparing_copy.specs.Entries.{entries_in}
 use Rattle.sparing_copy.specs.Slots.{none_inside}
-use Rattle.sparing_copy.proofs.Entries.{sector-step, sector-end}
-use Rattle.sparing_copy.proofs.Rule.{inside-end, inside_found, inside-next}
 use Rattle.sparing_copy.proofs.none_inside.Given as goal
 
 abbrev pub invariant-loop-i : goal.invariant-loop-i

@@ -1,6 +1,5 @@
-use Rattle.std.proofs.Common.{◌≡◌, ◌-◌, drop, refl, ◌∙◌, rules}
+use Rattle.std.proofs.Common.{refl, ◌∙◌}
 use borrow.Author.Tests.{not-true, not-false}
-use Rattle.model.specs.Sparing.{mapped_of, originals_clear}
 use Rattle.sparing_copy.specs.Entries.{entries_in}
 use Rattle.sparing_copy.proofs.Entries.{sector-step, sector-end}
 use Rattle.sparing_copy.proofs.Rule.{clear-end, clear-off, clear_next}

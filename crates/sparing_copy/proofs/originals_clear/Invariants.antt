@@ -1,10 +1,7 @@
 -- `sparing_copy::originals_clear` meets its contract. The invariant: the entries left answer for all. The measure is the entries left. Assumes nothing.
-use Rattle.std.proofs.Common.{◌≡◌, ◌-◌, drop, refl, ◌∙◌, rules}
-use borrow.Author.Tests.{not-true, not-false}
+use Rattle.std.proofs.Common.{◌≡◌, ◌-◌, drop}
 use Rattle.model.specs.Sparing.{mapped_of, originals_clear}
 use Rattle.sparing_copy.specs.Entries.{entries_in}
-use Rattle.sparing_copy.proofs.Entries.{sector-step, sector-end}
-use Rattle.sparing_copy.proofs.Rule.{clear-end, clear-off, clear_next}
 use Rattle.sparing_copy.proofs.originals_clear.Given as goal
 
 abbrev pub invariant-loop-i : goal.invariant-loop-i

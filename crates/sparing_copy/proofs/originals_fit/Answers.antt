@@ -1,6 +1,5 @@
-use Rattle.std.proofs.Common.{◌≡◌, ◌-◌, drop, sym, refl, ◌∙◌, rules}
+use Rattle.std.proofs.Common.{sym, refl, ◌∙◌}
 use borrow.Author.Tests.{not-true, not-false}
-use Rattle.model.specs.Sparing.{originals_fit}
 use Rattle.sparing_copy.specs.Entries.{entries_in}
 use Rattle.sparing_copy.proofs.Entries.{sector-step, sector-end}
 use Rattle.sparing_copy.proofs.Rule.{originals-end, originals-off, originals-next}

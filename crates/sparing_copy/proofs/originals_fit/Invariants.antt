@@ -1,10 +1,7 @@
 -- `sparing_copy::originals_fit` meets its contract. The invariant: the entries left answer for all. The measure is the entries left. Assumes nothing.
-use Rattle.std.proofs.Common.{◌≡◌, ◌-◌, drop, sym, refl, ◌∙◌, rules}
-use borrow.Author.Tests.{not-true, not-false}
+use Rattle.std.proofs.Common.{◌≡◌, ◌-◌, drop}
 use Rattle.model.specs.Sparing.{originals_fit}
 use Rattle.sparing_copy.specs.Entries.{entries_in}
-use Rattle.sparing_copy.proofs.Entries.{sector-step, sector-end}
-use Rattle.sparing_copy.proofs.Rule.{originals-end, originals-off, originals-next}
 use Rattle.sparing_copy.proofs.originals_fit.Given as goal
 
 abbrev pub invariant-loop-i : goal.invariant-loop-i

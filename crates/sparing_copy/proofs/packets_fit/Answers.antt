@@ -1,5 +1,5 @@
 -- `sparing_copy::packets_fit` meets its contract, test by test. Assumes nothing.
-use Rattle.std.proofs.Common.{sym, ◌∙◌, rules}
+use Rattle.std.proofs.Common.{sym, ◌∙◌}
 use borrow.Author.Tests.{not-true, not-false}
 use Rattle.sparing_copy.proofs.Rule.{packets-off, packets-apart, packets-clear}
 use Rattle.sparing_copy.proofs.packets_fit.Goals as goal

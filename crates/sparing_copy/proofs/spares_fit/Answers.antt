@@ -1,5 +1,5 @@
 -- `sparing_copy::spares_fit` meets its contract: by their number, then by their places. Assumes nothing.
-use Rattle.std.proofs.Common.{arith, rules}
+use Rattle.std.proofs.Common.{arith}
 use Rattle.sparing_copy.proofs.Rule.{spares-long, spares-short}
 use Rattle.sparing_copy.proofs.spares_fit.Goals as goal
 

@@ -1,10 +1,8 @@
-use Rattle.std.proofs.Common.{◌≡◌, ◌-◌, length, drop, refl, ◌∙◌, rules}
+use Rattle.std.proofs.Common.{refl, ◌∙◌}
 use borrow.Author.Tests.{not-true, not-false}
 use Rattle.sparing_copy.proofs.Rule.{mapped_end, mapped-off, mapped-twice, mapped_next}
 use Rattle.sparing_copy.proofs.Entries.{spare-step, spare-end}
-use Rattle.sparing_copy.specs.Layout.{geometry_in}
 use Rattle.model.specs.Both.{spare_entries}
-use Rattle.model.specs.Sparing.{mapped_fit}
 use Rattle.sparing_copy.proofs.spares_placed.Goals as goal
 
 pub loop-i-init : goal.loop-i-init

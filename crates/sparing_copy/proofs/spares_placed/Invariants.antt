@@ -1,8 +1,5 @@
 -- `sparing_copy::spares_placed` meets its contract. The invariant: the spares left answer for all. The measure is the spares left. Assumes nothing.
-use Rattle.std.proofs.Common.{◌≡◌, ◌-◌, length, drop, refl, ◌∙◌, rules}
-use borrow.Author.Tests.{not-true, not-false}
-use Rattle.sparing_copy.proofs.Rule.{mapped_end, mapped-off, mapped-twice, mapped_next}
-use Rattle.sparing_copy.proofs.Entries.{spare-step, spare-end}
+use Rattle.std.proofs.Common.{◌≡◌, ◌-◌, length, drop}
 use Rattle.sparing_copy.specs.Layout.{geometry_in}
 use Rattle.model.specs.Both.{spare_entries}
 use Rattle.model.specs.Sparing.{mapped_fit}
