@@ -1,0 +1,11 @@
+-- `bitmap_find::search` meets its contract: its answer is nearest. The invariant: no run begins from `below` up to `from`, and as far as there are
+-- blocks above, `below` is no further off than `from`. Assumes nothing.
+use Prim.Native.Nat.{◌+◌, ◌-◌, ◌≤◌, ◌<◌}
+use Rattle.bitmap_find.specs.Runs.{Clear}
+use Rattle.bitmap_find.proofs.search.Given as goal
+
+abbrev pub invariant-loop-from : goal.invariant-loop-from
+invariant-loop-from l = (l.below ≤ l.near) × (l.near ≤ l.from) × (l.from ≤ l.l) × (1 ≤ l.step) × (l.step ≤ 1073741824) × (l.from < l.l → l.near - l.below ≤ l.from - l.near) × Clear l.b l.l l.wanted l.below l.from
+
+abbrev pub decreases-loop-from : goal.decreases-loop-from
+decreases-loop-from l = l.l - l.from + l.below

@@ -1,0 +1,17 @@
+-- `bitmap_find::top_row` meets its contract. Assumes nothing.
+use native.Mathlib.Omega.{arith}
+use Rattle.bitmap_find.proofs.TopRows.{long-row, no_row, row-place, top-row}
+use Rattle.bitmap_find.proofs.top_row.Goals as goal
+
+pub returns-then-wanted-gt-WORD : goal.returns-then-wanted-gt-WORD
+returns-then-wanted-gt-WORD c = long-row _ _ c.ranges.x.fits c.if-wanted-gt-WORD.true
+
+pub returns-then-rows-eq0 : goal.returns-then-rows-eq0
+returns-then-rows-eq0 c = no_row _ _ _ c.fold-rows.ensures c.if-rows-eq0.true
+
+pub overflow_sub-result : goal.overflow_sub-result
+overflow_sub-result c = let h = row-place _ _ _ c.fold-rows.ensures _ c.if-rows-eq0.false c.usize_of_count.ensures.0 in
+    omega (arith, h)
+
+pub returns : goal.returns
+returns c = top-row _ _ _ c.fold-rows.ensures _ c.if-rows-eq0.false c.usize_of_count.ensures.0
