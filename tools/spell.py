@@ -49,7 +49,7 @@ def write(p, t, was):
 
 
 def main():
-    laws = re.compile(r"(?<![\w'.-])(" + "|".join(LAWS)
+    laws = re.compile(r"(?<![\w'.-])(" + "|".join(LAWS) + r")(?![\w'-])")
     names = set()
     for p in files((".antt",), "crates"):
         code = re.sub(r"--[^\n]*", "", read(p))
