@@ -17,6 +17,9 @@ use state::State;
 use std::io;
 use std::io::{Read, Write};
 
+// How many bytes of its input the program reads.
+const MOST_SCRIPT: u64 = 131072;
+
 // What a line asks for.
 fn step(
     out: &mut Out,
@@ -86,7 +89,7 @@ fn begin(out: &mut Out, script: &[u8]) -> io::Result<()> {
 
 fn main(rt: HostRuntime) -> io::Result<()> {
     let mut script = Vec::new(rt.alloc());
-    rt.stdin().read_to_end(&mut script)?;
+    rt.stdin().take(MOST_SCRIPT).read_to_end(&mut script)?;
     let mut out = say::out(&rt)?;
     begin(&mut out, &script)?;
     out.flush()
