@@ -28,9 +28,9 @@ unfolding part
 length_part s at w h = simp (length-take, length-drop) (omega arith)
 
 -- a part's byte is the list's
-pub get_d_part : (s : List ℕ) (at w i : ℕ) → i < w → get_or (part s at w) i 0 ≡ get_or s (at + i) 0
+pub get_or-part : (s : List ℕ) (at w i : ℕ) → i < w → get_or (part s at w) i 0 ≡ get_or s (at + i) 0
 unfolding part
-get_d_part s at w i h = get_or-take w (drop at s) i 0 h ∙ get_or-drop at s i 0
+get_or-part s at w i h = get_or-take w (drop at s) i 0 h ∙ get_or-drop at s i 0
 
 -- the part that is all of the list
 pub part-all : (s : List ℕ) (w : ℕ) → length s ≤ w → part s 0 w ≡ s
@@ -134,7 +134,7 @@ part-splice-after s at b from w h l = ap (λ (x : List ℕ). take w x) (drop-spl
 -- a byte of what was spliced in
 pub get_or-splice-inside : (s : List ℕ) (at : ℕ) (b : List ℕ) (i : ℕ) → at + length b ≤ length s → i < length b → get_or (splice s at b) (at + i) 0 ≡ get_or b i 0
 get_or-splice-inside s at b i h l =
-    sym (get_d_part (splice s at b) at (length b) i l) ∙ ap (λ (x : List ℕ). get_or x i 0) (part-splice-same s at b h)
+    sym (get_or-part (splice s at b) at (length b) i l) ∙ ap (λ (x : List ℕ). get_or x i 0) (part-splice-same s at b h)
 
 -- a byte before it
 pub get_or-splice-before : (s : List ℕ) (at : ℕ) (b : List ℕ) (i : ℕ) → at + length b ≤ length s → i < at → get_or (splice s at b) i 0 ≡ get_or s i 0
@@ -514,7 +514,7 @@ part-front-next s t at i hs ht e f = front-next (drop at s) t i (simp length-dro
 -- a part that differs from a front at some index
 pub part-differs : (s t : List ℕ) (at w i : ℕ) → i < w → (get_or s (at + i) 0 ≡ get_or t i 0 → ⊥) → same (part s at w) (take w t) ≡ false
 part-differs s t at w i h n =
-    same-false-of-difference (part s at w) (take w t) i (λ e. n (sym (get_d_part s at w i h) ∙ e ∙ get_or-take w t i 0 h))
+    same-false-of-difference (part s at w) (take w t) i (λ e. n (sym (get_or-part s at w i h) ∙ e ∙ get_or-take w t i 0 h))
 
 -- ---- a regid read
 

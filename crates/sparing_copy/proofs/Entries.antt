@@ -10,7 +10,7 @@ use Rattle.model.specs.Both.{spare_entries}
 use Rattle.model.proofs.Basics.{both}
 use Rattle.model.proofs.OnceOpen.{length-words}
 use Rattle.sparing_copy.specs.Entries.{entries_in, entry_in}
-use Rattle.sparing_copy.proofs.Words.{get_d_words}
+use Rattle.sparing_copy.proofs.Words.{get_or-words}
 
 -- ---- two numbers an entry
 
@@ -57,8 +57,8 @@ module _ (b : List ℕ) (n i : ℕ) where
       let m : 56 + 4 * (2 * i + 1) ≡ 56 + 8 * i + 4 = omega arith in
       entries-step w i (omega (arith, length-words b 56 (2 * n)))
       ∙ ap₂ (λ (x y : ℕ). record { original = x; mapped = y } ∷ drop (i + 1) (entries w))
-      (get_d_words b 56 (2 * n) (2 * i) (omega arith) ∙ ap (λ (k : ℕ). field b k 4) o)
-      (get_d_words b 56 (2 * n) (2 * i + 1) (omega arith) ∙ ap (λ (k : ℕ). field b k 4) m)
+      (get_or-words b 56 (2 * n) (2 * i) (omega arith) ∙ ap (λ (k : ℕ). field b k 4) o)
+      (get_or-words b 56 (2 * n) (2 * i + 1) (omega arith) ∙ ap (λ (k : ℕ). field b k 4) m)
 
   -- none past the last
   pub sector-end : n ≤ i → drop i (entries_in b n) ≡ []

@@ -7,7 +7,7 @@ use Rattle.model.proofs.SparingLaws.{outside-means}
 use Rattle.sparing_copy.specs.declared.Layout.{Layout}
 use Rattle.sparing_copy.specs.Layout.{geometry_in, TablesOn}
 -- numbers of 4 bytes in a row, and the bytes that they are read from
-pub use Rattle.sparing_copy.proofs.Words.{get_d_words, words-part, same-words}
+pub use Rattle.sparing_copy.proofs.Words.{get_or-words, words-part, same-words}
 -- the entries of a list of numbers, of a sector and of a list of spares by their number
 pub use Rattle.sparing_copy.proofs.Entries.{entries-drop, entries-step, entries-end, sector-step, sector-end, sector-table, length-spares, spare-step, spare-end}
 

@@ -6,15 +6,15 @@ use Rattle.fields.proofs.Laws.{AllBytes, field-part, digits-field, same-equal, s
 use Rattle.fields.proofs.Tests.{alike}
 
 -- number j of them
-pub get_d_words : (s : List ℕ) (at n j : ℕ) → j < n → get_or (words s at n) j 0 ≡ field s (at + 4 * j) 4
+pub get_or-words : (s : List ℕ) (at n j : ℕ) → j < n → get_or (words s at n) j 0 ≡ field s (at + 4 * j) 4
 unfolding words
-get_d_words s at zero j h = absurd (omega arith)
-get_d_words s at (suc n) zero h =
+get_or-words s at zero j h = absurd (omega arith)
+get_or-words s at (suc n) zero h =
     let e : at ≡ at + 4 * 0 = omega arith in
     ap (λ (k : ℕ). field s k 4) e
-get_d_words s at (suc n) (suc j) h =
+get_or-words s at (suc n) (suc j) h =
     let e : at + 4 + 4 * j ≡ at + 4 * suc j = omega arith in
-    get_d_words s (at + 4) n j (omega arith) ∙ ap (λ (k : ℕ). field s k 4) e
+    get_or-words s (at + 4) n j (omega arith) ∙ ap (λ (k : ℕ). field s k 4) e
 
 -- those of a part
 pub words-part : (s : List ℕ) (at w from n : ℕ) → from + 4 * n ≤ w → words (part s at w) from n ≡ words s (at + from) n

@@ -20,7 +20,7 @@ use Rattle.model.proofs.SparingLaws.{packet-own}
 use Rattle.sparing_table.specs.declared.FirstFree.TheVariants.{At, Nothing}
 use Rattle.address.specs.declared.PhysicalAddress.{PhysicalAddress}
 use Rattle.sparing_table.specs.Table.{lent_entry, has, place_where, free_in}
-use Rattle.sparing_copy.proofs.Words.{get_d_words}
+use Rattle.sparing_copy.proofs.Words.{get_or-words}
 use Rattle.sparing_copy.proofs.Entries.{entries-step, entries-end}
 
 -- ---- the entries of the lent table
@@ -57,13 +57,13 @@ module _ (b t : List ℕ) (n i : ℕ) where
   pub numbers-differ : i < n → (get_or t i 0 ≡ field b (56 + 4 * i) 4 → ⊥) → false ≡ same (take n t) (words b 56 n)
   numbers-differ h q =
       sym (same-false-of-difference (take n t) (words b 56 n) i
-      (λ e. q (sym (get_or-take n t i 0 h) ∙ e ∙ get_d_words b 56 n i h)))
+      (λ e. q (sym (get_or-take n t i 0 h) ∙ e ∙ get_or-words b 56 n i h)))
 
   -- it is the same
   pub numbers-next : n ≤ length t → i < n → get_or t i 0 ≡ field b (56 + 4 * i) 4 → take i (take n t) ≡ take i (words b 56 n) → take (i + 1) (take n t) ≡ take (i + 1) (words b 56 n)
   numbers-next l h q f =
       front-next (take n t) (words b 56 n) i (omega (arith, length-take n t)) (omega (arith, length-words b 56 n))
-      (get_or-take n t i 0 h ∙ q ∙ sym (get_d_words b 56 n i h))
+      (get_or-take n t i 0 h ∙ q ∙ sym (get_or-words b 56 n i h))
       f
 
   -- all are

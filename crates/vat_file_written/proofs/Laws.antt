@@ -8,7 +8,7 @@ use lib.Seq.{ext_get_or, get_or-append-add, get_or-take, get_or-drop, take_at, l
 use Rattle.fields.specs.Bytes.{part, splice}
 use Rattle.fields.specs.Number.{digits, quads}
 use Rattle.fields.specs.Regid.{identifier, regid}
-use Rattle.fields.proofs.Laws.{length_part, get_d_part, length-splice}
+use Rattle.fields.proofs.Laws.{length_part, get_or-part, length-splice}
 use Rattle.fields.proofs.Words.{length-quads}
 use Rattle.model.specs.Vat.{vat_name}
 use Rattle.model.specs.VatWritten.{data_sectors, written_file, filled, written_data}
@@ -51,14 +51,14 @@ length-onward b from w = length_part (filled (from + w) b) from w (filled-least 
 -- and each is the list's, 0 past its end
 pub get_or-onward : (b : List ℕ) (from w i : ℕ) → i < w → get_or (onward b from w) i 0 ≡ get_or b (from + i) 0
 unfolding onward
-get_or-onward b from w i h = get_d_part (filled (from + w) b) from w i h ∙ get_or-filled (from + w) b (from + i)
+get_or-onward b from w i h = get_or-part (filled (from + w) b) from w i h ∙ get_or-filled (from + w) b (from + i)
 
 -- it does not matter how far the list was filled up
 pub part_filled : (n : ℕ) (b : List ℕ) (at w : ℕ) → at + w ≤ n → part (filled n b) at w ≡ onward b at w
 part_filled n b at w h =
     let l : length (part (filled n b) at w) ≡ w = length_part (filled n b) at w (omega (arith, filled-least n b)) in
     ext_get_or 0 (part (filled n b) at w) (onward b at w) (l ∙ sym (length-onward b at w))
-    (λ i k. get_d_part (filled n b) at w i (omega arith) ∙ get_or-filled n b (at + i) ∙ sym (get_or-onward b at w i (omega arith)))
+    (λ i k. get_or-part (filled n b) at w i (omega arith) ∙ get_or-filled n b (at + i) ∙ sym (get_or-onward b at w i (omega arith)))
 
 -- ---- the rest of some lent bytes, lent on
 
@@ -112,7 +112,7 @@ module _ (t : List ℕ) (from w begun count : ℕ) (eb : begun ≡ min from (len
   begun-byte : (i : ℕ) → i < w → get_or (part t begun count) i 0 ≡ get_or t (from + i) 0
   begun-byte i h =
       by-lt i count
-      (λ k. let e : begun + i ≡ from + i = omega arith in get_d_part t begun count i k ∙ ap (λ (j : ℕ). get_or t j 0) e)
+      (λ k. let e : begun + i ≡ from + i = omega arith in get_or-part t begun count i k ∙ ap (λ (j : ℕ). get_or t j 0) e)
       (λ k. get_or-eq_default (part t begun count) 0 (omega (arith, length-begun)) ∙ sym (get_or-eq_default t 0 (omega arith)))
 
   length-put : length (splice (replicate w 0) 0 (part t begun count)) ≡ w
@@ -177,7 +177,7 @@ module _ (t : List ℕ) (n previous first begun count w : ℕ) (hn : n ≤ lengt
       let e : 4 * begun + i ≡ 4 * first + i = omega arith in
       let l : 4 * first + i < 4 * n = omega arith in
       ap (λ (x : List ℕ). get_or x i 0) (quads-part t begun count)
-      ∙ get_d_part (quads t) (4 * begun) (4 * count) i h
+      ∙ get_or-part (quads t) (4 * begun) (4 * count) i h
       ∙ ap (λ (j : ℕ). get_or (quads t) j 0) e
       ∙ sym (get_or-take (4 * n) (quads t) (4 * first + i) 0 l)
       ∙ ap (λ (x : List ℕ). get_or x (4 * first + i) 0) (sym (quads-take n t))

@@ -11,7 +11,7 @@ use lib.Seq.{length-take-le}
 use borrow.Author.Tests.{eq-eqb, ne_eqb, eqb-true, eqb-false, le-leb, leb-true, lt-ltb, le-ltb}
 use Rattle.fields.specs.Bytes.{part}
 use Rattle.fields.specs.Number.{words}
-use Rattle.fields.proofs.Laws.{length_part, get_d_part, part-append, part-append-add, part-part, part-take, AllBytes, field_below}
+use Rattle.fields.proofs.Laws.{length_part, get_or-part, part-append, part-append-add, part-part, part-take, AllBytes, field_below}
 use Rattle.address.specs.Translation.{most_sectors}
 use Rattle.model.specs.Disc.{Disc, disc, recorded_run, joined}
 use Rattle.model.specs.Vat.{Extent, form, file_length, attributes, allocation, entry_fits, extents, blocks_in, sizes_fit, sizes, blocks_fit, contents, allocation_fits, file_of}
@@ -178,9 +178,9 @@ same_byte s t at from h =
     let p : at + 0 ≡ at = omega arith in
     let q : from + 0 ≡ from = omega arith in
     ap (λ (i : ℕ). get_or s i 0) (sym p)
-    ∙ sym (get_d_part s at 1 0 (omega arith))
+    ∙ sym (get_or-part s at 1 0 (omega arith))
     ∙ ap (λ (l : List ℕ). get_or l 0 0) h
-    ∙ get_d_part t from 1 0 (omega arith)
+    ∙ get_or-part t from 1 0 (omega arith)
     ∙ ap (λ (i : ℕ). get_or t i 0) q
 
 -- ---- a file that is all there

@@ -22,9 +22,6 @@ loop-q-preserved c = let v = c.loop-q in
 pub loop-q-2-init : goal.loop-q-2-init
 loop-q-2-init c = let v = c.loop-q in (v.invariant.0, v.invariant.1, v.invariant.2)
 
--- LOST shared-slice-read-usize-of-count
--- shared-slice-read-usize-of-count c = search rules
-
 pub loop-q-2-preserved : goal.loop-q-2-preserved
 loop-q-2-preserved c = let v = c.loop-q-2 in
     let m = free_more _ _ _ 8 _ (8 * (v.q + 1)) v.invariant.1
@@ -36,15 +33,6 @@ returns-then-left-eq0 c = let v = c.loop-q-2 in
     let l = c.args.l in
     let e : 8 * v.q ≡ l = omega arith in
     v.invariant.1 ∙ ap (λ (n : ℕ). free_from c.args.b.now 0 n) e
-
--- LOST shared-slice-read-usize-of-count-2
--- shared-slice-read-usize-of-count-2 c = search rules
-
--- LOST rem-usize-of-count
--- rem-usize-of-count c =
---     let l = c.before.before.before.before.before.before.before.args.l in
---     let w = weight-8 (l - 8 * c.before.before.before.loop2.q) (omega arith) in
---     omega (arith, w)
 
 pub returns : goal.returns
 returns c = let v = c.loop-q-2 in

@@ -17,9 +17,6 @@ use Rattle.maps.proofs.is_rewritable.Goals as goal
 abbrev Else1 : Type 0
 Else1 = lts.Else1 tie.the-claims reads.Pre reads.Post
 
--- LOST slice-aggregate-is-type-two
--- slice-aggregate-is-type-two c = search rules
-
 -- what the map was found to be, and its length
 named : (c : Else1) → one_type_two sparable_name c.args.maps.now ≡ true
 unfolding sparable_name regid identifier

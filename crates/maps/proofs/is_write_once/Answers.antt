@@ -38,9 +38,6 @@ returns-then-maps-ne-TYPE_ONE_LENGTH c = holds (le-leb _ _ c.if-maps-lt-TYPE_ONE
     (holds (eq-eqb _ _ c.if-maps-ne-TYPE_ONE.false) (fails _ (ne_eqb _ _ c.if-maps-ne-TYPE_ONE_LENGTH.true)))
     ∙ sym (write-once-bytes _)
 
--- LOST slice-aggregate-is-type-two
--- slice-aggregate-is-type-two c = search rules
-
 -- past the first map, the second tells
 past-3 : (c : Else3) (x : Bool) → let s = c.args.maps.now in x ≡ (one_type_two virtual_name (drop 6 s) && eqb (field s 4 2) (field (drop 6 s) 38 2)) → x ≡ on_maps is_write_once (walk s)
 past-3 c x q =

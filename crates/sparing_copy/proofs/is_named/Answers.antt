@@ -13,9 +13,6 @@ use Rattle.sparing_copy.proofs.is_named.Goals as goal
 abbrev Else1 : Type 0
 Else1 = lts.Else1 tie.the-claims reads.Pre reads.Post tie.handed_clauses
 
--- LOST slice-aggregate-has-regid
--- slice-aggregate-has-regid c = search rules
-
 pub returns-then-has_regid : goal.returns-then-has_regid
 unfolding sparing_name regid identifier
 returns-then-has_regid c = named-newer _ (sym (regid-told _ 16 sparing_name) ∙ sym c.has_regid.ensures ∙ c.if-has_regid.true)
@@ -24,9 +21,6 @@ returns-then-has_regid c = named-newer _ (sym (regid-told _ 16 sparing_name) ∙
 not-newer : (c : Else1) → has_regid c.args.b.now 16 sparing_name ≡ false
 unfolding sparing_name regid identifier
 not-newer c = sym (regid-told _ 16 sparing_name) ∙ sym c.has_regid.ensures ∙ c.if-has_regid.false
-
--- LOST slice-aggregate-has-regid-2
--- slice-aggregate-has-regid-2 c = search rules
 
 pub returns-then-not-has_regid : goal.returns-then-not-has_regid
 unfolding older_name regid identifier

@@ -6,7 +6,7 @@ use Rattle.model.proofs.OnceOpen.{length-words}
 use Rattle.model.specs.Once.{filled_from}
 use Rattle.model.specs.Sparing.{count_in, table_in}
 use Rattle.sparing_table.proofs.Table.{filling-next, filling-last}
-use Rattle.sparing_copy.proofs.Words.{get_d_words}
+use Rattle.sparing_copy.proofs.Words.{get_or-words}
 use Rattle.fields.proofs.Laws.{copying-first}
 use Rattle.fields.specs.Number.{field, words}
 use Rattle.sparing_table.proofs.fill_table.Goals as goal
@@ -31,7 +31,7 @@ loop-k-preserved c =
     let n = c.usize_of_u16-n in
     let e = counted a.b.now _ _ n.ensures.0 c.read16.ensures in
     let w = length-words a.b.now 56 (2 * n.result) in
-    filling-next a.table.now (words a.b.now 56 (2 * n.result)) _ c.loop-k.k _ (omega arith) (omega arith) (c.number_at.ensures ∙ sym (get_d_words a.b.now 56 (2 * n.result) c.loop-k.k (omega arith))) c.loop-k.invariant
+    filling-next a.table.now (words a.b.now 56 (2 * n.result)) _ c.loop-k.k _ (omega arith) (omega arith) (c.number_at.ensures ∙ sym (get_or-words a.b.now 56 (2 * n.result) c.loop-k.k (omega arith))) c.loop-k.invariant
 
 pub shape_of-table : goal.shape_of-table
 shape_of-table c = c.loop-k.invariant.long

@@ -7,9 +7,6 @@ use Rattle.sparing_written.proofs.Written.{begun-written}
 use Rattle.model.specs.Sparing.{sparing_name}
 use Rattle.sparing_written.proofs.begin_table.Goals as goal
 
--- LOST slice-aggregate-write-regid
--- slice-aggregate-write-regid c = search rules
-
 pub returns : goal.returns
 unfolding sparing_name regid identifier
 returns c = begun-written _ _ _ _ _ _ (c.clear.ensures ∙ ap (λ (n : ℕ). replicate n 0) c.requires) c.write_regid.ensures c.write16.ensures c.write32.ensures

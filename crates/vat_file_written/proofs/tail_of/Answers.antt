@@ -4,9 +4,6 @@ use Rattle.model.specs.Vat.{vat_name}
 use Rattle.vat_file_written.proofs.Laws.{tail_written}
 use Rattle.vat_file_written.proofs.tail_of.Goals as goal
 
--- LOST slice-aggregate-write-regid-2
--- slice-aggregate-write-regid-2 c = search rules
-
 pub returns : goal.returns
 unfolding vat_name regid identifier
 returns c = tail_written _ _ _ c.write_regid.ensures c.write32.ensures

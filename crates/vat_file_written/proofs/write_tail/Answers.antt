@@ -5,7 +5,7 @@ use native.Mathlib.Omega.{arith}
 use native.Mathlib.Nat.{zero-add}
 use lib.ListN.{length, length-replicate}
 use Rattle.fields.specs.Bytes.{part, splice}
-use Rattle.fields.proofs.Laws.{copying-first, copying-next, copying-last, length_part, get_d_part}
+use Rattle.fields.proofs.Laws.{copying-first, copying-next, copying-last, length_part, get_or-part}
 use Rattle.vat_file_written.specs.Parts.{tail}
 use Rattle.vat_file_written.proofs.Laws.{length-tail, put-onward}
 use Rattle.vat_file_written.proofs.write_tail.Goals as goal
@@ -37,7 +37,7 @@ loop-i-preserved c = let v = c.loop-i in
     let l = length_part t.result c.smaller-begun.result c.smaller-count.result (omega (arith, ap length t.ensures, length-tail a.previous.0)) in
     rw zero-add at
     (copying-next z.new.s 0 _ v.rest v.i _ (omega arith) (omega arith)
-    (sym (get_d_part t.result c.smaller-begun.result c.smaller-count.result v.i (omega arith)))
+    (sym (get_or-part t.result c.smaller-begun.result c.smaller-count.result v.i (omega arith)))
     v.invariant)
 
 pub shape_of-rest : goal.shape_of-rest
