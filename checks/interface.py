@@ -55,15 +55,6 @@ CONSTANTS = {
     ITEMS: {"COMMIT": "ITEM_COMMIT"},
     ENTRIES: {"FREE": "NONE", "DEFECTIVE": "DEFECTIVE"},
     LISTS: {"VOLUME": "MAPS_RESULT_LENGTH"},
-    CALLS: {
-        "SAVE_VIRTUAL": "CALL_SAVE_VIRTUAL",
-        "FREE_VIRTUAL": "CALL_FREE_VIRTUAL",
-        "COMMIT": "CALL_COMMIT",
-        "SAVE_BLOCK": "CALL_SAVE_BLOCK",
-        "SAVE_PACKET": "CALL_SAVE_PACKET",
-        "SPARE_PACKET": "CALL_SPARE_PACKET",
-        "OPEN": "CALL_OPEN",
-    },
 }
 
 # constants of the header that Rust has under the same name
@@ -183,22 +174,32 @@ def upper(name):
     return re.sub(r"(?<!^)(?=[A-Z])", "_", name).upper()
 
 
-def variants(text, where):
-    """The refusals in the order of the enum."""
-    body = re.search(r"pub enum Refusal \{\n(.*?)^\}$", text, flags=re.M | re.S)
+def variants(text, where, name="Refusal"):
+    """The refusals, or the variants of another enum, in the order of the enum."""
+    body = re.search(r"pub enum %s \{\n(.*?)^\}$" % name, text, flags=re.M | re.S)
     if not body:
-        raise Wrong("%s: no enum Refusal" % where)
+        raise Wrong("%s: no enum %s" % (where, name))
     return re.findall(r"^    (\w+),$", body.group(1), flags=re.M)
 
 
 def refusals_of_source(text):
     """Name to number, in the order of the enum, which is the order in which they are tested."""
-    body = re.search(r"pub fn number\(.*?\n\}\n", text, flags=re.S)
+    body = re.search(r"impl From<Refusal> for u32 \{.*?\n\}\n", text, flags=re.S)
     found = dict(re.findall(r"Refusal::(\w+) => (\d+),", body.group(0))) if body else {}
     names = variants(text, REFUSALS)
     if not names or set(names) != set(found):
         raise Wrong("%s: not every refusal has a number" % REFUSALS)
     return {upper(name): int(found[name]) for name in names}
+
+
+def calls_of_source(text):
+    """Name in the header to number. The last kind stands for every number that is no other's, of which the lowest is its own."""
+    body = re.search(r"impl From<u32> for Calling \{.*?\n\}\n", text, flags=re.S)
+    found = re.findall(r"^ +(\d+|_) => Calling::(\w+),$", body.group(0), flags=re.M) if body else []
+    names = variants(text, CALLS, "Calling")
+    if not names or [name for _, name in found] != names or [number for number, _ in found] != [*map(str, range(len(found) - 1)), "_"]:
+        raise Wrong("%s: the calls do not have their numbers in the order of the enum" % CALLS)
+    return {"CALL_" + upper(name): number for number, name in enumerate(names)}
 
 
 def order_in_words(refusals):
@@ -313,7 +314,7 @@ def compare(files):
         if order_of_header(files[HEADER]) != order_in_words(refusals):
             said.append("%s: the order of the refusals is %s, and the source has %s"
                         % (HEADER, order_of_header(files[HEADER]), order_in_words(refusals)))
-        constants = constants_of_source(files)
+        constants = {**constants_of_source(files), **calls_of_source(files[CALLS])}
         said += differences(constants, constants_of_header(files[HEADER], constants), HEADER)
         said += differences({name: constants[name] for name in IN_RUST}, constants_of_rust(files[RUST_NUMBERS]), RUST_NUMBERS)
         said += ["%s: %s has no text" % (HEADER, name) for name in sorted(set(refusals) - texts_of_header(files[HEADER]))]
@@ -437,7 +438,12 @@ SLIPS = [
     (ITEMS, "const COMMIT: u32 = 0x80000000;", "const COMMIT: u32 = 0x80000001;"),
     (ENTRIES, "const DEFECTIVE: u32 = 0xfffffff0;", "const DEFECTIVE: u32 = 0xfffffffe;"),
     (HEADER, "#define TUORMIK_FORECAST_LENGTH 3u", "#define TUORMIK_FORECAST_LENGTH 2u"),
-    (CALLS, "const SAVE_PACKET: u32 = 4;", "const SAVE_PACKET: u32 = 5;"),
+    (CALLS, "    SavePacket,\n    SparePacket,\n    Open,\n}", "    SparePacket,\n    SavePacket,\n    Open,\n}"),
+    (CALLS, "4 => Calling::SavePacket,", "5 => Calling::SavePacket,"),
+    (CALLS, "4 => Calling::SavePacket,", "4 => Calling::SparePacket,"),
+    (CALLS, "            5 => Calling::SparePacket,\n", ""),
+    (CALLS, "_ => Calling::Open,", "7 => Calling::Open,"),
+    (HEADER, "#define TUORMIK_CALL_OPEN 6u", "#define TUORMIK_CALL_OPEN 5u"),
     (RUST_REFUSALS, "    OneTable,\n", "    OneSparingTable,\n"),
     (RUST_REFUSALS, "    OneTable,\n", ""),
     (RUST_REFUSALS, "(OneTable, 17,", "(OneSparingTable, 17,"),

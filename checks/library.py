@@ -89,7 +89,8 @@ def target_of(operands, relocation, own, listed, tables):
     elif operands.startswith("*%") and tables.get(own) == {own}:
         name = own
     else:
-        found = re.search(r"<([^>+]*)(?:\+0x[0-9a-f]+)?>$", operands)
+        # a name may have angle brackets of its own
+        found = re.search(r"<(.*?)(?:\+0x[0-9a-f]+)?>$", operands)
         name = found.group(1) if found else operands
     if name not in listed and name not in ON_MEMORY:
         raise ValueError("%s calls or jumps to %s, which is no function of the library" % (own, name))

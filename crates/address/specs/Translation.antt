@@ -1,17 +1,15 @@
 -- The translation of addresses (document 01, "The disc and its addresses"; 004, section 3). Each translation has
 -- its refusals as one list of tests, in the checking order of 01, "Why a call is turned down", and then its value.
-use Rattle.std.specs.Prelude.{ℕ, ◌+◌, not, List, [], ◌∷◌, ◌++◌, length, get_or, eqb, ltb, leb}
+use Rattle.std.specs.Prelude.{ℕ, ◌+◌, not, List, [], ◌∷◌, ◌++◌, length, get_or, eqb, ltb, leb, Result}
 use Rattle.refusal.specs.declared.Refusal.TheVariants.{SpanOutside, NumberOutside, UnusedEntry}
-use Rattle.refusal.specs.declared.Verdict.{Verdict}
-use Rattle.refusal.specs.declared.Verdict.TheVariants.{Go, Stop}
+use Rattle.refusal.specs.Verdict.{Verdict, answered}
 use Rattle.refusal.specs.Tests.{Test, test, first}
 use Rattle.address.specs.declared.VirtualAddress.{VirtualAddress}
 use Rattle.address.specs.declared.LogicalAddress.{LogicalAddress}
 use Rattle.address.specs.declared.PhysicalAddress.{PhysicalAddress}
 use Rattle.address.specs.declared.MediaBlockAddress.{MediaBlockAddress}
 use Rattle.address.specs.declared.Span.{Span}
-use Rattle.address.specs.declared.ToLogical.{ToLogical}
-use Rattle.address.specs.declared.ToPhysical.{ToPhysical}
+use Rattle.refusal.specs.declared.Refusal.{Refusal}
 
 -- the entry of a virtual address that is unused (01, "The VAT and its ICB")
 unfoldable pub none : ℕ
@@ -20,16 +18,6 @@ none = 0xffffffff
 -- the most sectors that a disc has (01, "The disc and its addresses")
 abbrev pub most_sectors : ℕ
 most_sectors = 1048576
-
--- a logical address, or the refusal of the first test that does not hold (01, "Why a call is turned down")
-abbrev pub unless_logical : Verdict → LogicalAddress → ToLogical
-unless_logical Go a = ToLogical.At a
-unless_logical (Stop why) a = ToLogical.Refused why
-
--- a physical address, or the refusal of the first test that does not hold (01, "Why a call is turned down")
-abbrev pub unless_physical : Verdict → PhysicalAddress → ToPhysical
-unless_physical Go a = ToPhysical.At a
-unless_physical (Stop why) a = ToPhysical.Refused why
 
 -- line 2, as far as it can be tested with no disc lent: what every disc breaks (01, "Why a call is turned down")
 abbrev pub span_tests : Span → List Test
@@ -75,24 +63,24 @@ abbrev pub above_at : ℕ → ℕ → ℕ
 above_at p i = (up_from (record { 0 = p }) i).0
 
 -- what an entry of a VAT names (01, "The VAT and its ICB": "0xffffffff means none (an entry then is unused)")
-unfoldable pub entry_names : ℕ → ToLogical
-entry_names x = unless_logical (first (used_tests x)) (record { 0 = x })
+unfoldable pub entry_names : ℕ → Result LogicalAddress Refusal
+entry_names x = answered (first (used_tests x)) (record { 0 = x })
 
 -- why a virtual address is turned down (01, "Why a call is turned down")
 abbrev pub logical_verdict : List ℕ → VirtualAddress → Verdict
 logical_verdict entries v = first (entry_tests (length entries) entries v)
 
 -- a virtual address, by the entries of a VAT (01, "The disc and its addresses")
-unfoldable pub logical_of : List ℕ → VirtualAddress → ToLogical
-logical_of entries v = unless_logical (logical_verdict entries v) (entry_of entries v)
+unfoldable pub logical_of : List ℕ → VirtualAddress → Result LogicalAddress Refusal
+logical_of entries v = answered (logical_verdict entries v) (entry_of entries v)
 
 -- why a logical address is turned down (01, "Why a call is turned down")
 abbrev pub physical_verdict : Span → LogicalAddress → Verdict
 physical_verdict s b = first (span_tests s ++ block_tests s b)
 
 -- a logical address, on the disc (01, "The disc and its addresses")
-unfoldable pub physical_of : Span → LogicalAddress → ToPhysical
-physical_of s b = unless_physical (physical_verdict s b) (sector_of s.start b)
+unfoldable pub physical_of : Span → LogicalAddress → Result PhysicalAddress Refusal
+physical_of s b = answered (physical_verdict s b) (sector_of s.start b)
 
 -- a media block address, on the disc: lent bytes are mapped by no device (01, "The disc and its addresses")
 abbrev pub physical_of_media : MediaBlockAddress → PhysicalAddress
@@ -107,6 +95,6 @@ abbrev pub virtual_verdict : Span → List ℕ → VirtualAddress → Verdict
 virtual_verdict s entries v = first (span_tests s ++ entry_tests (length entries) entries v ++ block_tests s (entry_of entries v))
 
 -- a virtual address, on the disc: by the VAT, then by the partition (01, "The disc and its addresses")
-unfoldable pub physical_of_virtual : Span → List ℕ → VirtualAddress → ToPhysical
+unfoldable pub physical_of_virtual : Span → List ℕ → VirtualAddress → Result PhysicalAddress Refusal
 physical_of_virtual s entries v =
-    unless_physical (virtual_verdict s entries v) (sector_of s.start (entry_of entries v))
+    answered (virtual_verdict s entries v) (sector_of s.start (entry_of entries v))

@@ -4,12 +4,11 @@
 #![tactic(auto)]
 
 ghost use Rattle.std.specs.Prelude.{◌≡◌, ◌+◌, ◌<◌, ◌^◌};
-ghost use Rattle.refusal.specs.Number.{verdict_number};
+ghost use Rattle.refusal.specs.Number.{answer_number};
 ghost use Rattle.refusal.specs.Tests.{first};
 ghost use Rattle.address.specs.Translation.{span_tests, sector_of, up_from, entry_names, logical_of, physical_of, physical_of_mapped, physical_of_media, physical_of_virtual, logical_verdict, physical_verdict, virtual_verdict};
-ghost use Rattle.address.specs.Told.{logical_number, physical_number};
 
-use refusal::{Refusal, Verdict};
+use refusal::Refusal;
 
 // The entry of a virtual address that is unused.
 pub const NONE: u32 = 0xffffffff;
@@ -18,95 +17,74 @@ pub const NONE: u32 = 0xffffffff;
 pub const MOST_SECTORS: u64 = 1048576;
 
 // A place in the VAT.
-#[derive(Clone, Copy)]
+#[derive(Clone, Copy, PartialEq, Eq)]
 pub struct VirtualAddress(pub u32);
 
 // A place in the partition.
-#[derive(Clone, Copy)]
+#[derive(Clone, Copy, PartialEq, Eq)]
 pub struct LogicalAddress(pub u32);
 
 // A sector on the disc, as the device is asked for it.
-#[derive(Clone, Copy)]
+#[derive(Clone, Copy, PartialEq, Eq)]
 pub struct PhysicalAddress(pub u32);
 
 // A sector as it appears on the medium, before any mapping by the device.
-#[derive(Clone, Copy)]
+#[derive(Clone, Copy, PartialEq, Eq)]
 pub struct MediaBlockAddress(pub u32);
 
 // The partition: it starts at sector S and has L sectors.
-#[derive(Clone, Copy)]
+#[derive(Clone, Copy, PartialEq, Eq)]
 pub struct Span {
     pub start: u32,
     pub length: u32,
 }
 
-// Where a translation into the partition ends.
-#[derive(Clone, Copy)]
-pub enum ToLogical {
-    At(LogicalAddress),
-    Refused(Refusal),
-}
-
-// Where a translation to the disc ends.
-#[derive(Clone, Copy)]
-pub enum ToPhysical {
-    At(PhysicalAddress),
-    Refused(Refusal),
-}
-
 // Whether some disc has room for the span.
 // A translation is lent no disc, so it tests of line 2 what every disc breaks: L is 0, or S + L exceeds the most sectors.
-fn judge_span(span: Span) -> Verdict
+fn judge_span(span: Span) -> Result<(), Refusal>
     ensures { result ≡ first (span_tests span) }
 {
     if span.length == 0 {
-        return Verdict::Stop(Refusal::SpanOutside);
+        return Err(Refusal::SpanOutside);
     }
     if MOST_SECTORS < span.start as u64 + span.length as u64 {
-        return Verdict::Stop(Refusal::SpanOutside);
+        return Err(Refusal::SpanOutside);
     }
-    Verdict::Go
+    Ok(())
 }
 
 // The logical address that an entry of a VAT names.
-pub fn entry_to_logical(entry: u32) -> ToLogical
+pub fn entry_to_logical(entry: u32) -> Result<LogicalAddress, Refusal>
     ensures { result ≡ entry_names entry }
 {
     if entry == NONE {
-        return ToLogical::Refused(Refusal::UnusedEntry);
+        return Err(Refusal::UnusedEntry);
     }
-    ToLogical::At(LogicalAddress(entry))
+    Ok(LogicalAddress(entry))
 }
 
 // The logical address of a virtual one; `entries` are the N entries of the VAT.
-pub fn virtual_to_logical(entries: &[u32], v: VirtualAddress) -> ToLogical
+pub fn virtual_to_logical(entries: &[u32], v: VirtualAddress) -> Result<LogicalAddress, Refusal>
     ensures value { result ≡ logical_of entries.now v }
-    ensures result_value { logical_number result ≡ verdict_number (logical_verdict entries.now v) }
+    ensures result_value { answer_number result ≡ answer_number (logical_verdict entries.now v) }
 {
     let i = v.0 as usize;
     if entries.len() <= i {
-        return ToLogical::Refused(Refusal::NumberOutside);
+        return Err(Refusal::NumberOutside); // line 12, before line 13
     }
     entry_to_logical(entries[i])
 }
 
 // The physical address of a logical one: S + b.
-pub fn logical_to_physical(span: Span, b: LogicalAddress) -> ToPhysical
+pub fn logical_to_physical(span: Span, b: LogicalAddress) -> Result<PhysicalAddress, Refusal>
     ensures value { result ≡ physical_of span b }
-    ensures result_value { physical_number result ≡ verdict_number (physical_verdict span b) }
+    ensures result_value { answer_number result ≡ answer_number (physical_verdict span b) }
 {
-    match judge_span(span) {
-        Verdict::Stop(why) => ToPhysical::Refused(why),
-        Verdict::Go => {
-            let n = b.0;
-            if n < span.length {
-                let sector = span.start + n;
-                ToPhysical::At(PhysicalAddress(sector))
-            } else {
-                ToPhysical::Refused(Refusal::NumberOutside)
-            }
-        }
+    judge_span(span)?; // line 2, before line 12
+    if span.length <= b.0 {
+        return Err(Refusal::NumberOutside);
     }
+    Ok(PhysicalAddress(span.start + b.0))
 }
 
 // The physical address of a media block address: the same sector, as no device maps a lent disc.
@@ -142,16 +120,15 @@ pub fn up_from(first: PhysicalAddress, i: u32) -> PhysicalAddress
 
 // The physical address of a virtual one: through the VAT, then through the partition.
 // The span is judged before the entry is looked up, as line 2 stands before lines 12 and 13.
-pub fn virtual_to_physical(span: Span, entries: &[u32], v: VirtualAddress) -> ToPhysical
+pub fn virtual_to_physical(
+    span: Span,
+    entries: &[u32],
+    v: VirtualAddress,
+) -> Result<PhysicalAddress, Refusal>
     ensures value { result ≡ physical_of_virtual span entries.now v }
-    ensures result_value { physical_number result ≡ verdict_number (virtual_verdict span entries.now v) }
+    ensures result_value { answer_number result ≡ answer_number (virtual_verdict span entries.now v) }
 {
-    let verdict = judge_span(span);
-    match verdict {
-        Verdict::Stop(why) => ToPhysical::Refused(why),
-        Verdict::Go => match virtual_to_logical(entries, v) {
-            ToLogical::Refused(why) => ToPhysical::Refused(why),
-            ToLogical::At(b) => logical_to_physical(span, b),
-        },
-    }
+    judge_span(span)?; // line 2, before lines 12 and 13
+    let b = virtual_to_logical(entries, v)?;
+    logical_to_physical(span, b)
 }

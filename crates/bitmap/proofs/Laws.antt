@@ -11,14 +11,13 @@ use borrow.Author.Tests.{eq-eqb, eqb-true, le-leb, leb-true}
 use Rattle.fields.specs.Number.{field}
 use Rattle.fields.proofs.Laws.{by-dec}
 use Rattle.tag.specs.Sound.{sound}
-use Rattle.refusal.specs.Number.{verdict_number}
+use Rattle.refusal.specs.Number.{answer_number}
 use Rattle.refusal.specs.Tests.{first, need}
-use Rattle.refusal.specs.declared.Verdict.{Verdict}
-use Rattle.refusal.specs.declared.Verdict.TheVariants.{Go, Stop}
+use Rattle.refusal.specs.Verdict.{Verdict, answered}
+use Rattle.std.specs.Prelude.{Ok, Err, Result}
 use Rattle.refusal.specs.declared.Refusal.TheVariants.{BitmapMalformed}
-use Rattle.bitmap.specs.declared.Counted.TheVariants.{Free, Refused}
-use Rattle.bitmap.specs.Counted.{unless_counted, counted, counted_number, Counts}
-use Rattle.bitmap.specs.declared.Counted.{Counted}
+use Rattle.refusal.specs.declared.Refusal.{Refusal}
+use Rattle.bitmap.specs.Counted.{counted, Counts}
 use Rattle.bitmap.specs.Bits.{bit_at, all_in, free_from}
 use Rattle.bitmap.specs.Formed.{tag_fits, bitmap_fits, bitmap_tests}
 use Rattle.fields.proofs.Tests.{both, together}
@@ -92,19 +91,19 @@ all_in_law b v s (suc n) h i l u =
 -- ---- the call that counts
 
 -- its number is that of the tests
-counts-so : (b : List ℕ) (l : ℕ) (r : Counted) → r ≡ counted b l → Counts b l r
+counts-so : (b : List ℕ) (l : ℕ) (r : Result ℕ Refusal) → r ≡ counted b l → Counts b l r
 unfolding counted
 counts-so b l r e =
-    record { answer = e; number = ap counted_number e ∙ told (first (bitmap_tests b l)) }
+    record { answer = e; number = ap answer_number e ∙ told (first (bitmap_tests b l)) }
   where
-    told : (v : Verdict) → counted_number (unless_counted v (free_from b 0 l)) ≡ verdict_number v
-    told Go = refl
-    told (Stop why) = refl
+    told : (v : Verdict) → answer_number (answered v (free_from b 0 l)) ≡ answer_number v
+    told (Ok _) = refl
+    told (Err why) = refl
 
-pub not-counted : (b : List ℕ) (l : ℕ) → bitmap_fits b l ≡ false → Counts b l (Refused BitmapMalformed)
+pub not-counted : (b : List ℕ) (l : ℕ) (why : Refusal) → why ≡ BitmapMalformed → bitmap_fits b l ≡ false → Counts b l (Err why)
 unfolding counted need
-not-counted b l h = counts-so b l (Refused BitmapMalformed) (rw h refl)
+not-counted b l why e h = counts-so b l (Err why) (rw h (ap Err e))
 
-pub counted-free : (b : List ℕ) (l n : ℕ) → bitmap_fits b l ≡ true → n ≡ free_from b 0 l → Counts b l (Free n)
+pub counted-free : (b : List ℕ) (l n : ℕ) → bitmap_fits b l ≡ true → n ≡ free_from b 0 l → Counts b l (Ok n)
 unfolding counted need
-counted-free b l n h e = counts-so b l (Free n) (rw h (ap Free e))
+counted-free b l n h e = counts-so b l (Ok n) (rw h (ap Ok e))

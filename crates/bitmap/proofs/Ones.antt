@@ -95,3 +95,24 @@ free_more b free n m z to e f g =
 -- a bit's weight in a byte
 pub weight-8 : (h : ℕ) → h < 8 → (1 * 2 ^ h % 256 ≡ 2 ^ h) × (1 ≤ 2 ^ h)
 weight-8 h l = (shl_exact 1 h 8 (lit< tt) (omega arith) ∙ (let z : 1 * 2 ^ h ≡ 2 ^ h = omega arith in z), pow_pos h)
+
+-- ---- counted so far, and some more
+
+module _ (b : List ℕ) (bytes : AllBytes b) (free : ℕ) where
+  -- a word more
+  pub word_more : (i x : ℕ) → free ≡ free_from b 0 (64 * i) → x ≡ number.field b (24 + 8 * i) 8 → (free + ones x ≡ free_from b 0 (64 * (i + 1))) × (ones x ≤ 64)
+  word_more i x e f =
+      let at : 8 * (8 * i) ≡ 64 * i = omega arith in
+      free_more b free (64 * i) 64 (ones x) (64 * (i + 1)) e (ap ones f ∙ sym (free-field b bytes 8 (8 * i)) ∙ ap (λ (y : ℕ). free_from b y 64) at) (omega arith)
+
+  -- a byte more
+  pub byte_more : (q : ℕ) → free ≡ free_from b 0 (8 * q) → (free + ones (get_or b (24 + q) 0) ≡ free_from b 0 (8 * (q + 1))) × (ones (get_or b (24 + q) 0) ≤ 8)
+  byte_more q e =
+      free_more b free (8 * q) 8 (ones (get_or b (24 + q) 0)) (8 * (q + 1)) e (ap ones (sym (mod-eq_of_lt (bytes (24 + q)))) ∙ sym (free-low b q 8 (omega arith))) (omega arith)
+
+  -- the first n bits of a byte more
+  pub bits_more : (q n l : ℕ) → free ≡ free_from b 0 (8 * q) → n < 8 → 8 * q + n ≡ l
+      → (free + ones (get_or b (24 + q) 0 % (1 * 2 ^ n % 256)) ≡ free_from b 0 l) × (ones (get_or b (24 + q) 0 % (1 * 2 ^ n % 256)) ≤ n)
+  bits_more q n l e h g =
+      free_more b free (8 * q) n (ones (get_or b (24 + q) 0 % (1 * 2 ^ n % 256))) l e
+      (ap (λ (y : ℕ). ones (get_or b (24 + q) 0 % y)) (weight-8 n h).0 ∙ sym (free-low b q n (omega arith))) g

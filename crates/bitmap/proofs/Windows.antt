@@ -12,8 +12,16 @@ use lib.Count.{count_trailing_zeros, count_leading_zeros}
 use Rattle.fields.specs.Number.{field}
 use Rattle.fields.proofs.Laws.{by-dec, AllBytes, field_next, field-none}
 use Rattle.bitmap.specs.Bits.{bit_at}
+use Rattle.bitmap.specs.State.{state_bit}
+use Rattle.bitmap.specs.declared.State.{State}
+use Rattle.bitmap.specs.declared.State.TheVariants.{Allocated, Free}
 use Rattle.bitmap.specs.Scan.{Shows, Back}
 use Rattle.bitmap.proofs.Digits.{field-digit, complement-digit, trailing-zero, trailing-one, leading-zero, leading-one, down-digit, up-digit}
+
+-- a state's bit is 0 or 1
+pub state-small : (state : State) → state_bit state < 2
+state-small Allocated = omega arith
+state-small Free = omega arith
 
 -- a bit is 0 or 1
 pub bit-small : (b : List ℕ) (s : ℕ) → bit_at b s < 2
@@ -48,7 +56,7 @@ module _ (b : List ℕ) (bytes : AllBytes b) (state w q x : ℕ) (e : x ≡ fiel
   digit j h = ap (λ (y : ℕ). y / 2 ^ j % 2) e ∙ bit-digit b bytes w q j h
 
   -- the bits as they are
-  pub shows-free : state ≡ 1 → Shows b state q (8 * w) x
+  shows-free : state ≡ 1 → Shows b state q (8 * w) x
   shows-free s =
       record {
         size = size;
@@ -59,7 +67,7 @@ module _ (b : List ℕ) (bytes : AllBytes b) (state w q x : ℕ) (e : x ≡ fiel
       }
 
   -- their complement
-  pub shows-allocated : state ≡ 0 → Shows b state q (8 * w) (2 ^ (8 * w) - 1 - x)
+  shows-allocated : state ≡ 0 → Shows b state q (8 * w) (2 ^ (8 * w) - 1 - x)
   shows-allocated s =
       record {
         size = size;
@@ -69,6 +77,14 @@ module _ (b : List ℕ) (bytes : AllBytes b) (state w q x : ℕ) (e : x ≡ fiel
         zero = λ j h d z. let y = digit j h in let c = complement-digit (8 * w) x j small h in omega (arith, y, c, d, z);
       }
 
+  -- the bits of the blocks that are in this state
+  pub shows : (y : ℕ) → state < 2 → (state ≡ 1 → y ≡ x) → (state ≡ 0 → y ≡ 2 ^ (8 * w) - 1 - x) → Shows b state q (8 * w) y
+  shows y two free allocated =
+      by-dec
+      (λ one. subst (Shows b state q (8 * w)) (sym (free one)) (shows-free one))
+      (λ other. let none : state ≡ 0 = omega (arith, other, two) in subst (Shows b state q (8 * w)) (sym (allocated none)) (shows-allocated none))
+      (ℕ_discrete state 1)
+
 pub few : {b : List ℕ} {state q n x : ℕ} → Shows b state q n x → n ≤ 64
 few sh = ⊎_elim (λ e. omega arith) (λ e. omega arith) sh.size
 
@@ -76,20 +92,20 @@ pub enough : {b : List ℕ} {state q n x : ℕ} → Shows b state q n x → 8 �
 enough sh = ⊎_elim (λ e. omega arith) (λ e. omega arith) sh.size
 
 -- a word that is `none_in` has no block in this state
-pub none_here : (b : List ℕ) → AllBytes b → (state q x y : ℕ) → state < 2 → x ≡ field b (24 + q) 8 → (state ≡ 1 → y ≡ 0) × (state ≡ 0 → y ≡ 2 ^ 64 - 1) → x ≡ y
+pub none_here : (b : List ℕ) → AllBytes b → (state q x y : ℕ) → state < 2 → x ≡ field b (24 + q) 8 → (state ≡ 1 → y ≡ 0) → (state ≡ 0 → y ≡ 2 ^ 64 - 1) → x ≡ y
     → (i : ℕ) → 8 * q ≤ i → i < 8 * q + 64 → bit_at b i ≡ state → ⊥
-none_here b bytes state q x y two e w s i l u h =
+none_here b bytes state q x y two e free allocated s i l u h =
     let j = i - 8 * q in
     let at : 8 * q + j ≡ i = omega arith in
     let d : y / 2 ^ j % 2 ≡ state = ap (λ (z : ℕ). z / 2 ^ j % 2) (sym s ∙ e) ∙ bit-digit b bytes 8 q j (omega arith) ∙ ap (bit_at b) at ∙ h in
     by-dec
     (λ one.
-    let z = ap (λ (m : ℕ). m / 2 ^ j % 2) (w.0 one) in
+    let z = ap (λ (m : ℕ). m / 2 ^ j % 2) (free one) in
     let n = zero-digit j in
     omega (arith, d, z, n, one))
     (λ other.
     let none : state ≡ 0 = omega (arith, other, two) in
-    let z = ap (λ (m : ℕ). m / 2 ^ j % 2) (w.1 none) in
+    let z = ap (λ (m : ℕ). m / 2 ^ j % 2) (allocated none) in
     let c = complement-digit 64 0 j (pow_pos 64) (omega arith) in
     let n = zero-digit j in
     omega (arith, d, z, c, n, none))
@@ -100,18 +116,19 @@ none_here b bytes state q x y two e w s i l u h =
 
 -- ---- the lowest one of a window, from block s on
 
-module _ (b : List ℕ) (state s n x z : ℕ) (sh : Shows b state (s / 8) n x) (e : z ≡ count_trailing_zeros 64 (x / 2 ^ (s % 8))) where
-  pub next-hit : s % 8 + z < n → bit_at b (s + z) ≡ state
-  next-hit h =
-      let m = few sh in
-      let at : 8 * (s / 8) + (s % 8 + z) ≡ s + z = omega arith in
-      ap (bit_at b) (sym at)
-      ∙ sh.one (s % 8 + z) h
-      (sym (down-digit x (s % 8) z)
-      ∙ ap (λ (y : ℕ). x / 2 ^ (s % 8) / 2 ^ y % 2) e
-      ∙ trailing-one 64 (x / 2 ^ (s % 8)) (omega arith))
+module _ (b : List ℕ) (state s n x : ℕ) (sh : Shows b state (s / 8) n x) where
+  abbrev zeros-up : ℕ
+  zeros-up = count_trailing_zeros 64 (x / 2 ^ (s % 8))
 
-  pub next-passed : (i : ℕ) → s ≤ i → i < s + z → i < 8 * (s / 8) + n → bit_at b i ≡ state → ⊥
+  pub next-hit : s % 8 + zeros-up < n → (r : ℕ) → r ≡ s + zeros-up → bit_at b r ≡ state
+  next-hit h r e =
+      let m = few sh in
+      let at : 8 * (s / 8) + (s % 8 + zeros-up) ≡ r = omega (arith, e) in
+      ap (bit_at b) (sym at)
+      ∙ sh.one (s % 8 + zeros-up) h
+      (sym (down-digit x (s % 8) zeros-up) ∙ trailing-one 64 (x / 2 ^ (s % 8)) (omega arith))
+
+  pub next-passed : (i : ℕ) → s ≤ i → i < s + zeros-up → i < 8 * (s / 8) + n → bit_at b i ≡ state → ⊥
   next-passed i l u m =
       let j = i - s in
       let at : 8 * (s / 8) + (s % 8 + j) ≡ i = omega arith in
@@ -120,23 +137,30 @@ module _ (b : List ℕ) (state s n x z : ℕ) (sh : Shows b state (s / 8) n x) (
 
 -- ---- the highest one of a window, below block t
 
-module _ (b : List ℕ) (state q t n x up z : ℕ) (sh : Shows b state q n x) (e : z ≡ count_leading_zeros 64 (x * 2 ^ up % 2 ^ 64))
-    (fits : up + t ≡ 64 + 8 * q) (above : 8 * q < t) (within : t ≤ 8 * q + n) where
-  pub last-hit : up + z < 64 → bit_at b (t - z - 1) ≡ state
-  last-hit h =
-      let j = 63 - z - up in
-      let at : 8 * q + j ≡ t - z - 1 = omega arith in
+module _ (b : List ℕ) (state q t n x : ℕ) (sh : Shows b state q n x) (above : 8 * q < t) (within : t ≤ 8 * q + n) where
+  abbrev up : ℕ
+  up = 64 + 8 * q - t
+
+  abbrev zeros-down : ℕ
+  zeros-down = count_leading_zeros 64 (x * 2 ^ up % 2 ^ 64)
+
+  pub last-hit : up + zeros-down < 64 → (r : ℕ) → r ≡ t - zeros-down → bit_at b (r - 1) ≡ state
+  last-hit h r e =
+      let m = few sh in
+      let j = 63 - zeros-down - up in
+      let at : 8 * q + j ≡ r - 1 = omega (arith, e, m) in
       ap (bit_at b) (sym at)
-      ∙ sh.one j (omega arith)
+      ∙ sh.one j (omega (arith, m))
       (sym (up-digit 64 x up j (omega arith))
       ∙ leading-one 64 (x * 2 ^ up % 2 ^ 64) (up + j) (mod-lt (x * 2 ^ up) (pow_pos 64)) (omega arith))
 
-  pub last-passed : (i : ℕ) → 8 * q ≤ i → i < t → t ≤ i + z → bit_at b i ≡ state → ⊥
-  last-passed i l u m =
+  pub last-passed : (i : ℕ) → 8 * q ≤ i → i < t → t ≤ i + zeros-down → bit_at b i ≡ state → ⊥
+  last-passed i l u h =
+      let m = few sh in
       let j = i - 8 * q in
       let at : 8 * q + j ≡ i = omega arith in
       subst (λ (y : ℕ). bit_at b y ≡ state → ⊥) at
-      (sh.zero j (omega arith) (sym (up-digit 64 x up j (omega arith)) ∙ leading-zero 64 (x * 2 ^ up % 2 ^ 64) (up + j) (mod-lt (x * 2 ^ up) (pow_pos 64)) (omega arith)))
+      (sh.zero j (omega arith) (sym (up-digit 64 x up j (omega (arith, m))) ∙ leading-zero 64 (x * 2 ^ up % 2 ^ 64) (up + j) (mod-lt (x * 2 ^ up) (pow_pos 64)) (omega (arith, m))))
 
 -- a window that begins where `back_from` says holds the block
 pub holds : {b : List ℕ} {state q n x last : ℕ} → Back (length b) last q → Shows b state q n x → (last < 8 * q + n) × (n ≤ 64)

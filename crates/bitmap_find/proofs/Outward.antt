@@ -1,6 +1,6 @@
 -- Laws of a search in steps: what a step upward and a step downward rule out, and what they find. Assumes nothing.
 use Prim.Native.Nat.{ℕ, suc, ◌+◌, ◌-◌, ◌≤◌, ◌<◌, min}
-use mathlib.Core.Path.{◌≡◌}
+use mathlib.Core.Path.{◌≡◌, subst}
 use mathlib.Core.Bool.{true, false}
 use mathlib.Core.Logic.{◌⊎◌, inl, inr, ⊎_elim}
 use mathlib.Core.List.{List}
@@ -46,6 +46,11 @@ run_more b top l w g h r =
 -- and one that ends among the fewer is one there
 run-fewer : (b : List ℕ) (top l w g : ℕ) → g + w ≤ top → run_at b l w g ≡ true → run_at b top w g ≡ true
 run-fewer b top l w g h r = run-told b top w g h (λ i p q z. let o = run-free b l w g r i p q in omega (arith, o, z))
+
+-- what is said of the first blocks as a bitmap is said of them
+pub lowest-same : (b c : List ℕ) (l w m v from r : ℕ) → c ≡ b → m ≡ l → v ≡ w → Lowest c m v from r → Lowest b l w from r
+lowest-same b c l w m v from r e f g h =
+    subst (λ (x : ℕ). Lowest b l x from r) g (subst (λ (x : ℕ). Lowest b x v from r) f (subst (λ (x : List ℕ). Lowest x m v from r) e h))
 
 module _ (b : List ℕ) (l w near below from : ℕ) (some : 1 ≤ w) (down : below ≤ near) (up : near ≤ from) (clear : Clear b l w below from) where
   -- none begins from `below` up to `near` either

@@ -4,9 +4,11 @@ use mathlib.Core.Path.{◌≡◌, subst}
 use mathlib.Core.Bool.{true}
 use mathlib.Core.List.{List}
 use native.Mathlib.Omega.{arith}
+use Rattle.std.specs.Prelude.{Option, Some, None}
+use Rattle.std.specs.Option.{unwrap_or}
 use native.Mathlib.Decide.{dec_le}
 use Rattle.fields.proofs.Laws.{by-dec}
-use Rattle.bitmap_find.specs.Runs.{Lowest, Highest, Clear}
+use Rattle.bitmap_find.specs.Runs.{SomeBelow, Lowest, Highest, Clear}
 use Rattle.bitmap_find.specs.Nearest.{run_at, Nearest}
 use Rattle.bitmap_find.proofs.Laws.{run_ends}
 use Rattle.bitmap_find.proofs.Outward.{down-found, down-none}
@@ -60,15 +62,11 @@ module _ (b : List ℕ) (l w near up low down : ℕ) (some : 1 ≤ w) (above : L
       }
 
 -- the same where the search below was one from `below` down, no run beginning from there up to `near`
-module _ (b : List ℕ) (l w near below up low from d : ℕ) (some : 1 ≤ w) (down : below ≤ near) (clear : Clear b l w below near) (above : Lowest b l w near up)
-    (e : low ≡ near - (up - near)) (m : from ≡ min low below) (h : Highest b l w from below d) where
-  lower : Highest b l w (min low below) below d
-  lower = subst (λ (x : ℕ). Highest b l w x below d) m h
-
-  pub nearer-down : d < below → Nearest b l w near d
-  nearer-down v =
-      pick-down b l w near up low d some above (far-told near up low e) (down-found b l w near below low d down clear (omega (arith, e)) lower v) (omega arith)
-
-  pub nearer-up : below ≤ d → up < l → Nearest b l w near up
-  nearer-up v u =
-      pick_up b l w near up low near some above (far-told near up low e) (down-none b l w near below low d down clear (omega (arith, e)) lower v) (omega arith) u
+pub nearer-of : (b : List ℕ) (l w near below up low from : ℕ) → 1 ≤ w → below ≤ near → Clear b l w below near → Lowest b l w near up → up < l
+    → low ≡ near - (up - near) → from ≡ min low below → (o : Option ℕ) → SomeBelow (Highest b l w from below) below o → Nearest b l w near (unwrap_or o up)
+nearer-of b l w near below up low from some down clear above u e m (Some d) (v, h) =
+    let lower = subst (λ (x : ℕ). Highest b l w x below d) m h in
+    pick-down b l w near up low d some above (far-told near up low e) (down-found b l w near below low d down clear (omega (arith, e)) lower v) (omega arith)
+nearer-of b l w near below up low from some down clear above u e m None h =
+    let lower = subst (λ (x : ℕ). Highest b l w x below below) m h in
+    pick_up b l w near up low near some above (far-told near up low e) (down-none b l w near below low below down clear (omega (arith, e)) lower (omega arith)) (omega arith) u

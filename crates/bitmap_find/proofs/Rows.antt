@@ -7,14 +7,15 @@ use native.Mathlib.Omega.{arith}
 use native.Mathlib.Nat.{mod-lt}
 use native.Mathlib.Decide.{dec_le}
 use lib.Pow.{pow_pos, shr_lt, ones_sub-lt}
-use lib.Count.{count_trailing_zeros, trailing_le, count_leading_zeros}
+use lib.Count.{count_trailing_zeros, trailing_le, count_leading_zeros, leading_top}
+use Rattle.std.specs.Prelude.{Option, Some, None, MatchOption}
 use Rattle.fields.proofs.Laws.{by-dec}
 use Rattle.bitmap.specs.Bits.{bit_at}
 use Rattle.bitmap.specs.Scan.{Shows, FirstOf}
 use Rattle.bitmap.proofs.Digits.{complement-digit, down-digit, up-digit, trailing-zero, trailing-one, leading-zero, leading-one}
 use Rattle.bitmap.proofs.Windows.{bit-small, few, enough}
 use Rattle.bitmap_find.specs.Nearest.{run_at}
-use Rattle.bitmap_find.specs.Runs.{Folded, Lowest}
+use Rattle.bitmap_find.specs.Runs.{SomeBelow, Folded, Lowest}
 use Rattle.bitmap_find.specs.Rows.{FreeFrom, FirstOnes, RowIn, LastOnes}
 use Rattle.bitmap_find.proofs.Laws.{run_ends}
 use Rattle.bitmap_find.proofs.Runs.{run-told, run-free, from_next}
@@ -83,18 +84,39 @@ no_row x w h l =
           absurd (omega (arith, one, none))) (dec_le 64 j);
     }
 
-pub row_in : (x w y r : ℕ) → Folded x w y → r ≡ count_trailing_zeros 64 y → RowIn x w r
-row_in x w y r f e =
-    let m = trailing_le 64 y in
-    record {
-      most = omega (arith, m, e);
-      row = λ u. f.row r (ap (λ (k : ℕ). y / 2 ^ k % 2) e ∙ trailing-one 64 y (omega (arith, u, e)));
-      least = λ j o.
-          by-dec (λ n. n) (λ n.
-          let one = f.here j o in
-          let none = trailing-zero 64 y j (omega (arith, n, e)) in
-          absurd (omega (arith, one, none))) (dec_le r j);
-    }
+module _ (x w y : ℕ) (f : Folded x w y) where
+  pub no-rows : y ≡ 0 → RowIn x w 64
+  no-rows e =
+      record {
+        most = omega arith;
+        row = λ u. absurd (omega arith);
+        least = λ j o.
+            let one = f.here j o in
+            let none = no_digit 0 y j (omega (arith, e)) (omega arith) in
+            absurd (omega (arith, one, none));
+      }
+
+  -- the lowest one, of which there is some
+  pub row_in : (y ≡ 0 → ⊥) → SomeBelow (RowIn x w) 64 (Some (count_trailing_zeros 64 y))
+  row_in some =
+      let r = count_trailing_zeros 64 y in
+      let top = leading_top 64 y (omega (arith, some)) f.small in
+      let one = leading-one 64 y top.0 f.small (omega (arith, top.1)) in
+      let inside : r < 64 =
+      by-dec (λ n. n) (λ n.
+      let none = trailing-zero 64 y top.0 (omega (arith, n, top.1)) in
+      absurd (omega (arith, one, none))) (dec_le (suc r) 64) in (
+        inside,
+        record {
+          most = omega (arith, inside);
+          row = λ u. f.row r (trailing-one 64 y inside);
+          least = λ j o.
+              by-dec (λ n. n) (λ n.
+              let a = f.here j o in
+              let none = trailing-zero 64 y j (omega (arith, n)) in
+              absurd (omega (arith, a, none))) (dec_le r j);
+        },
+      )
 
 pub last-ones : (x n r : ℕ) → n ≤ 64 → r ≡ count_leading_zeros 64 (2 ^ 64 - 1 - x * 2 ^ (64 - n) % 2 ^ 64) → LastOnes x n r
 last-ones x n r h e =
@@ -138,36 +160,37 @@ kept-first b l w from h =
       least = λ g p r. p;
     }
 
+-- block f, unless a run from there on would end past L
+abbrev pub Within : ℕ → ℕ → ℕ → Option ℕ → Type 0
+Within l w f o = MatchOption o (l < f + w) (λ r. (r ≡ f) × (f + w ≤ l))
+
 -- a block that no run begins below, and at which one begins where it ends by L
-pub lowest-at : (b : List ℕ) (l w from f r : ℕ) → from ≤ l → 1 ≤ w → from ≤ f
+pub lowest-at : (b : List ℕ) (l w from f : ℕ) → from ≤ l → 1 ≤ w → from ≤ f
     → ((i : ℕ) → f ≤ i → i < f + w → f + w ≤ l → bit_at b i ≡ 1)
     → ((g : ℕ) → from ≤ g → run_at b l w g ≡ true → f ≤ g)
-    → (f + w ≤ l → r ≡ f) × (l < f + w → r ≡ l) → Lowest b l w from r
-lowest-at b l w from f r h some a free least e =
-    by-dec
-    (λ n.
-    let k = e.0 n in
+    → (o : Option ℕ) → Within l w f o → SomeBelow (Lowest b l w from) l o
+lowest-at b l w from f h some a free least None n =
     record {
-      above = omega (arith, a, k);
-      most = omega (arith, n, k);
-      run = λ u. subst (λ (y : ℕ). run_at b l w y ≡ true) (sym k) (run-told b l w f n (λ i p q z. let o = free i p q n in omega (arith, o, z)));
-      least = λ g p q. let o = least g p q in omega (arith, o, k);
-    })
-    (λ n.
-    let k = e.1 (omega (arith, n)) in
-    record {
-      above = omega (arith, h, k);
-      most = omega (arith, k);
-      run = λ u. absurd (omega (arith, u, k));
+      above = h;
+      most = omega arith;
+      run = λ u. absurd (omega (arith, u));
       least = λ g p q. let o = least g p q in let m = run_ends b l w 0 g q in absurd (omega (arith, o, m, n));
-    })
-    (dec_le (f + w) l)
+    }
+lowest-at b l w from f h some a free least (Some r) (k, n) = (
+  omega (arith, n, k, some),
+  record {
+    above = omega (arith, a, k);
+    most = omega (arith, n, k);
+    run = λ u. subst (λ (y : ℕ). run_at b l w y ≡ true) (sym k) (run-told b l w f n (λ i p q z. let o = free i p q n in omega (arith, o, z)));
+    least = λ g p q. let o = least g p q in omega (arith, o, k);
+  },
+)
 
 -- past L there is no more to see
-pub kept-last : (b : List ℕ) (l w from begin s r : ℕ) → Kept b l w from begin s → from ≤ l → 1 ≤ w → l ≤ s
-    → (begin + w ≤ l → r ≡ begin) × (l < begin + w → r ≡ l) → Lowest b l w from r
-kept-last b l w from begin s r k h some u e =
-    lowest-at b l w from begin r h some k.above (λ i p q n. k.free i p (omega (arith, q, n, u))) k.least e
+pub kept-last : (b : List ℕ) (l w from begin s : ℕ) → Kept b l w from begin s → from ≤ l → 1 ≤ w → l ≤ s
+    → (o : Option ℕ) → Within l w begin o → SomeBelow (Lowest b l w from) l o
+kept-last b l w from begin s k h some u =
+    lowest-at b l w from begin h some k.above (λ i p q n. k.free i p (omega (arith, q, n, u))) k.least
 
 -- the next word, which begins with some ones
 module _ (b : List ℕ) (l w from begin s n x ones : ℕ) (k : Kept b l w from begin s) (f : FreeFrom b s n x) (o : FirstOnes x ones)
@@ -188,9 +211,9 @@ module _ (b : List ℕ) (l w from begin s n x ones : ℕ) (k : Kept b l w from b
       ap (bit_at b) (sym at) ∙ sym (f.digit j (omega (arith, q, m, in-word))) ∙ o.ones j (omega (arith, q, m))) (dec_le (suc i) s)
 
   -- they end a row that is long enough
-  pub kept-found : (r : ℕ) → w ≤ s + ones - begin → (begin + w ≤ l → r ≡ begin) × (l < begin + w → r ≡ l) → Lowest b l w from r
-  kept-found r u e =
-      lowest-at b l w from begin r start some k.above (λ i p q m. still-free i p (omega (arith, q, u, k.order))) k.least e
+  pub kept-found : w ≤ s + ones - begin → (o : Option ℕ) → Within l w begin o → SomeBelow (Lowest b l w from) l o
+  kept-found u =
+      lowest-at b l w from begin start some k.above (λ i p q m. still-free i p (omega (arith, q, u, k.order))) k.least
 
   -- there is nothing else in it
   pub kept_on : n ≤ ones → Kept b l w from begin (s + n)
@@ -258,21 +281,20 @@ module _ (b : List ℕ) (l w from begin s n x ones : ℕ) (k : Kept b l w from b
           omega (arith, m, a)
 
       -- the lowest row is the lowest run
-      pub row-found : (r : ℕ) → row < 64 → (s + row + w ≤ l → r ≡ s + row) × (l < s + row + w → r ≡ l) → Lowest b l w from r
-      row-found r u e =
+      pub row-found : row < 64 → (o : Option ℕ) → Within l w (s + row) o → SomeBelow (Lowest b l w from) l o
+      row-found u =
           let ends : row + w ≤ n =
           by-dec (λ m. m) (λ m.
           let i = row + w - 1 in
           let one = t.row u i (omega (arith, some)) (omega (arith, some)) in
           let none = no_digit n x i f.small (omega (arith, m, some)) in
           absurd (omega (arith, one, none))) (dec_le (row + w) n) in
-          lowest-at b l w from (s + row) r start some (omega (arith, k.above, k.order))
+          lowest-at b l w from (s + row) start some (omega (arith, k.above, k.order))
           (λ i p q m.
           let j = i - s in
           let at : s + j ≡ i = omega (arith, p) in
           ap (bit_at b) (sym at) ∙ sym (f.digit j (omega (arith, p, q, ends))) ∙ t.row u j (omega (arith, p)) (omega (arith, p, q)))
           (λ g p q. by-dec (λ m. row-least g p q m) (λ m. omega (arith, m, ends)) (dec_le (g + w) (s + n)))
-          e
 
       -- where there is none, a run begins in the ones at the end, or later
       module _ (last : ℕ) (z : LastOnes x n last) where

@@ -8,6 +8,7 @@ use native.Mathlib.Nat.{lt_of_le_of_lt, mul_assoc, mod-lt}
 use native.Mathlib.Decide.{ℕ_discrete, dec_le}
 use lib.ListN.{length}
 use lib.Pow.{pow_pos, pow-add, shl-shr, shr_le, field, mod-mod-pow, ones_sub-lt}
+use Rattle.std.specs.Prelude.{Option, Some, None, MatchOption}
 use lib.Count.{count_trailing_zeros, trailing_le, count_leading_zeros, leading_le, leading_top}
 use Rattle.fields.proofs.Laws.{by-dec}
 use Rattle.bitmap.specs.Bits.{bit_at}
@@ -15,8 +16,8 @@ use Rattle.bitmap.specs.Scan.{Shows, Back, LastOf}
 use Rattle.bitmap.proofs.Digits.{trailing-zero, trailing-one, leading-zero, leading-one, complement-digit, down-digit, up-digit}
 use Rattle.bitmap.proofs.Windows.{bit-small, holds}
 use Rattle.bitmap_find.specs.Nearest.{run_at}
-use Rattle.bitmap_find.specs.Runs.{Ones, Folded, Highest}
-use Rattle.bitmap_find.specs.TopRows.{FreeTo, TopOnes, TopRow, OnesFrom, NotUnder}
+use Rattle.bitmap_find.specs.Runs.{SomeBelow, Ones, Folded, Highest}
+use Rattle.bitmap_find.specs.TopRows.{FreeTo, TopOnes, TopRow, OnesFrom}
 use Rattle.bitmap_find.proofs.Runs.{run-told, run-free, by_last}
 use Rattle.bitmap_find.proofs.Words.{no_digit}
 
@@ -153,26 +154,35 @@ module _ (x w y : ℕ) (f : Folded x w y) where
             absurd (omega (arith, a, z));
       }
 
-  module _ (z : ℕ) (some : y ≡ 0 → ⊥) (e : z ≡ count_leading_zeros 64 y) where
-    pub row-place : z < 64
-    row-place = let t = leading_top 64 y (omega (arith, some)) f.small in omega (arith, t.1, e)
+  module _ (some : y ≡ 0 → ⊥) where
+    abbrev above : ℕ
+    above = count_leading_zeros 64 y
 
-    pub top-row : TopRow x w (63 - z)
+    pub row-place : above < 64
+    row-place = let t = leading_top 64 y (omega (arith, some)) f.small in omega (arith, t.1)
+
+    pub top-row : SomeBelow (TopRow x w) 64 (Some (63 - above))
     top-row =
-        let p = row-place in
-        record {
-          most = omega arith;
-          row = λ u. f.row (63 - z) (leading-one 64 y (63 - z) f.small (omega (arith, p, e)));
-          highest = λ j o. (
-            omega arith,
-            by-dec (λ n. n) (λ n.
-                let a = f.here j o in
-                let c = leading-zero 64 y j f.small (omega (arith, n, e)) in
-                absurd (omega (arith, a, c))) (dec_le j (63 - z)),
-          );
-        }
+        let p = row-place in (
+          omega arith,
+          record {
+            most = omega arith;
+            row = λ u. f.row (63 - above) (leading-one 64 y (63 - above) f.small (omega (arith, p)));
+            highest = λ j o. (
+              omega arith,
+              by-dec (λ n. n) (λ n.
+                  let a = f.here j o in
+                  let c = leading-zero 64 y j f.small (omega (arith, n)) in
+                  absurd (omega (arith, a, c))) (dec_le j (63 - above)),
+            );
+          },
+        )
 
 -- ---- downward
+
+-- a first block, unless it is below `low`
+abbrev pub NotUnder : ℕ → ℕ → Option ℕ → Type 0
+NotUnder low first o = MatchOption o (first < low) (λ r. (r ≡ first) × (low ≤ first))
 
 -- the blocks from e up to `end` are free and fewer than a run, and a run that begins from `low` up to `below` ends by `end`
 pub record Down (b : List ℕ) (l w low below e end : ℕ) : Type 0 where
@@ -194,25 +204,18 @@ module _ (b : List ℕ) (l w low below : ℕ) (some : 1 ≤ w) where
       }
 
   -- no run begins above `first`, and there one does, unless that is below `low`
-  chosen : (first r : ℕ) → NotUnder low below first r → first < below → (low ≤ first → run_at b l w first ≡ true)
-      → ((g : ℕ) → low ≤ g → g < below → run_at b l w g ≡ true → g ≤ first) → Highest b l w low below r
-  chosen first r n u run top =
-      by-dec
-      (λ m.
-      let e = n.same m in
-      record {
-        run = λ h. (omega (arith, e, m), ap (run_at b l w) e ∙ run m);
-        most = omega (arith, e, u);
-        greatest = λ g p h z. let t = top g p h z in (omega (arith, e, u), omega (arith, e, t));
-      })
-      (λ m.
-      let e = n.under (omega (arith, m)) in
-      record {
-        run = λ h. absurd (omega (arith, e, h));
-        most = omega (arith, e);
-        greatest = λ g p h z. let t = top g p h z in absurd (omega (arith, m, p, t));
-      })
-      (dec_le low first)
+  chosen : (first : ℕ) → first < below → (low ≤ first → run_at b l w first ≡ true)
+      → ((g : ℕ) → low ≤ g → g < below → run_at b l w g ≡ true → g ≤ first)
+      → (o : Option ℕ) → NotUnder low first o → SomeBelow (Highest b l w low below) below o
+  chosen first u run top None m = none (λ g p h z. let t = top g p h z in omega (arith, m, p, t))
+  chosen first u run top (Some r) (e, m) = (
+    omega (arith, e, u),
+    record {
+      run = λ h. (omega (arith, e, m), ap (run_at b l w) e ∙ run m);
+      most = omega (arith, e, u);
+      greatest = λ g p h z. let t = top g p h z in (omega (arith, e, u), omega (arith, e, t));
+    },
+  )
 
   module _ (e end : ℕ) (d : Down b l w low below e end) where
     -- before `end` there is no room for a run
@@ -220,12 +223,12 @@ module _ (b : List ℕ) (l w low below : ℕ) (some : 1 ≤ w) where
     end_none h = none (λ g p u r. let n = d.rest g p u r in omega (arith, n, h))
 
     -- the run that ends at `end`, where the blocks from f up to e are free too
-    at-end : (f r : ℕ) → ((i : ℕ) → f ≤ i → i < e → bit_at b i ≡ 1) → w ≤ end → (low ≤ end - w → f ≤ end - w)
-        → NotUnder low below (end - w) r → Highest b l w low below r
-    at-end f r more m fits n =
+    at-end : (f : ℕ) → ((i : ℕ) → f ≤ i → i < e → bit_at b i ≡ 1) → w ≤ end → (low ≤ end - w → f ≤ end - w)
+        → (o : Option ℕ) → NotUnder low (end - w) o → SomeBelow (Highest b l w low below) below o
+    at-end f more m fits =
         let s = d.short in
         let t = d.most in
-        chosen (end - w) r n (omega (arith, s, m))
+        chosen (end - w) (omega (arith, s, m))
         (λ u.
         let v = fits u in
         run-told b l w (end - w) (omega (arith, t, m))
@@ -237,8 +240,8 @@ module _ (b : List ℕ) (l w low below : ℕ) (some : 1 ≤ w) where
         (λ g p u x. let y = d.rest g p u x in omega (arith, y, m))
 
     -- the same at the end of the scan
-    pub at_low : e ≤ low → w ≤ end → (r : ℕ) → NotUnder low below (end - w) r → Highest b l w low below r
-    at_low h m r n = at-end e r (λ i p q. absurd (omega arith)) m (λ u. omega (arith, u, h)) n
+    pub at_low : e ≤ low → w ≤ end → (o : Option ℕ) → NotUnder low (end - w) o → SomeBelow (Highest b l w low below) below o
+    at_low h m = at-end e (λ i p q. absurd (omega arith)) m (λ u. omega (arith, u, h))
 
     -- a run that is sought ends by an allocated block that it cannot lie above
     by-hole : (z : ℕ) → end ≤ z + w → bit_at b z ≡ 0 → (g : ℕ) → low ≤ g → g < below → run_at b l w g ≡ true → g + w ≤ z
@@ -304,12 +307,12 @@ module _ (b : List ℕ) (l w low below : ℕ) (some : 1 ≤ w) where
             sym (f.digit i (omega (arith, p, s)) u) ∙ o.ones (64 + i - e) (omega (arith, p, s, m)) (omega (arith, p, s, m, u))
 
         -- they complete a run
-        pub ends : w ≤ end - e + k → (r : ℕ) → NotUnder low below (end - w) r → Highest b l w low below r
-        ends m r u =
+        pub ends : w ≤ end - e + k → (o : Option ℕ) → NotUnder low (end - w) o → SomeBelow (Highest b l w low below) below o
+        ends m =
             let s = ones-fit in
             let v = f.fits in
             let y = d.within in
-            at-end (e - k) r (λ i p q. top-free i (omega (arith, p, s, v)) q) (omega (arith, m, s, v, y)) (λ _. omega (arith, m, s, v, y)) u
+            at-end (e - k) (λ i p q. top-free i (omega (arith, p, s, v)) q) (omega (arith, m, s, v, y)) (λ _. omega (arith, m, s, v, y))
 
         module _ (short : end - e + k < w) where
           -- they are the window
@@ -374,15 +377,15 @@ module _ (b : List ℕ) (l w low below : ℕ) (some : 1 ≤ w) where
               row_inside u = let a = row_fits u in let v = f.fits in omega (arith, a, v)
 
               -- the highest row is the run
-              pub row-run : row < 64 → (r : ℕ) → NotUnder low below (e + row - 64) r → Highest b l w low below r
-              row-run u r c =
+              pub row-run : row < 64 → (o : Option ℕ) → NotUnder low (e + row - 64) o → SomeBelow (Highest b l w low below) below o
+              row-run u =
                   let a = row_fits u in
                   let v = f.fits in
                   let m = f.few in
                   let y = d.within in
                   let s = d.short in
                   let q = d.most in
-                  chosen (e + row - 64) r c (omega (arith, a, v, y, s))
+                  chosen (e + row - 64) (omega (arith, a, v, y, s))
                   (λ _.
                   run-told b l w (e + row - 64) (omega (arith, a, v, y, q))
                   (λ i p z no.

@@ -1,6 +1,10 @@
 -- What the scans for a run find, upward and downward.
-use Rattle.std.specs.Prelude.{ℕ, ◌+◌, ◌/◌, ◌%◌, ◌^◌, ◌≤◌, ◌<◌, ◌≡◌, ◌⊎◌, true, List}
+use Rattle.std.specs.Prelude.{ℕ, ◌+◌, ◌/◌, ◌%◌, ◌^◌, ◌≤◌, ◌<◌, ◌≡◌, ◌⊎◌, true, List, Option, MatchOption}
 use Rattle.bitmap_find.specs.Nearest.{run_at}
+
+-- a number below d of which P holds, or none, where P holds of d
+abbrev pub SomeBelow : (ℕ → Type 0) → ℕ → Option ℕ → Type 0
+SomeBelow P d o = MatchOption o (P d) (λ r. (r < d) × P r)
 
 -- x has w ones in a row from digit j on
 abbrev pub Ones : ℕ → ℕ → ℕ → Type 0

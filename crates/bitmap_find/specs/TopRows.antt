@@ -29,8 +29,3 @@ pub record OnesFrom (x low r : ℕ) : Type 0 where
   pub most : low + r ≤ 64
   pub ones : (i : ℕ) → low ≤ i → i < low + r → x / 2 ^ i % 2 ≡ 1
   pub end : low + r < 64 → x / 2 ^ (low + r) % 2 ≡ 0
-
--- a first block, or `below` in place of one below `low`
-pub record NotUnder (low below first r : ℕ) : Type 0 where
-  pub under : first < low → r ≡ below
-  pub same : low ≤ first → r ≡ first

@@ -2,13 +2,13 @@
 // The layers above may count on `find`, a call that answers for any bytes.
 #![tactic(auto)]
 
-ghost use Rattle.std.specs.Prelude.{◌≡◌, ℕ, ◌+◌, ◌-◌, ◌*◌, ◌≤◌, ◌<◌, min, length};
+ghost use Rattle.std.specs.Prelude.{◌≡◌, ℕ, ◌+◌, ◌-◌, ◌*◌, ◌≤◌, ◌<◌, length, MatchOption};
 ghost use Rattle.bitmap_find.specs.Nearest.{nearest, Nearest, Finds};
-ghost use Rattle.bitmap_find.specs.Runs.{Lowest, Highest, Clear, Folded};
+ghost use Rattle.bitmap_find.specs.Runs.{SomeBelow, Lowest, Highest, Clear, Folded};
 ghost use Rattle.bitmap_find.specs.Rows.{FreeFrom, FirstOnes, RowIn, LastOnes};
-ghost use Rattle.bitmap_find.specs.TopRows.{FreeTo, TopOnes, TopRow, OnesFrom, NotUnder};
+ghost use Rattle.bitmap_find.specs.TopRows.{FreeTo, TopOnes, TopRow, OnesFrom};
 
-use bitmap::{WORD, Window};
+use bitmap::{BYTE, Bitmap, State, WORD, Window};
 use refusal::Refusal;
 
 // The highest digit of a word.
@@ -21,28 +21,7 @@ const STEP_GROWTH: usize = 8;
 
 const MOST_STEP: usize = 1 << 30;
 
-// A first block, or why there is none.
-#[derive(Clone, Copy)]
-pub enum Found {
-    At(u32),
-    Refused(Refusal),
-}
-
-// The lesser of two.
-fn least_usize(a: usize, b: usize) -> usize
-    ensures { result ≡ min a b }
-{
-    if a < b {
-        return a;
-    }
-    b
-}
-
-fn usize_of_count(x: u32) -> usize
-    ensures { (result ≡ x) × (result < 4294967296) }
-{
-    x as usize
-}
+// ---- words of the bitmap
 
 // A one wherever a row of so many ones begins.
 fn fold(x: u64, wanted: usize) -> u64
@@ -51,8 +30,9 @@ fn fold(x: u64, wanted: usize) -> u64
 {
     let mut y = x;
     let mut k: usize = 1;
+    // The new form is no plainer: k doubles, and counts no index.
     while k < wanted {
-        let more = least_usize(k, wanted - k);
+        let more = k.min(wanted - k);
         y = y & (y >> more);
         k += more;
     }
@@ -60,15 +40,29 @@ fn fold(x: u64, wanted: usize) -> u64
 }
 
 // The states of the blocks from s on, a one where free: as many as a word of the bitmap still holds.
-fn free_from(b: &[u8], s: usize) -> Window
-    requires { 192 + s < 8 * length b.now }
-    ensures { FreeFrom b.now s result.count result.bits }
+fn free_from(bitmap: Bitmap<'_>, s: usize) -> Window
+    requires { s < bitmap.len }
+    ensures { FreeFrom bitmap.entry.bytes.now s result.count result.bits }
 {
-    let low = s % 8;
-    let w = bitmap::look(b, bitmap::FREE, s / 8);
+    let low = s % BYTE;
+    let w = bitmap.look(State::Free, s / BYTE);
     Window {
         bits: w.bits >> low,
         count: w.count - low,
+    }
+}
+
+// The states of the blocks that end at block e, a one where free, in the highest digits.
+fn free_to(bitmap: Bitmap<'_>, e: usize) -> Window
+    requires { (e ≤ bitmap.len) × (1 ≤ e) }
+    ensures { FreeTo bitmap.entry.bytes.now e result.count result.bits }
+{
+    let q = bitmap.back_from(e - 1);
+    let w = bitmap.look(State::Free, q);
+    let n = e - BYTE * q;
+    Window {
+        bits: w.bits << (WORD - n),
+        count: n,
     }
 }
 
@@ -76,116 +70,7 @@ fn free_from(b: &[u8], s: usize) -> Window
 fn first_ones(x: u64) -> usize
     ensures { FirstOnes x result }
 {
-    usize_of_count(u64::trailing_zeros(!x))
-}
-
-// The lowest digit at which a row of so many ones begins, or 64.
-fn row_in(x: u64, wanted: usize) -> usize
-    requires { 1 ≤ wanted }
-    ensures { RowIn x wanted result }
-{
-    if WORD < wanted {
-        return WORD;
-    }
-    usize_of_count(u64::trailing_zeros(fold(x, wanted)))
-}
-
-// How many ones the first n digits of a word end with.
-fn last_ones(x: u64, n: usize) -> usize
-    requires { (1 ≤ n) × (n ≤ 64) }
-    ensures { LastOnes x n result }
-{
-    usize_of_count(u64::leading_zeros(!(x << (WORD - n))))
-}
-
-// Block f, or L where a run from there on would end past it.
-fn within(l: usize, wanted: usize, f: usize) -> usize
-    ensures { (f + wanted ≤ l → result ≡ f) × (l < f + wanted → result ≡ l) }
-{
-    if l < wanted {
-        return l;
-    }
-    if l - wanted < f {
-        return l;
-    }
-    f
-}
-
-// The lowest first block of a run from a block on, or L: a word a step. The blocks from `begin` up to s are free.
-fn lowest(b: &[u8], l: usize, wanted: usize, from: usize) -> usize
-    requires { (192 + l ≤ 8 * length b.now) × (l < 4294967296) × (from ≤ l) × (1 ≤ wanted) }
-    ensures { Lowest b.now l wanted from result }
-{
-    let mut begin = from;
-    let mut s = from;
-    while s < l {
-        let w = free_from(b, s);
-        let ones = first_ones(w.bits);
-        if wanted <= s + ones - begin {
-            return within(l, wanted, begin);
-        }
-        if w.count <= ones {
-            s += w.count;
-        } else if w.bits == 0 {
-            s = bitmap::next_in(b, bitmap::FREE, s, l);
-            begin = s;
-        } else {
-            let row = row_in(w.bits, wanted);
-            if row < WORD {
-                return within(l, wanted, s + row);
-            }
-            s += w.count;
-            begin = s - last_ones(w.bits, w.count);
-        }
-    }
-    within(l, wanted, begin)
-}
-
-// Where a run that begins below a block ends at most.
-fn furthest(l: usize, wanted: usize, below: usize) -> usize
-    requires { (below ≤ l) × (1 ≤ wanted) }
-    ensures { (result ≤ l) × (below ≤ result) × (result < below + wanted) × ((g : ℕ) → g < below → g + wanted ≤ l → g + wanted ≤ result) }
-{
-    if l - below < wanted {
-        return l;
-    }
-    below + wanted - 1
-}
-
-// The states of the blocks that end at block e, a one where free, in the highest digits.
-fn free_to(b: &[u8], e: usize) -> Window
-    requires { (192 + e ≤ 8 * length b.now) × (1 ≤ e) }
-    ensures { FreeTo b.now e result.count result.bits }
-{
-    let q = bitmap::back_from(b.len(), e - 1);
-    let w = bitmap::look(b, bitmap::FREE, q);
-    let n = e - 8 * q;
-    Window {
-        bits: w.bits << (WORD - n),
-        count: n,
-    }
-}
-
-// How many ones the highest digits of a word are.
-fn top_ones(x: u64) -> usize
-    ensures { TopOnes x result }
-{
-    usize_of_count(u64::leading_zeros(!x))
-}
-
-// The highest digit of a word where a row of so many ones begins, or 64.
-fn top_row(x: u64, wanted: usize) -> usize
-    requires { 1 ≤ wanted }
-    ensures { TopRow x wanted result }
-{
-    if WORD < wanted {
-        return WORD;
-    }
-    let rows = fold(x, wanted);
-    if rows == 0 {
-        return WORD;
-    }
-    HIGHEST - usize_of_count(u64::leading_zeros(rows))
+    x.trailing_ones() as usize
 }
 
 // How many ones in a row a word has from a digit on.
@@ -193,125 +78,228 @@ fn ones_from(x: u64, low: usize) -> usize
     requires { low < 64 }
     ensures { OnesFrom x low result }
 {
-    usize_of_count(u64::trailing_zeros(!(x >> low)))
+    (x >> low).trailing_ones() as usize
 }
 
-// A first block, or `below` in place of one below `low`.
-fn not_under(low: usize, below: usize, first: usize) -> usize
-    ensures { NotUnder low below first result }
+// How many ones the highest digits of a word are.
+fn top_ones(x: u64) -> usize
+    ensures { TopOnes x result }
+{
+    x.leading_ones() as usize
+}
+
+// How many ones the first n digits of a word end with.
+fn last_ones(x: u64, n: usize) -> usize
+    requires { (1 ≤ n) × (n ≤ 64) }
+    ensures { LastOnes x n result }
+{
+    (x << (WORD - n)).leading_ones() as usize
+}
+
+// A first block, unless it is below `low`.
+fn not_under(low: usize, first: usize) -> Option<usize>
+    ensures { MatchOption result (first < low) (λ r. (r ≡ first) × (low ≤ first)) }
 {
     if first < low {
-        return below;
+        return None;
     }
-    first
+    Some(first)
 }
 
-// The highest first block of a run from `low` up to `below`, or `below`. Downward by windows of up to 64 blocks: the blocks
-// from e up to `end` are free, and a run that is sought ends by `end`.
-fn highest(b: &[u8], l: usize, wanted: usize, low: usize, below: usize) -> usize
-    requires { (192 + l ≤ 8 * length b.now) × (l < 4294967296) × (low ≤ below) × (below ≤ l) × (1 ≤ wanted) }
-    ensures { Highest b.now l wanted low below result }
-{
-    if low == below {
-        return below;
+// ---- the search
+
+// A search for free runs: the bitmap, and the wanted length of a run.
+#[derive(Clone, Copy)]
+struct Search<'a> {
+    bitmap: Bitmap<'a>,
+    wanted: usize,
+    ghost some: { 1 ≤ wanted },
+    ghost few: { wanted < 4294967296 },
+}
+
+impl<'a> Search<'a> {
+    // The same among the first blocks.
+    fn up_to(self, len: usize) -> Search<'a>
+        requires { len ≤ self.bitmap.len }
+        ensures bytes { result.bitmap.bytes.now ≡ self.entry.bitmap.bytes.now }
+        ensures len { result.bitmap.len ≡ len }
+        ensures wanted { result.wanted ≡ self.entry.wanted }
+    {
+        Search {
+            bitmap: self.bitmap.up_to(len),
+            wanted: self.wanted,
+        }
     }
-    let mut end = furthest(l, wanted, below);
-    let mut e = end;
-    while low < e {
-        let w = free_to(b, e);
-        if w.bits == 0 {
-            e = bitmap::last_in(b, bitmap::FREE, low, e);
-            end = e;
-        } else {
-            let ones = top_ones(w.bits);
-            if wanted <= end - e + ones {
-                return not_under(low, below, end - wanted);
+
+    // The lowest digit at which a row of so many ones begins.
+    fn row_in(self, x: u64) -> Option<usize>
+        ensures { SomeBelow (RowIn x self.entry.wanted) 64 result }
+    {
+        if WORD < self.wanted {
+            return None;
+        }
+        let rows = fold(x, self.wanted);
+        if rows == 0 {
+            return None;
+        }
+        Some(rows.trailing_zeros() as usize)
+    }
+
+    // The highest digit at which a row of so many ones begins.
+    fn top_row(self, x: u64) -> Option<usize>
+        ensures { SomeBelow (TopRow x self.entry.wanted) 64 result }
+    {
+        if WORD < self.wanted {
+            return None;
+        }
+        let rows = fold(x, self.wanted);
+        if rows == 0 {
+            return None;
+        }
+        Some(HIGHEST - rows.leading_zeros() as usize)
+    }
+
+    // Block f, unless a run from there on would end past the last block.
+    fn within(self, f: usize) -> Option<usize>
+        ensures { MatchOption result (self.entry.bitmap.len < f + self.entry.wanted)
+            (λ r. (r ≡ f) × (f + self.entry.wanted ≤ self.entry.bitmap.len)) }
+    {
+        let last = self.bitmap.len.checked_sub(self.wanted)?;
+        if last < f {
+            return None;
+        }
+        Some(f)
+    }
+
+    // The lowest first block of a run from a block on: a word a step. The blocks from `begin` up to s are free.
+    fn lowest(self, from: usize) -> Option<usize>
+        requires { from ≤ self.bitmap.len }
+        ensures { SomeBelow (Lowest self.entry.bitmap.bytes.now self.entry.bitmap.len self.entry.wanted from)
+            self.entry.bitmap.len result }
+    {
+        let len = self.bitmap.len;
+        let mut begin = from;
+        let mut s = from;
+        // The new form is no plainer: each step is computed, and counts no index.
+        while s < len {
+            let w = free_from(self.bitmap, s);
+            let ones = first_ones(w.bits);
+            if self.wanted <= s + ones - begin {
+                return self.within(begin);
             }
-            if ones < w.count {
-                let row = top_row(w.bits, wanted);
-                if row < WORD {
-                    return not_under(low, below, e + row - WORD);
+            if w.count <= ones {
+                s += w.count;
+            } else if w.bits == 0 {
+                s = self.bitmap.next_in(State::Free, s, len);
+                begin = s;
+            } else {
+                if let Some(row) = self.row_in(w.bits) {
+                    return self.within(s + row);
                 }
-                end = e - w.count + ones_from(w.bits, WORD - w.count);
+                s += w.count;
+                begin = s - last_ones(w.bits, w.count);
             }
-            e -= w.count;
         }
+        self.within(begin)
     }
-    if end < wanted {
-        return below;
-    }
-    not_under(low, below, end - wanted)
-}
 
-// A block so much further down, or 0.
-fn down_by(below: usize, step: usize) -> usize
-    ensures { result ≡ below - step }
-{
-    if below < step {
-        return 0;
+    // Where a run that begins below a block ends at most.
+    fn furthest(self, below: usize) -> usize
+        requires { below ≤ self.bitmap.len }
+        ensures { (result ≤ self.entry.bitmap.len) × (below ≤ result) × (result < below + self.entry.wanted)
+            × ((g : ℕ) → g < below → g + self.entry.wanted ≤ self.entry.bitmap.len → g + self.entry.wanted ≤ result) }
+    {
+        self.bitmap.len.min(below + self.wanted - 1)
     }
-    below - step
-}
 
-// Of the run at `up`, the lowest from `near` on, and those that begin below `below`, the first block of the nearest, where
-// none begins from `below` up to `near`.
-fn nearer(b: &[u8], l: usize, wanted: usize, near: usize, below: usize, up: usize) -> usize
-    requires { (192 + l ≤ 8 * length b.now) × (l < 4294967296) × (below ≤ near) × (near ≤ up) × (up < l) × (1 ≤ wanted)
-        × Clear b.now l wanted below near × Lowest b.now l wanted near up }
-    ensures { Nearest b.now l wanted near result }
-{
-    let low = down_by(near, up - near);
-    let down = highest(b, l, wanted, least_usize(low, below), below);
-    if down < below {
-        return down;
-    }
-    up
-}
-
-// The first block of the free run of this length that is nearest to a block, the lower of two at equal distance.
-// It is looked for outward, in steps that grow: no run begins from `below` up to `from`.
-fn search(b: &[u8], l: usize, wanted: usize, near: usize) -> Found
-    requires { (192 + l ≤ 8 * length b.now) × (l < 4294967296) × (near < l) × (1 ≤ wanted) × (wanted < 4294967296) }
-    ensures { result ≡ nearest b.now l wanted near }
-{
-    let mut below = near;
-    let mut from = near;
-    let mut step = FIRST_STEP;
-    while from - below < l {
-        let top = least_usize(l, from + step + wanted);
-        let up = lowest(b, top, wanted, from);
-        if up < top {
-            return Found::At(nearer(b, l, wanted, near, below, up) as u32);
+    // The highest first block of a run from `low` up to `below`. Downward by windows of up to 64 blocks: the blocks from e up
+    // to `end` are free, and a run that is sought ends by `end`.
+    fn highest(self, low: usize, below: usize) -> Option<usize>
+        requires { (low ≤ below) × (below ≤ self.bitmap.len) }
+        ensures { SomeBelow (Highest self.entry.bitmap.bytes.now self.entry.bitmap.len self.entry.wanted low below) below result }
+    {
+        if low == below {
+            return None;
         }
-        let low = down_by(below, step);
-        let down = highest(b, l, wanted, low, below);
-        if down < below {
-            return Found::At(down as u32);
+        let mut end = self.furthest(below);
+        let mut e = end;
+        // The new form is no plainer: each step is computed, and counts no index.
+        while low < e {
+            let w = free_to(self.bitmap, e);
+            if w.bits == 0 {
+                e = self.bitmap.last_in(State::Free, low, e);
+                end = e;
+            } else {
+                let ones = top_ones(w.bits);
+                if self.wanted <= end - e + ones {
+                    return not_under(low, end - self.wanted);
+                }
+                if ones < w.count {
+                    if let Some(row) = self.top_row(w.bits) {
+                        return not_under(low, e + row - WORD);
+                    }
+                    end = e - w.count + ones_from(w.bits, WORD - w.count);
+                }
+                e -= w.count;
+            }
         }
-        below = low;
-        from = least_usize(l, from + step + 1);
-        step = least_usize(STEP_GROWTH * step, MOST_STEP);
+        not_under(low, end.checked_sub(self.wanted)?)
     }
-    Found::Refused(Refusal::NoRun)
+
+    // Of the run at `up`, the lowest from `near` on, and those that begin below `below`, the first block of the nearest, where
+    // none begins from `below` up to `near`.
+    fn nearer(self, near: usize, below: usize, up: usize) -> usize
+        requires { (below ≤ near) × (near ≤ up) × (up < self.bitmap.len)
+            × Clear self.bitmap.bytes.now self.bitmap.len self.wanted below near
+            × Lowest self.bitmap.bytes.now self.bitmap.len self.wanted near up }
+        ensures { Nearest self.entry.bitmap.bytes.now self.entry.bitmap.len self.entry.wanted near result }
+    {
+        let low = near.saturating_sub(up - near);
+        self.highest(low.min(below), below).unwrap_or(up)
+    }
+
+    // The first block of the free run of this length that is nearest to a block, the lower of two at equal distance.
+    // It is looked for outward, in steps that grow: no run begins from `below` up to `from`.
+    fn nearest(self, near: usize) -> Result<u32, Refusal>
+        requires { near < self.bitmap.len }
+        ensures { result ≡ nearest self.entry.bitmap.bytes.now self.entry.bitmap.len self.entry.wanted near }
+    {
+        let len = self.bitmap.len;
+        let mut below = near;
+        let mut from = near;
+        let mut step = FIRST_STEP;
+        // The new form is no plainer: the steps grow on both sides, and count no index.
+        while from - below < len {
+            let top = len.min(from + step + self.wanted);
+            if let Some(up) = self.up_to(top).lowest(from) {
+                return Ok(self.nearer(near, below, up) as u32);
+            }
+            let low = below.saturating_sub(step);
+            if let Some(down) = self.highest(low, below) {
+                return Ok(down as u32);
+            }
+            below = low;
+            from = len.min(from + step + 1);
+            step = MOST_STEP.min(STEP_GROWTH * step);
+        }
+        Err(Refusal::NoRun)
+    }
 }
 
 // The first block of the nearest free run of this length.
-pub fn find(b: &[u8], l: u32, wanted: u32, near: u32) -> Found
+pub fn find(b: &[u8], l: u32, wanted: u32, near: u32) -> Result<u32, Refusal>
     ensures { Finds b.now l wanted near result }
 {
-    if !bitmap::fits(b, l) {
-        return Found::Refused(Refusal::BitmapMalformed);
-    }
+    let bitmap = Bitmap::new(b, l)?;
     if l <= near {
-        return Found::Refused(Refusal::NumberOutside);
+        return Err(Refusal::NumberOutside);
     }
     if wanted == 0 {
-        return Found::Refused(Refusal::WrongRun);
+        return Err(Refusal::WrongRun);
     }
-    search(
-        b,
-        fields::usize_of_u32(l),
-        fields::usize_of_u32(wanted),
-        fields::usize_of_u32(near),
-    )
+    let search = Search {
+        bitmap,
+        wanted: wanted as usize,
+    };
+    search.nearest(near as usize)
 }

@@ -9,19 +9,17 @@ use native.Mathlib.Decide.{ℕ_discrete}
 use lib.Dec.{lit<, eqb, leb}
 use lib.ListN.{length, get_or}
 use Rattle.refusal.specs.Tests.{first, need}
-use Rattle.refusal.specs.declared.Verdict.{Verdict}
-use Rattle.refusal.specs.declared.Verdict.TheVariants.{Go, Stop}
+use Rattle.refusal.specs.Verdict.{Verdict}
+use Rattle.std.specs.Prelude.{Ok, Err}
 use Rattle.refusal.proofs.Laws.{passed}
 use Rattle.fields.specs.Number.{field}
 use Rattle.fields.proofs.Laws.{by-dec, field_next, field-none}
 use Rattle.bitmap.specs.Bits.{bit_at, free_from, all_in}
 use Rattle.bitmap.specs.Formed.{bitmap_fits}
 use Rattle.bitmap.specs.Counted.{counted}
-use Rattle.bitmap.specs.declared.Counted.{Counted}
 use Rattle.fields.proofs.Tests.{both, together, alike, by-test}
 use Rattle.bitmap.proofs.Laws.{Formed, formed, fits-so, room, all_told}
 use Rattle.bitmap_find.specs.Nearest.{run_at, find_tests, found, unless_found, nearest}
-use Rattle.bitmap_find.specs.declared.Found.TheVariants.{At, Refused}
 use Rattle.bitmap_find.proofs.Laws.{run_ends, nearest-told, none_told, nearest-why, told_none, let-pass}
 use Rattle.bitmap_find.proofs.Runs.{run-told, run-free}
 use Rattle.bitmap_written.specs.Changed.{changed}
@@ -82,25 +80,25 @@ untested b c l long e h =
 -- ---- searching
 
 module _ (b : List ℕ) (l w near : ℕ) where
-  searched : first (find_tests b l w near) ≡ Go → found b l w near ≡ nearest b l w near
+  searched : first (find_tests b l w near) ≡ Ok tt → found b l w near ≡ nearest b l w near
   unfolding found
   searched e = ap (λ (v : Verdict). unless_found v (nearest b l w near)) e
 
   -- an answer comes from a search
-  answered : (f : ℕ) → found b l w near ≡ At f → first (find_tests b l w near) ≡ Go
+  answered : (f : ℕ) → found b l w near ≡ Ok f → first (find_tests b l w near) ≡ Ok tt
   unfolding found
   answered f e = go (first (find_tests b l w near)) e
     where
-      go : (v : Verdict) → unless_found v (nearest b l w near) ≡ At f → v ≡ Go
-      go Go q = refl
-      go (Stop why) q = absurd (let z : ◌≡◌ {A = ℕ} 0 1 = cc in omega arith)
+      go : (v : Verdict) → unless_found v (nearest b l w near) ≡ Ok f → v ≡ Ok tt
+      go (Ok _) q = refl
+      go (Err why) q = absurd (let z : ◌≡◌ {A = ℕ} 0 1 = cc in omega arith)
 
 pub complete : Complete
 complete b l w near why e q =
     let t = let-pass b l w near e in
     let n = sym (searched b l w near e) ∙ q in
     let y = nearest-why b l w near why n in
-    (y, none_told b l w near (let z = t.2 in omega (arith, z)) t.1 (n ∙ ap Refused y))
+    (y, none_told b l w near (let z = t.2 in omega (arith, z)) t.1 (n ∙ ap Err y))
 
 pub found-taken : FoundRun
 unfolding run_at run_fits
@@ -116,7 +114,7 @@ found-taken b l w near f q =
 -- ---- counting
 
 -- of a bitmap that line 31 lets pass the free blocks are counted
-counted-go : (b : List ℕ) (l : ℕ) → bitmap_fits b l ≡ true → counted b l ≡ Counted.Free (free_from b 0 l)
+counted-go : (b : List ℕ) (l : ℕ) → bitmap_fits b l ≡ true → counted b l ≡ Ok (free_from b 0 l)
 unfolding counted need
 counted-go b l e = rw e refl
 
@@ -136,7 +134,7 @@ none-counted b l near e =
     let all = counted-go b l t.0 in
     let sought = searched b l 1 near e in (
       λ q.
-          let same : Counted.Free (free_from b 0 l) ≡ Counted.Free 0 = sym all ∙ q in
+          let same : Ok (free_from b 0 l) ≡ Ok 0 = sym all ∙ q in
           let zero-free : free_from b 0 l ≡ 0 = cc in
           sought
           ∙ sym (told_none b l 1 near
@@ -157,7 +155,7 @@ none-counted b l near e =
           (λ z. z)
           (λ z. absurd (false≢true (sym (none i) ∙ run-told b l 1 i (omega (arith, u)) (λ j x y w. z (ap (bit_at b) (omega (arith, x, y)) ∙ w)))))
           (ℕ_discrete (bit_at b i) 0)) in
-          all ∙ ap Counted.Free (omega (arith, zeros)),
+          all ∙ ap Ok (omega (arith, zeros)),
     )
 
 -- ---- taking and giving back
@@ -244,7 +242,7 @@ restored b l f n bytes e =
     let x = after_taking b l f n in
     let some = (both (not (eqb n 0)) _ t.2).0 in
     let leaves = (both (leb (f + n) l) (all_in b 1 f n) (both (not (eqb n 0)) _ t.2).1).0 in
-    let again : give_verdict x l f n ≡ Go = sym (goes_on x l f n 0 m.fits t.1 (together some (together leaves (all_told x 0 f n m.inside)))) in (
+    let again : give_verdict x l f n ≡ (Ok tt) = sym (goes_on x l f n 0 m.fits t.1 (together some (together leaves (all_told x 0 f n m.inside)))) in (
       again,
       run-turned x l f n 0 again
           ∙ ap (λ (y : List ℕ). renewed (changed y f n 1)) (run-turned b l f n 1 e)

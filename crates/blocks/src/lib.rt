@@ -12,9 +12,8 @@ ghost use Rattle.model.specs.Forecast.{Forecasts};
 ghost use Rattle.once_open.specs.Calls.{Measures};
 
 use maps::Kind;
-use model::{Cut, Forecast, Given, Opened, Record, Reply};
-use once_open::Measured;
-use refusal::Verdict;
+use model::{Cut, Forecast, Opened, Record, Reply};
+use refusal::Refusal;
 
 // The bytes of a rewritable volume's map list.
 const REWRITABLE: usize = 64;
@@ -27,23 +26,26 @@ fn is_write_once(maps: &[u8]) -> bool
     if maps.len() != REWRITABLE {
         return true;
     }
-    let read = maps::read_maps(maps);
-    let volume = read.volume;
-    let kind = volume.kind;
-    match kind {
-        Kind::WriteOnce { partition: _ } => true,
-        Kind::Rewritable {
-            partition: _,
-            tables: _,
-            size: _,
-        } => false,
+    let Ok(volume) = maps::read_maps(maps) else {
+        return true;
+    };
+    match volume.kind {
+        Kind::WriteOnce { .. } => true,
+        Kind::Rewritable { .. } => false,
     }
 }
 
 // ---- both kinds
 
 // Opens the volume: finds the table on the disc, and fills the lent one with it.
-pub fn open(disc: &[u8], marks: &[u8], maps: &[u8], s: u32, l: u32, table: &mut [u32]) -> Opened
+pub fn open(
+    disc: &[u8],
+    marks: &[u8],
+    maps: &[u8],
+    s: u32,
+    l: u32,
+    table: &mut [u32],
+) -> Result<Opened, Refusal>
     ensures { Opens (lent disc.now marks.now maps.now s l)
         table.old result table.new }
 {
@@ -64,7 +66,7 @@ pub fn read(
     held: Record,
     v: u32,
     out: &mut [u8],
-) -> Given
+) -> Result<(), Refusal>
     ensures { Reads (lent disc.now marks.now maps.now s l)
         table.now held v out.old result out.new }
 {
@@ -83,7 +85,7 @@ pub fn make(
     s: u32,
     l: u32,
     spares: &[u32],
-) -> Verdict
+) -> Result<(), Refusal>
     ensures { Makes (lent disc.old marks.old maps.now s l)
         spares.now result (disc_of disc.new marks.new) }
 {
@@ -107,7 +109,7 @@ pub fn save_virtual(
     v: u32,
     block: &[u8],
     cut: Cut,
-) -> Reply
+) -> Result<Reply, Refusal>
     ensures { Saves (lent disc.old marks.old maps.now s l)
         table.old held v block.now cut
         result (disc_of disc.new marks.new) table.new }
@@ -125,7 +127,7 @@ pub fn free_virtual(
     table: &mut [u32],
     held: Record,
     v: u32,
-) -> Reply
+) -> Result<Reply, Refusal>
     ensures { Frees (lent disc.now marks.now maps.now s l)
         table.old held v result table.new }
 {
@@ -142,7 +144,7 @@ pub fn commit(
     table: &[u32],
     held: Record,
     cut: Cut,
-) -> Reply
+) -> Result<Reply, Refusal>
     ensures { Commits (lent disc.old marks.old maps.now s l)
         table.now held cut result (disc_of disc.new marks.new) }
 {
@@ -158,7 +160,7 @@ pub fn fullness(
     l: u32,
     table: &[u32],
     held: Record,
-) -> Measured
+) -> Result<u32, Refusal>
     ensures { Measures (lent disc.now marks.now maps.now s l)
         table.now held result }
 {
@@ -175,7 +177,7 @@ pub fn forecast(
     table: &[u32],
     held: Record,
     items: &[u32],
-) -> Forecast
+) -> Result<Forecast, Refusal>
     ensures { Forecasts (lent disc.now marks.now maps.now s l)
         table.now held items.now result }
 {
@@ -196,7 +198,7 @@ pub fn save_block(
     b: u32,
     block: &[u8],
     cut: Cut,
-) -> Reply
+) -> Result<Reply, Refusal>
     ensures { SavesBlock (lent disc.old marks.old maps.now s l)
         table.now held b block.now cut result (disc_of disc.new marks.new) }
 {
@@ -215,7 +217,7 @@ pub fn save_packet(
     b: u32,
     packet: &[u8],
     cut: Cut,
-) -> Reply
+) -> Result<Reply, Refusal>
     ensures { SavesPacket (lent disc.old marks.old maps.now s l)
         table.now held b packet.now cut result (disc_of disc.new marks.new) }
 {
@@ -234,7 +236,7 @@ pub fn spare_packet(
     b: u32,
     packet: &[u8],
     cut: Cut,
-) -> Reply
+) -> Result<Reply, Refusal>
     ensures { Spares (lent disc.old marks.old maps.now s l)
         table.old held b packet.now cut
         result (disc_of disc.new marks.new) table.new }

@@ -1,12 +1,11 @@
 -- What C sees of the calls that are lent no disc: a map list read and written (document 01, "The disc and its addresses"), and an entry looked up
 -- in a VAT file ("The plain store", its last paragraph). A result of another length than stated belongs to line 3.
-use Rattle.std.specs.Prelude.{ℕ, cond, List, [], ◌∷◌, length, replicate, eqb, leb}
+use Rattle.std.specs.Prelude.{ℕ, cond, List, [], ◌∷◌, length, replicate, eqb, leb, Ok, Err, Result}
 use Rattle.refusal.specs.declared.Refusal.TheVariants.{LentLength, NeitherKind}
-use Rattle.refusal.specs.declared.Verdict.{Verdict}
-use Rattle.refusal.specs.declared.Verdict.TheVariants.{Go, Stop}
+use Rattle.refusal.specs.Verdict.{Verdict, verdict_of}
 use Rattle.refusal.specs.Tests.{test, first, and_then}
-use Rattle.address.specs.declared.ToLogical.{ToLogical}
-use Rattle.address.specs.Told.{logical_values}
+use Rattle.address.specs.declared.LogicalAddress.{LogicalAddress}
+use Rattle.refusal.specs.declared.Refusal.{Refusal}
 use Rattle.maps.specs.declared.Kind.TheVariants.{WriteOnce, Rewritable}
 use Rattle.maps.specs.declared.Volume.{Volume}
 use Rattle.maps.specs.Kinds.{read_maps, volume_with}
@@ -18,12 +17,12 @@ use Rattle.vat_look_up.specs.File.{looked_up}
 
 -- lines 3 to 6 of reading the map list m into the lent result
 unfoldable pub maps_verdict : List ℕ → List ℕ → Verdict
-maps_verdict m result = and_then (first (test (eqb (length result) 8) LentLength ∷ [])) (read_maps m).verdict
+maps_verdict m result = and_then (first (test (eqb (length result) 8) LentLength ∷ [])) (verdict_of (read_maps m))
 
 -- the lent result after a verdict
 abbrev pub volume_after : Verdict → Volume → List ℕ → List ℕ
-volume_after Go v result = volume_numbers v
-volume_after (Stop why) v result = result
+volume_after (Ok _) v result = volume_numbers v
+volume_after (Err why) v result = result
 
 -- ---- a map list written
 
@@ -38,15 +37,15 @@ volume_for kind p size tables =
 -- lines 3, 5 and 6 of writing it: a kind above 1 is neither, whatever the lent length
 unfoldable pub lent_verdict : ℕ → ℕ → ℕ → List ℕ → List ℕ → Verdict
 lent_verdict kind p size tables out =
-    cond (leb kind 1) (write_verdict (volume_for kind p size tables) out) (Stop NeitherKind)
+    cond (leb kind 1) (write_verdict (volume_for kind p size tables) out) (Err NeitherKind)
 
 -- ---- an entry looked up: one number
 
 -- the lent result after it
-abbrev pub logical_after : ToLogical → List ℕ → List ℕ
-logical_after (ToLogical.At b) result = logical_values (ToLogical.At b)
-logical_after (ToLogical.Refused why) result = result
+abbrev pub logical_after : Result LogicalAddress Refusal → List ℕ → List ℕ
+logical_after (Ok b) result = b.0 ∷ []
+logical_after (Err why) result = result
 
 -- what is answered for virtual v in the file f that is lent the result
-unfoldable pub lent_look_up : List ℕ → ℕ → List ℕ → ToLogical
-lent_look_up f v result = cond (eqb (length result) 1) (looked_up f (record { 0 = v })) (ToLogical.Refused LentLength)
+unfoldable pub lent_look_up : List ℕ → ℕ → List ℕ → Result LogicalAddress Refusal
+lent_look_up f v result = cond (eqb (length result) 1) (looked_up f (record { 0 = v })) (Err LentLength)

@@ -5,17 +5,16 @@
 #![tactic(auto)]
 
 ghost use Rattle.std.specs.Prelude.{◌≡◌, cond, List, ℕ, length, get_or, ltb};
-ghost use Rattle.refusal.specs.Number.{verdict_number};
-ghost use Rattle.address.specs.Told.{logical_number};
-ghost use Rattle.maps.specs.Kinds.{read_maps};
+ghost use Rattle.refusal.specs.Number.{answer_number};
+ghost use Rattle.maps.specs.Kinds.{read_maps, volume_read};
 ghost use Rattle.maps.specs.Numbers.{volume_numbers};
 ghost use Rattle.maps_written.specs.Writing.{written_or};
 ghost use Rattle.call_lists.specs.Lists.{maps_verdict, volume_after, volume_for, lent_verdict, lent_look_up, logical_after};
 
-use address::{Span, ToLogical, VirtualAddress};
+use address::{Span, VirtualAddress};
 use maps::{Kind, Volume};
 use model::DONE;
-use refusal::{Refusal, Verdict};
+use refusal::Refusal;
 
 // The lengths of the lent results: of a map list, and of look-up and fullness.
 const VOLUME: usize = 8;
@@ -33,13 +32,8 @@ fn put_volume(res: &mut [u32], volume: Volume)
     requires { length res.old ≡ 8 }
     ensures { res.new ≡ volume_numbers volume }
 {
-    let tables = volume.tables;
-    res[4] = tables[0];
-    res[5] = tables[1];
-    res[6] = tables[2];
-    res[7] = tables[3];
-    let kind = volume.kind;
-    match kind {
+    res[4..].copy_from_slice(&volume.tables);
+    match volume.kind {
         Kind::WriteOnce { partition } => {
             res[0] = call_numbers::WRITE_ONCE;
             res[1] = partition as u32;
@@ -61,22 +55,19 @@ fn put_volume(res: &mut [u32], volume: Volume)
 
 // Reads a map list.
 pub fn read_maps(maps: &[u8], res: &mut [u32]) -> u32
-    ensures value { result ≡ verdict_number (maps_verdict maps.now res.old) }
+    ensures value { result ≡ answer_number (maps_verdict maps.now res.old) }
     ensures res_after { res.new ≡ volume_after (maps_verdict maps.now res.old)
-        (read_maps maps.now).volume res.old }
+        (volume_read (read_maps maps.now)) res.old }
 {
     if res.len() != VOLUME {
-        return refusal::number(Refusal::LentLength);
+        return u32::from(Refusal::LentLength);
     }
-    let read = maps::read_maps(maps);
-    let verdict = read.verdict;
-    match verdict {
-        Verdict::Go => {
-            let volume = read.volume;
+    match maps::read_maps(maps) {
+        Ok(volume) => {
             put_volume(res, volume);
             DONE
         }
-        Verdict::Stop(why) => refusal::number(why),
+        Err(why) => u32::from(why),
     }
 }
 
@@ -86,10 +77,7 @@ pub fn read_maps(maps: &[u8], res: &mut [u32]) -> u32
 fn number_at(tables: &[u32], i: usize) -> u32
     ensures { result ≡ get_or tables.now i 0 }
 {
-    if i < tables.len() {
-        return tables[i];
-    }
-    0
+    tables.get(i).copied().unwrap_or(0)
 }
 
 // The number of tables, all those that are too many being alike.
@@ -105,7 +93,7 @@ fn table_count(tables: &[u32]) -> u8
 
 // Writes the map list of a rewritable volume.
 fn write_rewritable(partition: u16, size: u32, tables: &[u32], out: &mut [u8]) -> u32
-    ensures value { result ≡ verdict_number (lent_verdict 1 partition size tables.now out.old) }
+    ensures value { result ≡ answer_number (lent_verdict 1 partition size tables.now out.old) }
     ensures out_after { out.new ≡ written_or (lent_verdict 1 partition size tables.now out.old)
         (volume_for 1 partition size tables.now) out.old }
 {
@@ -126,12 +114,12 @@ fn write_rewritable(partition: u16, size: u32, tables: &[u32], out: &mut [u8]) -
         },
         tables: [a, b, c, d],
     };
-    call_numbers::number_of_verdict(maps_written::write_maps(volume, out))
+    call_numbers::number_of(&maps_written::write_maps(volume, out))
 }
 
 // Writes the map list of a write-once volume.
 fn write_once_maps(partition: u16, out: &mut [u8]) -> u32
-    ensures by_index { (size : ℕ) (tables : List ℕ) → result ≡ verdict_number (lent_verdict 0 partition size tables out.old) }
+    ensures by_index { (size : ℕ) (tables : List ℕ) → result ≡ answer_number (lent_verdict 0 partition size tables out.old) }
     ensures by_index_2 { (size : ℕ) (tables : List ℕ) → out.new
         ≡ written_or (lent_verdict 0 partition size tables out.old) (volume_for 0 partition size tables) out.old }
 {
@@ -143,40 +131,38 @@ fn write_once_maps(partition: u16, out: &mut [u8]) -> u32
         kind: Kind::WriteOnce { partition },
         tables: [0; 4],
     };
-    call_numbers::number_of_verdict(maps_written::write_maps(volume, out))
+    call_numbers::number_of(&maps_written::write_maps(volume, out))
 }
 
 // Writes a map list.
+// The C interface needs the number of a kind (`tuormik_write_maps`).
 pub fn write_maps(kind: u32, partition: u16, size: u32, tables: &[u32], out: &mut [u8]) -> u32
-    ensures value { result ≡ verdict_number (lent_verdict kind partition size tables.now out.old) }
+    ensures value { result ≡ answer_number (lent_verdict kind partition size tables.now out.old) }
     ensures out_after { out.new ≡ written_or (lent_verdict kind partition size tables.now out.old)
         (volume_for kind partition size tables.now) out.old }
 {
-    if kind == call_numbers::WRITE_ONCE {
-        return write_once_maps(partition, out);
+    match kind {
+        call_numbers::WRITE_ONCE => write_once_maps(partition, out),
+        call_numbers::REWRITABLE => write_rewritable(partition, size, tables, out),
+        _ => u32::from(Refusal::NeitherKind),
     }
-    if kind == call_numbers::REWRITABLE {
-        return write_rewritable(partition, size, tables, out);
-    }
-    refusal::number(Refusal::NeitherKind)
 }
 
 // ---- an entry looked up
 
 // Looks up virtual block v in the bytes of a VAT file.
 pub fn look_up(file: &[u8], v: u32, res: &mut [u32]) -> u32
-    ensures value { result ≡ logical_number (lent_look_up file.now v res.old) }
+    ensures value { result ≡ answer_number (lent_look_up file.now v res.old) }
     ensures res_after { res.new ≡ logical_after (lent_look_up file.now v res.old) res.old }
 {
     if res.len() != ONE {
-        return refusal::number(Refusal::LentLength);
+        return u32::from(Refusal::LentLength);
     }
-    let found = vat_look_up::look_up(file, VirtualAddress(v));
-    match found {
-        ToLogical::At(b) => {
+    match vat_look_up::look_up(file, VirtualAddress(v)) {
+        Ok(b) => {
             res[0] = b.0;
             DONE
         }
-        ToLogical::Refused(why) => refusal::number(why),
+        Err(why) => u32::from(why),
     }
 }

@@ -8,8 +8,8 @@ use borrow.Author.Tests.{ne_eqb}
 use lib.ListN.{length, get_or, set}
 use Rattle.refusal.specs.declared.Refusal.{Refusal}
 use Rattle.refusal.specs.declared.Refusal.TheVariants.{DiscShape, SpanOutside, LentLength}
-use Rattle.refusal.specs.declared.Verdict.{Verdict}
-use Rattle.refusal.specs.declared.Verdict.TheVariants.{Go}
+use Rattle.refusal.specs.Verdict.{Verdict, verdict_of}
+use Rattle.std.specs.Prelude.{Ok, Err, Result}
 use Rattle.refusal.specs.Tests.{need, first, and_then}
 use Rattle.refusal.specs.Number.{number_of}
 use Rattle.model.specs.declared.Record.{Record}
@@ -19,7 +19,7 @@ use Rattle.model.specs.Told.{forecast_number}
 use Rattle.model.specs.Examine.{Setting, shape_tests, examined}
 use Rattle.model.specs.Once.{held_fits}
 use Rattle.model.specs.Rewrite.{held_current}
-use Rattle.examine.specs.declared.Examined.{Examined}
+use Rattle.maps.specs.declared.Volume.{Volume}
 use Rattle.examine.specs.Ground.{examined_of}
 use Rattle.examine.proofs.Laws.{seen-verdict, held-last}
 use Rattle.call_numbers.specs.Numbers.{neither, record_of, numbers_of, forecast_after, reason, length_refusal}
@@ -62,20 +62,20 @@ three-set (v ∷ w ∷ x ∷ []) a b c h = refl
 three-set (v ∷ w ∷ x ∷ y ∷ k) a b c h = absurd (omega arith)
 
 -- what is told of a forecast that is lent the result k: the number that is returned, and the result
-module _ (k : List ℕ) (f : Forecast) where
+module _ (k : List ℕ) (f : Result Forecast Refusal) where
   abbrev Tells : ℕ → List ℕ → Type 0
   Tells n out = (n ≡ forecast_number f) × (out ≡ forecast_after f k)
 
   -- its end
-  pub tells-end : {next n : ℕ} {out : List ℕ} → f ≡ Forecast.Ends next n → out ≡ 0 ∷ next ∷ n ∷ [] → Tells 0 out
+  pub tells-end : {next n : ℕ} {out : List ℕ} → f ≡ Ok (Forecast.Ends next n) → out ≡ 0 ∷ next ∷ n ∷ [] → Tells 0 out
   tells-end is q = rw is (refl, q)
 
   -- an item that is refused
-  pub tells-stop : {i m : ℕ} {why : Refusal} {out : List ℕ} → f ≡ Forecast.Stops i why → m ≡ number_of why → out ≡ m ∷ i ∷ 0 ∷ [] → Tells 0 out
+  pub tells-stop : {i m : ℕ} {why : Refusal} {out : List ℕ} → f ≡ Ok (Forecast.Stops i why) → m ≡ number_of why → out ≡ m ∷ i ∷ 0 ∷ [] → Tells 0 out
   tells-stop {i} is hm q = rw is (refl, q ∙ ap (λ (n : ℕ). n ∷ i ∷ 0 ∷ []) hm)
 
   -- its refusal
-  pub tells-refusal : {why : Refusal} {n : ℕ} → f ≡ Forecast.Refused why → n ≡ number_of why → Tells n k
+  pub tells-refusal : {why : Refusal} {n : ℕ} → f ≡ Err why → n ≡ number_of why → Tells n k
   tells-refusal is hn = rw is (hn, refl)
 
 -- ---- a kind above 1
@@ -98,19 +98,19 @@ module _ (e : Setting) (d : Disc) (t : List ℕ) where
 -- ---- lines 1 to 3
 
 -- where line 3 stops a call no later line is asked
-third-stops : (a b : Bool) (v : Verdict) → and_then (need a DiscShape (need b SpanOutside (need false LentLength Go))) v ≡ need a DiscShape (need b SpanOutside (need false LentLength Go))
+third-stops : (a b : Bool) (v : Verdict) → and_then (need a DiscShape (need b SpanOutside (need false LentLength (Ok tt)))) v ≡ need a DiscShape (need b SpanOutside (need false LentLength (Ok tt)))
 unfolding need
 third-stops false b v = refl
 third-stops true false v = refl
 third-stops true true v = refl
 
-module _ (e : Setting) (d : Disc) {r : Examined} (q : r ≡ examined_of e d false) where
+module _ (e : Setting) (d : Disc) {r : Result Volume Refusal} (q : r ≡ examined_of e d false) where
   -- the verdict of an examination with a wrong length
-  short-verdict : first (shape_tests e d false) ≡ r.verdict
+  short-verdict : first (shape_tests e d false) ≡ verdict_of r
   unfolding examined shape_tests
   short-verdict = sym (third-stops (shapely d) (inside d e.start e.span) _) ∙ seen-verdict e d false q
 
   -- its reason
-  pub short-reason : {v : Verdict} → r.verdict ≡ v → reason v ≡ length_refusal e d
+  pub short-reason : {v : Verdict} → verdict_of r ≡ v → reason v ≡ length_refusal e d
   unfolding length_refusal
   short-reason h = ap reason (sym (short-verdict ∙ h))

@@ -1,10 +1,9 @@
 -- A record, a cut, an answer and a forecast as the numbers that C lends and is given (document 01, "Calls and their sector writes"; "Why a call is
 -- turned down").
-use Rattle.std.specs.Prelude.{ℕ, false, cond, List, [], ◌∷◌, ◌++◌, get_or, eqb}
+use Rattle.std.specs.Prelude.{ℕ, false, cond, List, [], ◌∷◌, ◌++◌, get_or, eqb, Ok, Err, Result}
 use Rattle.refusal.specs.declared.Refusal.{Refusal}
 use Rattle.refusal.specs.declared.Refusal.TheVariants.{LentLength}
-use Rattle.refusal.specs.declared.Verdict.{Verdict}
-use Rattle.refusal.specs.declared.Verdict.TheVariants.{Go, Stop}
+use Rattle.refusal.specs.Verdict.{Verdict}
 use Rattle.refusal.specs.Tests.{first}
 use Rattle.model.specs.declared.Effect.{Effect}
 use Rattle.model.specs.declared.Cut.{Cut}
@@ -44,30 +43,30 @@ abbrev pub numbers_of : Record → ℕ → List ℕ
 numbers_of r passed = record_values r ++ (passed ∷ [])
 
 -- the lent numbers after a writing call's reply: passed over is kept, and a cut or a refusal leaves them as they came
-abbrev pub record_after : Reply → List ℕ → List ℕ
-record_after (Reply.Done r) k = reply_values (Reply.Done r) ++ (get_or k 4 0 ∷ [])
-record_after Reply.Cut k = k
-record_after (Reply.Refused why) k = k
+abbrev pub record_after : Result Reply Refusal → List ℕ → List ℕ
+record_after (Ok (Reply.Done r)) k = reply_values (Ok (Reply.Done r)) ++ (get_or k 4 0 ∷ [])
+record_after (Ok Reply.Cut) k = k
+record_after (Err why) k = k
 
 -- the lent numbers after an opening, which sets passed over
-abbrev pub record_opened : Opened → List ℕ → List ℕ
-record_opened (Opened.Open r n) k = opened_values (Opened.Open r n)
-record_opened (Opened.Refused why) k = k
+abbrev pub record_opened : Result Opened Refusal → List ℕ → List ℕ
+record_opened (Ok o) k = opened_values (Ok o)
+record_opened (Err why) k = k
 
 -- ---- a forecast: 0, NWA and N at the end; or the number of the refused item, its index and 0
 
 -- the lent result after it; a refusal leaves it as it came
-abbrev pub forecast_after : Forecast → List ℕ → List ℕ
-forecast_after (Forecast.Ends next n) result = forecast_values (Forecast.Ends next n)
-forecast_after (Forecast.Stops i why) result = forecast_values (Forecast.Stops i why)
-forecast_after (Forecast.Refused why) result = result
+abbrev pub forecast_after : Result Forecast Refusal → List ℕ → List ℕ
+forecast_after (Ok (Forecast.Ends next n)) result = forecast_values (Ok (Forecast.Ends next n))
+forecast_after (Ok (Forecast.Stops i why)) result = forecast_values (Ok (Forecast.Stops i why))
+forecast_after (Err why) result = result
 
 -- ---- lines 1 to 3 of a call on a disc that is lent a record or a result of another length than stated
 
 -- the reason of a verdict
 abbrev pub reason : Verdict → Refusal
-reason Go = LentLength
-reason (Stop why) = why
+reason (Ok _) = LentLength
+reason (Err why) = why
 
 -- the first of lines 1 to 3, of which the last one applies
 unfoldable pub length_refusal : Setting → Disc → Refusal

@@ -4,14 +4,14 @@
 #![tactic(auto)]
 
 ghost use Rattle.std.specs.Prelude.{◌≡◌, [], ◌∷◌, length};
-ghost use Rattle.refusal.specs.Number.{number_of, verdict_number};
+ghost use Rattle.refusal.specs.Number.{number_of, answer_number};
 ghost use Rattle.model.specs.Disc.{disc as disc_of};
 ghost use Rattle.model.specs.Examine.{setting};
-ghost use Rattle.model.specs.Told.{reply_number, opened_number, given_number, forecast_number};
+ghost use Rattle.model.specs.Told.{reply_number, forecast_number};
 ghost use Rattle.call_numbers.specs.Numbers.{effect_of, cut_of, record_of, numbers_of, record_after, record_opened, forecast_after, length_refusal};
 
-use model::{CUT, Cut, DONE, Effect, Forecast, Given, Opened, Record, Reply};
-use refusal::{Refusal, Verdict};
+use model::{CUT, Cut, DONE, Effect, Forecast, Opened, Record, Reply};
+use refusal::Refusal;
 
 // The numbers of a record, and the place of each.
 pub const RECORD: usize = 5;
@@ -45,13 +45,11 @@ const UNREADABLE: u32 = 1;
 fn effect_of(x: u32) -> Effect
     ensures { result ≡ effect_of x }
 {
-    if x == OLD {
-        return Effect::Old;
+    match x {
+        OLD => Effect::Old,
+        UNREADABLE => Effect::Unreadable,
+        _ => Effect::Whole,
     }
-    if x == UNREADABLE {
-        return Effect::Unreadable;
-    }
-    Effect::Whole
 }
 
 // The cut at a write.
@@ -66,47 +64,24 @@ pub fn cut_of(at: u32, x: u32) -> Cut
 
 // ---- what a call returns
 
-// The number of a verdict.
-pub fn number_of_verdict(v: Verdict) -> u32
-    ensures { result ≡ verdict_number v }
+// The number of an answer that has no number of its own: an opening's, a reading's, a making's.
+pub fn number_of<T>(answer: &Result<T, Refusal>) -> u32
+    ensures { result ≡ answer_number answer.now }
 {
-    match v {
-        Verdict::Go => DONE,
-        Verdict::Stop(why) => refusal::number(why),
+    match answer {
+        Ok(_) => DONE,
+        Err(why) => u32::from(*why),
     }
 }
 
 // The number of a writing call's reply.
-pub fn number_of_reply(r: Reply) -> u32
+pub fn number_of_reply(r: Result<Reply, Refusal>) -> u32
     ensures { result ≡ reply_number r }
 {
     match r {
-        Reply::Done(_) => DONE,
-        Reply::Cut => CUT,
-        Reply::Refused(why) => refusal::number(why),
-    }
-}
-
-// The number of an opening's answer.
-pub fn number_of_opened(o: Opened) -> u32
-    ensures { result ≡ opened_number o }
-{
-    match o {
-        Opened::Open {
-            handed: _,
-            passed: _,
-        } => DONE,
-        Opened::Refused(why) => refusal::number(why),
-    }
-}
-
-// The number of a reading's answer.
-pub fn number_of_given(g: Given) -> u32
-    ensures { result ≡ given_number g }
-{
-    match g {
-        Given::Block => DONE,
-        Given::Refused(why) => refusal::number(why),
+        Ok(Reply::Done(_)) => DONE,
+        Ok(Reply::Cut) => CUT,
+        Err(why) => u32::from(why),
     }
 }
 
@@ -118,23 +93,21 @@ pub fn read_record(kept: &[u32]) -> Record
     ensures { result ≡ record_of kept.now }
 {
     let kind = kept[KIND_AT];
-    if kind == WRITE_ONCE {
-        return Record::WriteOnce {
+    match kind {
+        WRITE_ONCE => Record::WriteOnce {
             entries: kept[COUNT_AT],
             next: kept[NEXT_AT],
             last: kept[LAST_AT],
-        };
-    }
-    if kind == REWRITABLE {
-        return Record::Rewritable {
+        },
+        REWRITABLE => Record::Rewritable {
             entries: kept[COUNT_AT],
             sequence: kept[NEXT_AT],
-        };
-    }
-    Record::WriteOnce {
-        entries: 0,
-        next: 0,
-        last: 0,
+        },
+        _ => Record::WriteOnce {
+            entries: 0,
+            next: 0,
+            last: 0,
+        },
     }
 }
 
@@ -165,30 +138,27 @@ pub fn put_record(kept: &mut [u32], held: Record, passed: u32)
 }
 
 // What a writing call leaves in them.
-pub fn keep_record(kept: &mut [u32], r: Reply)
+pub fn keep_record(kept: &mut [u32], r: Result<Reply, Refusal>)
     requires { length kept.old ≡ 5 }
     ensures { kept.new ≡ record_after r kept.old }
 {
     match r {
-        Reply::Done(held) => {
+        Ok(Reply::Done(held)) => {
             let passed = kept[PASSED_AT];
             put_record(kept, held, passed);
         }
-        Reply::Cut => {}
-        Reply::Refused(_) => {}
+        Ok(Reply::Cut) => {}
+        Err(_) => {}
     }
 }
 
 // What an opening leaves in them.
-pub fn keep_opened(kept: &mut [u32], o: Opened)
+pub fn keep_opened(kept: &mut [u32], o: Result<Opened, Refusal>)
     requires { length kept.old ≡ 5 }
     ensures { kept.new ≡ record_opened o kept.old }
 {
-    match o {
-        Opened::Open { handed, passed } => {
-            put_record(kept, handed, passed);
-        }
-        Opened::Refused(_) => {}
+    if let Ok(Opened { handed, passed }) = o {
+        put_record(kept, handed, passed);
     }
 }
 
@@ -205,41 +175,32 @@ fn put_three(res: &mut [u32], a: u32, b: u32, c: u32)
 }
 
 // What a forecast leaves there, and the number that is returned.
-pub fn tell_forecast(res: &mut [u32], f: Forecast) -> u32
+pub fn tell_forecast(res: &mut [u32], f: Result<Forecast, Refusal>) -> u32
     requires { length res.old ≡ 3 }
     ensures value { result ≡ forecast_number f }
     ensures res_after { res.new ≡ forecast_after f res.old }
 {
     match f {
-        Forecast::Ends { next, entries } => {
+        Ok(Forecast::Ends { next, entries }) => {
             put_three(res, DONE, next, entries);
             DONE
         }
-        Forecast::Stops { index, why } => {
-            put_three(res, refusal::number(why), index, 0);
+        Ok(Forecast::Stops { index, why }) => {
+            put_three(res, u32::from(why), index, 0);
             DONE
         }
-        Forecast::Refused(why) => refusal::number(why),
+        Err(why) => u32::from(why),
     }
 }
 
 // ---- lines 1 to 3
 
-// Why a call on a disc is turned down that is lent a record or a result of another length than stated.
-fn refuse_lengths(disc: &[u8], marks: &[u8], maps: &[u8], s: u32, l: u32) -> Refusal
-    ensures { result ≡ length_refusal (setting maps.now s l) (disc_of disc.now marks.now) }
-{
-    let seen = examine::examine(disc, marks, maps, s, l, false);
-    let verdict = seen.verdict;
-    match verdict {
-        Verdict::Go => Refusal::LentLength,
-        Verdict::Stop(why) => why,
-    }
-}
-
-// Its number.
+// The number of why a call on a disc is turned down that is lent a record or a result of another length than stated.
 pub fn number_of_lengths(disc: &[u8], marks: &[u8], maps: &[u8], s: u32, l: u32) -> u32
     ensures { result ≡ number_of (length_refusal (setting maps.now s l) (disc_of disc.now marks.now)) }
 {
-    refusal::number(refuse_lengths(disc, marks, maps, s, l))
+    match examine::examine(disc, marks, maps, s, l, false) {
+        Ok(_) => u32::from(Refusal::LentLength),
+        Err(why) => u32::from(why),
+    }
 }

@@ -5,21 +5,21 @@ use mathlib.Core.List.{List}
 use borrow.Author.Tests.{eq-eqb, ne_eqb}
 use lib.ListN.{length, set}
 use Rattle.refusal.specs.declared.Refusal.{Refusal}
-use Rattle.refusal.specs.Number.{number_of}
+use Rattle.refusal.specs.Number.{number_of, answer_number}
 use Rattle.model.specs.declared.Cut.{Cut}
 use Rattle.model.specs.declared.Record.{Record}
 use Rattle.model.specs.declared.Reply.{Reply}
+use Rattle.std.specs.Prelude.{Result, Ok, Err}
 use Rattle.model.specs.declared.Opened.{Opened}
-use Rattle.model.specs.declared.Given.{Given}
+use Rattle.refusal.specs.Verdict.{Verdict}
 use Rattle.model.specs.declared.Forecast.{Forecast}
 use Rattle.model.specs.Disc.{Disc}
 use Rattle.model.specs.Examine.{Setting}
 use Rattle.model.specs.Plan.{Plan, refuse, reply_of, disc_after, table_after, Meets}
 use Rattle.model.specs.Both.{opening, opened_table, reading, read_bytes}
 use Rattle.model.specs.Forecast.{forecast}
-use Rattle.once_open.specs.declared.Measured.{Measured}
-use Rattle.once_open.specs.Calls.{fullness_of, measured_number}
-use Rattle.model.specs.Told.{reply_number, opened_number, given_number, forecast_number}
+use Rattle.once_open.specs.Calls.{fullness_of}
+use Rattle.model.specs.Told.{reply_number, forecast_number}
 use Rattle.call_numbers.specs.Numbers.{record_of, record_after, record_opened, forecast_after, length_refusal}
 use Rattle.call_lists.proofs.Listing.{one_set}
 use Rattle.capi.specs.Calls.{lent_plan, SeenWrite, lent_opening, lent_opened_table, lent_reading, lent_read_bytes, both_lent, lent_fullness, measured_after, lent_forecast}
@@ -43,7 +43,7 @@ module _ (e : Setting) (d : Disc) (k : List ℕ) (p : Plan) where
   seen-short c t h q = let s = plan-short h in rw s (record { number = q; disc = refl; table = refl; kept = refl })
 
   -- what is seen of a call that meets its plan
-  pub seen-met : {c b : Cut} {t : List ℕ} {q : Plan} {r : Reply} {d' : Disc} {t' k' : List ℕ} {n : ℕ} → length k ≡ 5 → q ≡ p → b ≡ c → Meets q b d t r d' t' → k' ≡ record_after r k → n ≡ reply_number r → SeenWrite (lent_plan e d k p) c d t k n d' t' k'
+  pub seen-met : {c b : Cut} {t : List ℕ} {q : Plan} {r : Result Reply Refusal} {d' : Disc} {t' k' : List ℕ} {n : ℕ} → length k ≡ 5 → q ≡ p → b ≡ c → Meets q b d t r d' t' → k' ≡ record_after r k → n ≡ reply_number r → SeenWrite (lent_plan e d k p) c d t k n d' t' k'
   seen-met h qp bc m hk hn =
       let s = plan-five h in
       rw (s, ← qp, ← bc)
@@ -51,7 +51,7 @@ module _ (e : Setting) (d : Disc) (k : List ℕ) (p : Plan) where
         number = hn ∙ ap reply_number m.reply;
         disc = m.disc;
         table = m.table;
-        kept = hk ∙ ap (λ (x : Reply). record_after x k) m.reply;
+        kept = hk ∙ ap (λ (x : Result Reply Refusal). record_after x k) m.reply;
       }
 
 -- ---- opening
@@ -59,7 +59,7 @@ module _ (e : Setting) (d : Disc) (k : List ℕ) (p : Plan) where
 module _ (e : Setting) (d : Disc) (t k : List ℕ) where
   -- what is seen of it: the number that is returned, the table and the record
   abbrev Opens : ℕ → List ℕ → List ℕ → Type 0
-  Opens n t' k' = (n ≡ opened_number (lent_opening e d t k)) × ((t' ≡ lent_opened_table e d t k) × (k' ≡ record_opened (lent_opening e d t k) k))
+  Opens n t' k' = (n ≡ answer_number (lent_opening e d t k)) × ((t' ≡ lent_opened_table e d t k) × (k' ≡ record_opened (lent_opening e d t k) k))
 
   -- a record of another length
   pub open-short : {n : ℕ} → (length k ≡ 5 → ⊥) → n ≡ number_of (length_refusal e d) → Opens n t k
@@ -67,18 +67,18 @@ module _ (e : Setting) (d : Disc) (t k : List ℕ) where
   open-short h q = let a = ne_eqb (length k) 5 h in rw a (q, (refl, refl))
 
   -- one of five numbers
-  pub open-five : {o : Opened} {n : ℕ} {t' k' : List ℕ} → length k ≡ 5 → o ≡ opening e d t → t' ≡ opened_table e d t → k' ≡ record_opened o k → n ≡ opened_number o → Opens n t' k'
+  pub open-five : {o : Result Opened Refusal} {n : ℕ} {t' k' : List ℕ} → length k ≡ 5 → o ≡ opening e d t → t' ≡ opened_table e d t → k' ≡ record_opened o k → n ≡ answer_number o → Opens n t' k'
   unfolding lent_opening lent_opened_table
   open-five h q ht hk hn =
       let a = eq-eqb (length k) 5 h in
-      rw a (hn ∙ ap opened_number q, (ht, hk ∙ ap (λ (x : Opened). record_opened x k) q))
+      rw a (hn ∙ ap answer_number q, (ht, hk ∙ ap (λ (x : Result Opened Refusal). record_opened x k) q))
 
 -- ---- reading
 
 module _ (e : Setting) (d : Disc) (t k : List ℕ) (v : ℕ) (out : List ℕ) where
   -- what is seen of it: the number that is returned and the lent bytes
   abbrev Reads : ℕ → List ℕ → Type 0
-  Reads n out' = (n ≡ given_number (lent_reading e d t k v out)) × (out' ≡ lent_read_bytes e d t k v out)
+  Reads n out' = (n ≡ answer_number (lent_reading e d t k v out)) × (out' ≡ lent_read_bytes e d t k v out)
 
   -- a record of another length
   pub read_short : {n : ℕ} → (length k ≡ 5 → ⊥) → n ≡ number_of (length_refusal e d) → Reads n out
@@ -86,11 +86,11 @@ module _ (e : Setting) (d : Disc) (t k : List ℕ) (v : ℕ) (out : List ℕ) wh
   read_short h q = let a = ne_eqb (length k) 5 h in rw a (q, refl)
 
   -- one of five numbers
-  pub read-five : {held : Record} {g : Given} {n : ℕ} {out' : List ℕ} → length k ≡ 5 → held ≡ record_of k → g ≡ reading e d t held v out → out' ≡ read_bytes e d t held v out → n ≡ given_number g → Reads n out'
+  pub read-five : {held : Record} {g : Verdict} {n : ℕ} {out' : List ℕ} → length k ≡ 5 → held ≡ record_of k → g ≡ reading e d t held v out → out' ≡ read_bytes e d t held v out → n ≡ answer_number g → Reads n out'
   unfolding lent_reading lent_read_bytes
   read-five h w q ho hn =
       let a = eq-eqb (length k) 5 h in
-      rw (a, ← w) (hn ∙ ap given_number q, ho)
+      rw (a, ← w) (hn ∙ ap answer_number q, ho)
 
 -- ---- fullness and the forecast
 
@@ -119,29 +119,29 @@ module _ {A : Type 0} (s : ℕ) (k result : List ℕ) (a b : A) where
 module _ (e : Setting) (d : Disc) (t k result : List ℕ) where
   -- what is seen of fullness
   abbrev Fullness : ℕ → List ℕ → Type 0
-  Fullness = Seen measured_number measured_after (lent_fullness e d t k result) result
+  Fullness = Seen answer_number measured_after (lent_fullness e d t k result) result
 
   pub full-no-record : {n : ℕ} → (length k ≡ 5 → ⊥) → n ≡ number_of (length_refusal e d) → Fullness n result
   unfolding lent_fullness
-  full-no-record h q = seen_as_law measured_number measured_after (other-record 1 k result _ _ h) q refl
+  full-no-record h q = seen_as_law answer_number measured_after (other-record 1 k result _ _ h) q refl
 
   pub full-no-result : {n : ℕ} → length k ≡ 5 → (length result ≡ 1 → ⊥) → n ≡ number_of (length_refusal e d) → Fullness n result
   unfolding lent_fullness
-  full-no-result g h q = seen_as_law measured_number measured_after (other_result 1 k result _ _ g h) q refl
+  full-no-result g h q = seen_as_law answer_number measured_after (other_result 1 k result _ _ g h) q refl
 
-  module _ {held : Record} {m : Measured} (g : length k ≡ 5) (h : length result ≡ 1) (w : held ≡ record_of k) (q : m ≡ fullness_of e d t held) where
+  module _ {held : Record} {m : Result ℕ Refusal} (g : length k ≡ 5) (h : length result ≡ 1) (w : held ≡ record_of k) (q : m ≡ fullness_of e d t held) where
     -- its answer
     full-lent : lent_fullness e d t k result ≡ m
     unfolding lent_fullness
     full-lent = both-stated 1 k result _ _ g h ∙ sym (q ∙ ap (fullness_of e d t) w)
 
     -- told
-    pub full-told : {x : ℕ} → m ≡ Measured.PerMille x → Fullness 0 (set result 0 x)
-    full-told {x} is = seen_as_law measured_number measured_after (full-lent ∙ is) refl (one_set result x h)
+    pub full-told : {x : ℕ} → m ≡ Ok x → Fullness 0 (set result 0 x)
+    full-told {x} is = seen_as_law answer_number measured_after (full-lent ∙ is) refl (one_set result x h)
 
     -- refused
-    pub full-refused : {why : Refusal} {n : ℕ} → m ≡ Measured.Refused why → n ≡ number_of why → Fullness n result
-    full-refused is hn = seen_as_law measured_number measured_after (full-lent ∙ is) hn refl
+    pub full-refused : {why : Refusal} {n : ℕ} → m ≡ Err why → n ≡ number_of why → Fullness n result
+    full-refused is hn = seen_as_law answer_number measured_after (full-lent ∙ is) hn refl
 
 module _ (e : Setting) (d : Disc) (t k xs result : List ℕ) where
   -- what is seen of the forecast
@@ -156,7 +156,7 @@ module _ (e : Setting) (d : Disc) (t k xs result : List ℕ) where
   unfolding lent_forecast
   forecast-no-result g h q = seen_as_law forecast_number forecast_after (other_result 3 k result _ _ g h) q refl
 
-  pub forecast-seen : {held : Record} {f : Forecast} {n : ℕ} {out : List ℕ} → length k ≡ 5 → length result ≡ 3 → held ≡ record_of k → f ≡ forecast e d t held xs → n ≡ forecast_number f → out ≡ forecast_after f result → Forecasting n out
+  pub forecast-seen : {held : Record} {f : Result Forecast Refusal} {n : ℕ} {out : List ℕ} → length k ≡ 5 → length result ≡ 3 → held ≡ record_of k → f ≡ forecast e d t held xs → n ≡ forecast_number f → out ≡ forecast_after f result → Forecasting n out
   unfolding lent_forecast
   forecast-seen g h w q hn ho =
       seen_as_law forecast_number forecast_after (both-stated 3 k result _ _ g h ∙ sym (q ∙ ap (λ (r : Record). forecast e d t r xs) w)) hn ho

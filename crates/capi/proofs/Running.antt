@@ -5,16 +5,17 @@ use mathlib.Core.List.{List}
 use borrow.Author.Tests.{eq-eqb, ne_eqb}
 use lib.ListN.{length}
 use Rattle.refusal.specs.declared.Refusal.{Refusal}
-use Rattle.refusal.specs.Number.{number_of}
+use Rattle.refusal.specs.Number.{number_of, answer_number}
 use Rattle.model.specs.declared.Record.{Record}
 use Rattle.model.specs.Disc.{Disc}
 use Rattle.model.specs.Examine.{Setting}
-use Rattle.list_run.specs.declared.Ran.{Ran}
-use Rattle.list_run.specs.Outcome.{outcome, ran, ran_number}
+use Rattle.std.specs.Prelude.{Result, Ok, Err}
+use Rattle.model.specs.declared.Opened.{Opened}
+use Rattle.list_run.specs.Outcome.{outcome, ran}
 use Rattle.list_run.specs.Promise.{DemandMet, WaitMet}
 use Rattle.list_run.proofs.Ending.{nothing-met}
-use Rattle.call_numbers.specs.Numbers.{numbers_of, length_refusal}
-use Rattle.capi.specs.Run.{ran_record, lent_ran, SeenRun}
+use Rattle.call_numbers.specs.Numbers.{numbers_of, length_refusal, record_opened}
+use Rattle.capi.specs.Run.{lent_ran, SeenRun}
 
 module _ (e : Setting) (d : Disc) (t k calls pool replies : List ℕ) where
   -- what is promised: what C sees, demand 3, and the bound on what openings pass over
@@ -28,18 +29,10 @@ module _ (e : Setting) (d : Disc) (t k calls pool replies : List ℕ) where
       let a = ne_eqb (length k) 5 h in
       rw a (record { number = q; disc = refl; table = refl; replies = refl; kept = refl }, nothing-met e d t calls pool _ d t (length_refusal e d) refl)
 
-  module _ {r : Ran} {d' : Disc} {t' replies' : List ℕ} (h : length k ≡ 5) (q : outcome r d' t' replies' ≡ ran e d t calls pool replies) (m : DemandMet e d t calls pool r d' t' × WaitMet e d t calls pool r) where
+  module _ {r : Result Opened Refusal} {d' : Disc} {t' replies' : List ℕ} (h : length k ≡ 5) (q : outcome r d' t' replies' ≡ ran e d t calls pool replies) (m : DemandMet e d t calls pool r d' t' × WaitMet e d t calls pool r) where
     -- one of five numbers: what the run comes to
-    run-five : {n : ℕ} {k' : List ℕ} → n ≡ ran_number r → k' ≡ ran_record r k → Promised n d' t' replies' k'
+    pub run-five : {n : ℕ} {k' : List ℕ} → n ≡ answer_number r → k' ≡ record_opened r k → Promised n d' t' replies' k'
     unfolding lent_ran
     run-five hn hk =
         let a = eq-eqb (length k) 5 h in
         rw (a, ← q) (record { number = hn; disc = refl; table = refl; replies = refl; kept = hk }, m)
-
-    -- a list that was carried out
-    pub run-ended : {held : Record} {passed : ℕ} {k' : List ℕ} → r ≡ Ran.Ended held passed → k' ≡ numbers_of held passed → Promised 0 d' t' replies' k'
-    run-ended is hk = run-five (sym (ap ran_number is)) (hk ∙ sym (ap (λ (x : Ran). ran_record x k) is))
-
-    -- a refusal
-    pub run-refused : {why : Refusal} {n : ℕ} → r ≡ Ran.Refused why → n ≡ number_of why → Promised n d' t' replies' k
-    run-refused is hn = run-five (hn ∙ sym (ap ran_number is)) (sym (ap (λ (x : Ran). ran_record x k) is))

@@ -1,10 +1,11 @@
 -- What C sees of the calls on a disc (document 01, "Calls and their sector writes"): the number that each returns and every lent thing after
 -- it, by the definitions of the calls themselves. C lends the record as five numbers; one of another length belongs to line 3, and so does
 -- a result of another length than stated.
-use Rattle.std.specs.Prelude.{ℕ, ◌≡◌, Bool, cond, ◌&&◌, List, length, eqb}
+use Rattle.std.specs.Prelude.{ℕ, ◌≡◌, Bool, cond, ◌&&◌, List, length, eqb, Result, Ok, Err}
 use Rattle.model.specs.declared.Cut.{Cut}
 use Rattle.model.specs.declared.Opened.{Opened}
-use Rattle.model.specs.declared.Given.{Given}
+use Rattle.refusal.specs.declared.Refusal.{Refusal}
+use Rattle.refusal.specs.Verdict.{Verdict}
 use Rattle.model.specs.declared.Forecast.{Forecast}
 use Rattle.model.specs.Disc.{Disc}
 use Rattle.model.specs.Examine.{Setting}
@@ -16,7 +17,6 @@ use Rattle.model.specs.Once.{save_plan, free_plan, commit_plan}
 use Rattle.model.specs.Rewrite.{save_block_plan, save_packet_plan, spare_plan}
 use Rattle.model.specs.Both.{opening, opened_table, reading, read_bytes}
 use Rattle.model.specs.Forecast.{forecast}
-use Rattle.once_open.specs.declared.Measured.{Measured}
 use Rattle.once_open.specs.Calls.{fullness_of, measured_values}
 use Rattle.call_numbers.specs.Numbers.{record_of, record_after, length_refusal}
 
@@ -72,8 +72,8 @@ SeenSpare x t k b packet c n d t' k' =
 -- ---- opening
 
 -- what opening answers that is lent the table t and the record k
-unfoldable pub lent_opening : Setting → Disc → List ℕ → List ℕ → Opened
-lent_opening e d t k = cond (is_record k) (opening e d t) (Opened.Refused (length_refusal e d))
+unfoldable pub lent_opening : Setting → Disc → List ℕ → List ℕ → Result Opened Refusal
+lent_opening e d t k = cond (is_record k) (opening e d t) (Err (length_refusal e d))
 
 -- the table after it
 unfoldable pub lent_opened_table : Setting → Disc → List ℕ → List ℕ → List ℕ
@@ -82,8 +82,8 @@ lent_opened_table e d t k = cond (is_record k) (opened_table e d t) t
 -- ---- reading
 
 -- what reading answers that is lent the table t, the record k and `out`
-unfoldable pub lent_reading : Setting → Disc → List ℕ → List ℕ → ℕ → List ℕ → Given
-lent_reading e d t k v out = cond (is_record k) (reading e d t (record_of k) v out) (Given.Refused (length_refusal e d))
+unfoldable pub lent_reading : Setting → Disc → List ℕ → List ℕ → ℕ → List ℕ → Verdict
+lent_reading e d t k v out = cond (is_record k) (reading e d t (record_of k) v out) (Err (length_refusal e d))
 
 -- the lent bytes after it
 unfoldable pub lent_read_bytes : Setting → Disc → List ℕ → List ℕ → ℕ → List ℕ → List ℕ
@@ -96,14 +96,14 @@ abbrev pub both_lent : {A : Type 0} → ℕ → List ℕ → List ℕ → A → 
 both_lent n k result a b = cond (is_record k && eqb (length result) n) a b
 
 -- fullness, one number, that is lent the table t
-unfoldable pub lent_fullness : Setting → Disc → List ℕ → List ℕ → List ℕ → Measured
-lent_fullness e d t k result = both_lent 1 k result (fullness_of e d t (record_of k)) (Measured.Refused (length_refusal e d))
+unfoldable pub lent_fullness : Setting → Disc → List ℕ → List ℕ → List ℕ → Result ℕ Refusal
+lent_fullness e d t k result = both_lent 1 k result (fullness_of e d t (record_of k)) (Err (length_refusal e d))
 
 -- the lent result after it
-abbrev pub measured_after : Measured → List ℕ → List ℕ
-measured_after (Measured.PerMille n) result = measured_values (Measured.PerMille n)
-measured_after (Measured.Refused why) result = result
+abbrev pub measured_after : Result ℕ Refusal → List ℕ → List ℕ
+measured_after (Ok n) result = measured_values (Ok n)
+measured_after (Err why) result = result
 
 -- the forecast, three numbers, that is lent the table t and the items xs
-unfoldable pub lent_forecast : Setting → Disc → List ℕ → List ℕ → List ℕ → List ℕ → Forecast
-lent_forecast e d t k xs result = both_lent 3 k result (forecast e d t (record_of k) xs) (Forecast.Refused (length_refusal e d))
+unfoldable pub lent_forecast : Setting → Disc → List ℕ → List ℕ → List ℕ → List ℕ → Result Forecast Refusal
+lent_forecast e d t k xs result = both_lent 3 k result (forecast e d t (record_of k) xs) (Err (length_refusal e d))

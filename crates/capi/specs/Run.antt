@@ -1,32 +1,29 @@
 -- What C sees of a list of calls (document 01, "The plain store", second paragraph): the number that is returned, what its own opening answers,
 -- and every lent thing after it. C lends the record as five numbers; one of another length belongs to line 3.
-use Rattle.std.specs.Prelude.{ℕ, ◌≡◌, cond, List}
+use Rattle.std.specs.Prelude.{ℕ, ◌≡◌, cond, List, Result, Ok, Err}
 use Rattle.model.specs.Disc.{Disc}
 use Rattle.model.specs.Examine.{Setting}
-use Rattle.list_run.specs.declared.Ran.{Ran}
+use Rattle.model.specs.declared.Opened.{Opened}
+use Rattle.refusal.specs.declared.Refusal.{Refusal}
 use Rattle.model.specs.Lent.{Lent}
 use Rattle.list_run.specs.Promise.{DemandMet, WaitMet}
-use Rattle.list_run.specs.Outcome.{Outcome, outcome, ran, ran_number, ran_values}
-use Rattle.call_numbers.specs.Numbers.{length_refusal}
+use Rattle.list_run.specs.Outcome.{Outcome, outcome, ran}
+use Rattle.refusal.specs.Number.{answer_number}
+use Rattle.call_numbers.specs.Numbers.{length_refusal, record_opened}
 use Rattle.capi.specs.Calls.{is_record}
-
--- the lent record after it: the record in force, with passed over of the last opening that was accepted
-abbrev pub ran_record : Ran → List ℕ → List ℕ
-ran_record (Ran.Ended held passed) k = ran_values (Ran.Ended held passed)
-ran_record (Ran.Refused why) k = k
 
 -- the outcome of a run that is lent the table t, the record k, calls as numbers with a pool of bytes, and a place for replies
 unfoldable pub lent_ran : Setting → Disc → List ℕ → List ℕ → List ℕ → List ℕ → List ℕ → Outcome
 lent_ran e d t k calls pool replies =
-    cond (is_record k) (ran e d t calls pool replies) (outcome (Ran.Refused (length_refusal e d)) d t replies)
+    cond (is_record k) (ran e d t calls pool replies) (outcome (Err (length_refusal e d)) d t replies)
 
 -- what C sees, the number n, the disc d, the table t, the replies told and the record k, which came as k₀, are those of the outcome o
 pub record SeenRun (o : Outcome) (k₀ : List ℕ) (n : ℕ) (d : Disc) (t told k : List ℕ) : Type 0 where
-  pub number : n ≡ ran_number o.result
+  pub number : n ≡ answer_number o.result
   pub disc : d ≡ o.disc
   pub table : t ≡ o.table
   pub replies : told ≡ o.replies
-  pub kept : k ≡ ran_record o.result k₀
+  pub kept : k ≡ record_opened o.result k₀
 
 -- over the lent lists: a run that is lent the table t, the record k, calls as numbers with a pool of bytes, and a place for replies returns n and
 -- leaves the disc d, the table t', the replies told and the record k'

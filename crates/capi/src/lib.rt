@@ -6,29 +6,23 @@
 #![tactic(auto)]
 
 ghost use Rattle.std.specs.Prelude.{◌≡◌};
-ghost use Rattle.maps.specs.Kinds.{read_maps};
+ghost use Rattle.maps.specs.Kinds.{read_maps, volume_read};
 ghost use Rattle.maps_written.specs.Writing.{written_or};
 ghost use Rattle.model.specs.Disc.{disc as disc_of};
 ghost use Rattle.model.specs.Examine.{setting};
 ghost use Rattle.model.specs.Both.{make_verdict, made};
 ghost use Rattle.model.specs.Lent.{lent};
-ghost use Rattle.model.specs.Told.{opened_number, given_number, forecast_number};
-ghost use Rattle.refusal.specs.Number.{verdict_number};
+ghost use Rattle.refusal.specs.Number.{answer_number};
+ghost use Rattle.model.specs.Told.{forecast_number};
 ghost use Rattle.tag.specs.Crc.{byte_step, crc_from};
-ghost use Rattle.address.specs.Told.{logical_number};
-ghost use Rattle.once_open.specs.Calls.{measured_number};
 ghost use Rattle.call_numbers.specs.Numbers.{cut_of, record_opened, forecast_after};
 ghost use Rattle.call_lists.specs.Lists.{maps_verdict, volume_after, volume_for, lent_verdict, lent_look_up, logical_after};
-ghost use Rattle.bitmap.specs.Counted.{counted_number};
-ghost use Rattle.bitmap_find.specs.Nearest.{found_number};
 ghost use Rattle.bitmap_written.specs.Written.{take_verdict, after_taking, give_verdict, after_giving};
 ghost use Rattle.call_bitmap.specs.Lent.{lent_count, counted_after, lent_find, found_after};
 ghost use Rattle.capi.specs.Calls.{SeenSave, SeenFree, SeenCommit, SeenSaveBlock, SeenSavePacket, SeenSpare, lent_opening, lent_opened_table, lent_reading, lent_read_bytes, lent_fullness, measured_after, lent_forecast};
 ghost use Rattle.capi.specs.Run.{SeenRuns, SeenDemand, SeenWait};
 
-use list_run::Ran;
 use model::DONE;
-use once_open::Measured;
 
 // ---- both kinds
 
@@ -43,7 +37,7 @@ pub extern "C" fn tuormik_open(
     table: &mut [u32],
     kept: &mut [u32],
 ) -> u32
-    ensures value { result ≡ opened_number (lent_opening (setting maps.now s l)
+    ensures value { result ≡ answer_number (lent_opening (setting maps.now s l)
         (disc_of disc.now marks.now) table.old kept.old) }
     ensures table_after { table.new ≡ lent_opened_table (setting maps.now s l)
         (disc_of disc.now marks.now) table.old kept.old }
@@ -55,7 +49,7 @@ pub extern "C" fn tuormik_open(
     }
     let opened = blocks::open(disc, marks, maps, s, l, table);
     call_numbers::keep_opened(kept, opened);
-    call_numbers::number_of_opened(opened)
+    call_numbers::number_of(&opened)
 }
 
 // Reads block number v into the lent bytes.
@@ -71,7 +65,7 @@ pub extern "C" fn tuormik_read(
     v: u32,
     out: &mut [u8],
 ) -> u32
-    ensures value { result ≡ given_number (lent_reading (setting maps.now s l)
+    ensures value { result ≡ answer_number (lent_reading (setting maps.now s l)
         (disc_of disc.now marks.now) table.now kept.now v out.old) }
     ensures out_after { out.new ≡ lent_read_bytes (setting maps.now s l)
         (disc_of disc.now marks.now) table.now kept.now v out.old }
@@ -81,7 +75,7 @@ pub extern "C" fn tuormik_read(
     }
     let held = call_numbers::read_record(kept);
     let given = blocks::read(disc, marks, maps, s, l, table, held, v, out);
-    call_numbers::number_of_given(given)
+    call_numbers::number_of(&given)
 }
 
 // Makes a volume.
@@ -94,12 +88,12 @@ pub extern "C" fn tuormik_make(
     l: u32,
     spares: &[u32],
 ) -> u32
-    ensures value { result ≡ verdict_number (make_verdict (setting maps.now s l) (disc_of disc.old marks.old) spares.now) }
+    ensures value { result ≡ answer_number (make_verdict (setting maps.now s l) (disc_of disc.old marks.old) spares.now) }
     ensures marks_after { disc_of disc.new marks.new ≡ made (setting maps.now s l)
         (disc_of disc.old marks.old) spares.now }
 {
     let verdict = blocks::make(disc, marks, maps, s, l, spares);
-    call_numbers::number_of_verdict(verdict)
+    call_numbers::number_of(&verdict)
 }
 
 // ---- write-once
@@ -195,7 +189,7 @@ pub extern "C" fn tuormik_fullness(
     kept: &[u32],
     res: &mut [u32],
 ) -> u32
-    ensures value { result ≡ measured_number (lent_fullness (setting maps.now s l)
+    ensures value { result ≡ answer_number (lent_fullness (setting maps.now s l)
         (disc_of disc.now marks.now) table.now kept.now res.old) }
     ensures res_after { res.new ≡ measured_after (lent_fullness (setting maps.now s l)
         (disc_of disc.now marks.now) table.now kept.now res.old) res.old }
@@ -207,13 +201,12 @@ pub extern "C" fn tuormik_fullness(
         return call_numbers::number_of_lengths(disc, marks, maps, s, l);
     }
     let held = call_numbers::read_record(kept);
-    let measured = blocks::fullness(disc, marks, maps, s, l, table, held);
-    match measured {
-        Measured::PerMille(n) => {
+    match blocks::fullness(disc, marks, maps, s, l, table, held) {
+        Ok(n) => {
             res[0] = n;
             DONE
         }
-        Measured::Refused(why) => refusal::number(why),
+        Err(why) => u32::from(why),
     }
 }
 
@@ -343,9 +336,9 @@ pub extern "C" fn tuormik_spare_packet(
 // Reads a map list.
 #[unsafe(no_mangle)]
 pub extern "C" fn tuormik_read_maps(maps: &[u8], res: &mut [u32]) -> u32
-    ensures value { result ≡ verdict_number (maps_verdict maps.now res.old) }
+    ensures value { result ≡ answer_number (maps_verdict maps.now res.old) }
     ensures res_after { res.new ≡ volume_after (maps_verdict maps.now res.old)
-        (read_maps maps.now).volume res.old }
+        (volume_read (read_maps maps.now)) res.old }
 {
     call_lists::read_maps(maps, res)
 }
@@ -359,7 +352,7 @@ pub extern "C" fn tuormik_write_maps(
     tables: &[u32],
     out: &mut [u8],
 ) -> u32
-    ensures value { result ≡ verdict_number (lent_verdict kind partition size tables.now out.old) }
+    ensures value { result ≡ answer_number (lent_verdict kind partition size tables.now out.old) }
     ensures out_after { out.new ≡ written_or (lent_verdict kind partition size tables.now out.old)
         (volume_for kind partition size tables.now) out.old }
 {
@@ -369,7 +362,7 @@ pub extern "C" fn tuormik_write_maps(
 // Looks up virtual block v in the bytes of a VAT file.
 #[unsafe(no_mangle)]
 pub extern "C" fn tuormik_look_up(file: &[u8], v: u32, res: &mut [u32]) -> u32
-    ensures value { result ≡ logical_number (lent_look_up file.now v res.old) }
+    ensures value { result ≡ answer_number (lent_look_up file.now v res.old) }
     ensures res_after { res.new ≡ logical_after (lent_look_up file.now v res.old) res.old }
 {
     call_lists::look_up(file, v, res)
@@ -380,7 +373,7 @@ pub extern "C" fn tuormik_look_up(file: &[u8], v: u32, res: &mut [u32]) -> u32
 // Counts the free blocks.
 #[unsafe(no_mangle)]
 pub extern "C" fn tuormik_bitmap_count(bitmap: &[u8], l: u32, res: &mut [u32]) -> u32
-    ensures value { result ≡ counted_number (lent_count bitmap.now l res.old) }
+    ensures value { result ≡ answer_number (lent_count bitmap.now l res.old) }
     ensures res_after { res.new ≡ counted_after (lent_count bitmap.now l res.old) res.old }
 {
     call_bitmap::count(bitmap, l, res)
@@ -395,7 +388,7 @@ pub extern "C" fn tuormik_bitmap_find(
     near: u32,
     res: &mut [u32],
 ) -> u32
-    ensures value { result ≡ found_number (lent_find bitmap.now l wanted near res.old) }
+    ensures value { result ≡ answer_number (lent_find bitmap.now l wanted near res.old) }
     ensures res_after { res.new ≡ found_after (lent_find bitmap.now l wanted near res.old) res.old }
 {
     call_bitmap::find(bitmap, l, wanted, near, res)
@@ -404,21 +397,21 @@ pub extern "C" fn tuormik_bitmap_find(
 // Takes a run of free blocks.
 #[unsafe(no_mangle)]
 pub extern "C" fn tuormik_bitmap_take(bitmap: &mut [u8], l: u32, first: u32, count: u32) -> u32
-    ensures value { result ≡ verdict_number (take_verdict bitmap.old l first count) }
+    ensures value { result ≡ answer_number (take_verdict bitmap.old l first count) }
     ensures bitmap_after { bitmap.new ≡ after_taking bitmap.old l first count }
 {
     let verdict = bitmap_written::take(bitmap, l, first, count);
-    call_numbers::number_of_verdict(verdict)
+    call_numbers::number_of(&verdict)
 }
 
 // Gives a run of allocated blocks back.
 #[unsafe(no_mangle)]
 pub extern "C" fn tuormik_bitmap_give_back(bitmap: &mut [u8], l: u32, first: u32, count: u32) -> u32
-    ensures value { result ≡ verdict_number (give_verdict bitmap.old l first count) }
+    ensures value { result ≡ answer_number (give_verdict bitmap.old l first count) }
     ensures bitmap_after { bitmap.new ≡ after_giving bitmap.old l first count }
 {
     let verdict = bitmap_written::give_back(bitmap, l, first, count);
-    call_numbers::number_of_verdict(verdict)
+    call_numbers::number_of(&verdict)
 }
 
 // ---- the CRC of a tag
@@ -484,11 +477,6 @@ pub extern "C" fn tuormik_run(
         return call_numbers::number_of_lengths(disc, marks, maps, s, l);
     }
     let ran = list_run::run(disc, marks, maps, s, l, table, calls, bytes, replies);
-    match ran {
-        Ran::Ended { held, passed } => {
-            call_numbers::put_record(kept, held, passed);
-            DONE
-        }
-        Ran::Refused(why) => refusal::number(why),
-    }
+    call_numbers::keep_opened(kept, ran);
+    call_numbers::number_of(&ran)
 }

@@ -5,7 +5,7 @@
 // those two have been tested, and say in a `requires` what they take from them.
 #![tactic(auto)]
 
-ghost use Rattle.std.specs.Prelude.{◌≡◌, List, ℕ, ◌+◌, ◌*◌, ◌≤◌, ◌<◌, max, length, eqb};
+ghost use Rattle.std.specs.Prelude.{◌≡◌, ◌≢◌, List, ℕ, ◌+◌, ◌-◌, ◌^◌, ◌≤◌, ◌<◌, ◌++◌, max, length, drop, replicate, eqb};
 ghost use Rattle.model.specs.Disc.{disc as disc_of, recorded_run, nwa, shapely, inside};
 ghost use Rattle.disc_marks.specs.Marks.{highest_of};
 
@@ -20,41 +20,32 @@ const TURN: usize = 64;
 
 const MANY: usize = 1024;
 
-// How many marks are looked at in one step down: first very many, then fewer.
-const LONGEST_STEP: u32 = 65536;
+// How many marks are looked at in one step down: first very many, then fewer, at last one.
+const LONGEST_STEP: usize = 65536;
 
-const LONG_STEP: u32 = 4096;
+const LONG_STEP: usize = 4096;
 
-const SHORT_STEP: u32 = 128;
+const SHORT_STEP: usize = 128;
 
 // The highest of few marks, `least` if none is above it. It looks at each, with no early way out.
+#[tactic(auto, using(crate::proofs::Laws::highest_next, crate::proofs::Laws::highest_end))]
 fn highest_few(marks: &[u8], least: u8) -> u8
     ensures { result ≡ max least (highest_of marks.now) }
 {
     let mut top = least;
-    let mut i: usize = 0;
-    while i < marks.len() {
-        let m = marks[i];
-        if top < m {
-            top = m;
-        }
-        i += 1;
+    for m in marks {
+        top = top.max(*m);
     }
     top
 }
 
 // Raises each of a turn's marks to the one in the same place, where that is higher.
-fn raise(tops: &mut [u8], marks: &[u8])
-    requires { (length tops.old ≡ 64) × (length marks.now ≡ 64) }
+#[tactic(auto, using(crate::proofs::Laws::highest_next, crate::proofs::Laws::highest_end, crate::proofs::Laws::highest_raised))]
+fn raise(tops: &mut [u8; TURN], marks: &[u8; TURN])
     ensures { highest_of tops.new ≡ max (highest_of tops.old) (highest_of marks.now) }
 {
-    let mut i: usize = 0;
-    while i < TURN {
-        let m = marks[i];
-        if tops[i] < m {
-            tops[i] = m;
-        }
-        i += 1;
+    for i in 0..TURN {
+        tops[i] = tops[i].max(marks[i]);
     }
 }
 
@@ -63,76 +54,58 @@ fn raise(tops: &mut [u8], marks: &[u8])
 fn highest_many(marks: &[u8]) -> u8
     ensures { result ≡ highest_of marks.now }
 {
-    let turns = marks.len() / TURN;
-    let mut tops = [0u8; TURN];
-    let mut turn: usize = 0;
-    while turn < turns {
-        let from = TURN * turn;
-        raise(&mut tops, &marks[from..from + TURN]);
-        turn += 1;
+    let (turns, rest) = marks.as_chunks::<TURN>();
+    let mut tops = [BLANK; TURN];
+    for turn in turns {
+        raise(&mut tops, turn);
     }
-    let rest = highest_few(&marks[TURN * turns..], BLANK);
-    highest_few(&tops, rest)
+    highest_few(&tops, highest_few(rest, BLANK))
 }
 
-// The highest mark, 0 of none. The marks are lent on as a part of themselves, all of it: so compiled, the highest of
-// a turn's places stay in registers.
+// The highest mark, 0 of none.
 fn highest_mark(marks: &[u8]) -> u8
     ensures { result ≡ highest_of marks.now }
 {
     if marks.len() < MANY {
-        return highest_few(&marks[..], BLANK);
+        return highest_few(marks, BLANK);
     }
-    highest_many(&marks[..])
+    highest_many(marks)
 }
 
 // Line 1: whether the lent bytes and marks are a disc. The sectors are counted before they are multiplied.
+#[tactic(auto, using(std::proofs::lemmas::Bool::Decides::nat_tests, crate::proofs::Laws::highest_known), unfolding(model::specs::Disc::shapely))]
 pub fn is_shapely(disc: &[u8], marks: &[u8]) -> bool
     ensures { result ≡ shapely (disc_of disc.now marks.now) }
 {
     let sectors = marks.len();
-    if sectors == 0 {
-        return false;
-    }
-    if MOST < sectors {
-        return false;
-    }
-    if disc.len() != SECTOR * sectors {
-        return false;
-    }
-    highest_mark(marks) <= UNREADABLE
+    0 < sectors
+        && sectors <= MOST
+        && disc.len() == SECTOR * sectors
+        && highest_mark(marks) <= UNREADABLE
 }
 
 // Line 2: whether the partition of `l` sectors from `s` on lies on the disc.
+#[tactic(auto, using(std::proofs::lemmas::Bool::Decides::nat_tests), unfolding(model::specs::Disc::inside))]
 pub fn is_inside(marks: &[u8], s: u32, l: u32) -> bool
     ensures { (bytes : List ℕ) → result ≡ inside (disc_of bytes marks.now) s l }
 {
-    if l == 0 {
-        return false;
-    }
-    s as u64 + l as u64 <= marks.len() as u64
+    l != 0 && u64::from(s) + u64::from(l) <= marks.len() as u64
 }
 
-// The end of the first `l` blocks of the partition without blank sectors at their end, as far as whole steps
-// pass over them. Inside the layers: lines 1 and 2 have been tested, and a step is of some marks.
-fn skip_blank(marks: &[u8], s: u32, l: u32, step: u32) -> u32
-    requires l_in_bounds { s + l ≤ length marks.now }
-    requires marks_len_bound { length marks.now ≤ 1048576 }
-    requires step_nonzero { 0 < step }
-    ensures upper_bound { result ≤ l }
-    ensures by_index { (bytes : List ℕ) → nwa (disc_of bytes marks.now) s result ≡ nwa (disc_of bytes marks.now) s l }
+// The marks without the blank ones at their end, as far as whole steps pass over them.
+fn skip_blank<const STEP: usize>(marks: &[u8]) -> &[u8]
+    requires { (0 < STEP) × (STEP < 2 ^ 63) }
+    ensures blank { result.now ++ replicate (length marks.now - length result.now) 0 ≡ marks.now }
+    ensures used { STEP ≤ length result.now → highest_of (drop (length result.now - STEP) result.now) ≢ 0 }
 {
-    let mut k = l;
-    while step <= k {
-        let below = k - step;
-        let low = address::sector_of(s, LogicalAddress(below)).0 as usize;
-        let high = address::sector_of(s, LogicalAddress(k)).0 as usize;
-        if highest_mark(&marks[low..high]) != BLANK {
-            return k;
+    let mut left = marks;
+    while let Some((below, step)) = left.split_last_chunk::<STEP>() {
+        if highest_mark(step) != BLANK {
+            return left;
         }
-        k = below;
+        left = below;
     }
-    k
+    left
 }
 
 // NWA: the block one past the partition's last sector that is not blank. It looks down from the end.
@@ -142,18 +115,11 @@ pub fn next_writable(marks: &[u8], s: u32, l: u32) -> LogicalAddress
     requires marks_len_bound { length marks.now ≤ 1048576 }
     ensures { (bytes : List ℕ) → result.0 ≡ nwa (disc_of bytes marks.now) s l }
 {
-    let far = skip_blank(marks, s, l, LONGEST_STEP);
-    let near = skip_blank(marks, s, far, LONG_STEP);
-    let mut k = skip_blank(marks, s, near, SHORT_STEP);
-    while 0 < k {
-        let below = k - 1;
-        let at = address::sector_of(s, LogicalAddress(below)).0 as usize;
-        if marks[at] != BLANK {
-            return LogicalAddress(k);
-        }
-        k = below;
-    }
-    LogicalAddress(0)
+    let partition = &marks[s as usize..][..l as usize];
+    let far = skip_blank::<LONGEST_STEP>(partition);
+    let near = skip_blank::<LONG_STEP>(far);
+    let close = skip_blank::<SHORT_STEP>(near);
+    LogicalAddress(skip_blank::<1>(close).len() as u32)
 }
 
 // Whether NWA is `next`: all is blank from there on, and the sector below is not. No mark below that is
@@ -166,31 +132,27 @@ pub fn is_next(marks: &[u8], s: u32, l: u32, next: LogicalAddress) -> bool
     if l < next.0 {
         return false;
     }
-    let from = address::sector_of(s, next).0 as usize;
-    let to = address::sector_of(s, LogicalAddress(l)).0 as usize;
-    if highest_mark(&marks[from..to]) != BLANK {
+    let partition = &marks[s as usize..][..l as usize];
+    let (below, above) = partition.split_at(next.0 as usize);
+    if highest_mark(above) != BLANK {
         return false;
     }
-    if next.0 == 0 {
-        return true;
+    match below {
+        [] => true,
+        [.., last] => *last != BLANK,
     }
-    marks[from - 1] != BLANK
 }
 
 // Whether each of `count` sectors from `from` on is recorded. It looks at each, with no early way out.
 // Inside the layers: they are the disc's.
+#[tactic(auto, using(std::proofs::lemmas::List::take_all, crate::proofs::Laws::recorded_lent))]
 pub fn all_recorded(marks: &[u8], from: PhysicalAddress, count: usize) -> bool
     requires { from.0 + count ≤ length marks.now }
     ensures { (bytes : List ℕ) → result ≡ recorded_run (disc_of bytes marks.now) from.0 count }
 {
-    let from = from.0 as usize;
     let mut all = true;
-    let mut i: usize = 0;
-    while i < count {
-        if marks[from + i] != RECORDED {
-            all = false;
-        }
-        i += 1;
+    for m in &marks[from.0 as usize..][..count] {
+        all &= *m == RECORDED;
     }
     all
 }

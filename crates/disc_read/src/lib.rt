@@ -8,23 +8,23 @@ ghost use Rattle.model.specs.Disc.{disc as disc_of, mark as mark_of, first_mark,
 
 use address::PhysicalAddress;
 use model::{BLANK, RECORDED};
-use refusal::{Refusal, Verdict};
+use refusal::Refusal;
 
 // What the mark of a sector to be read is told as: a blank one is line 25, an unreadable one line 14.
-fn judge_mark(mark: u8) -> Verdict
+fn judge_mark(mark: u8) -> Result<(), Refusal>
     ensures { result ≡ first (mark_tests mark) }
 {
     if mark == RECORDED {
-        return Verdict::Go;
+        return Ok(());
     }
     if mark == BLANK {
-        return Verdict::Stop(Refusal::BlankSector);
+        return Err(Refusal::BlankSector);
     }
-    Verdict::Stop(Refusal::UnreadableSector)
+    Err(Refusal::UnreadableSector)
 }
 
 // Lines 25 and 14 of one sector.
-pub fn judge_sector(marks: &[u8], at: PhysicalAddress) -> Verdict
+pub fn judge_sector(marks: &[u8], at: PhysicalAddress) -> Result<(), Refusal>
     requires { at.0 < length marks.now }
     ensures { (bytes : List ℕ) → result ≡ first (mark_tests (mark_of (disc_of bytes marks.now) at.0)) }
 {
@@ -38,24 +38,21 @@ fn first_mark(marks: &[u8], from: PhysicalAddress, count: usize) -> u8
     ensures { (bytes : List ℕ) → result ≡ first_mark (disc_of bytes marks.now) from.0 count }
 {
     let from = from.0 as usize;
-    let mut i: usize = 0;
-    while i < count {
-        let m = marks[from + i];
-        if m != RECORDED {
-            return m;
+    for mark in &marks[from..from + count] {
+        if *mark != RECORDED {
+            return *mark;
         }
-        i += 1;
     }
     RECORDED
 }
 
 // Lines 25 and 14 of `count` sectors from `from` on. The first that is not recorded is looked for only where one is not.
-pub fn judge_run(marks: &[u8], from: PhysicalAddress, count: usize) -> Verdict
+pub fn judge_run(marks: &[u8], from: PhysicalAddress, count: usize) -> Result<(), Refusal>
     requires { from.0 + count ≤ length marks.now }
     ensures { (bytes : List ℕ) → result ≡ first (mark_tests (first_mark (disc_of bytes marks.now) from.0 count)) }
 {
     if disc_marks::all_recorded(marks, from, count) {
-        return Verdict::Go;
+        return Ok(());
     }
     judge_mark(first_mark(marks, from, count))
 }

@@ -1,110 +1,81 @@
 // A line of the file stdin: a name, of which the first four letters count, and numbers, each behind a blank.
-ghost use Rattle.std.specs.Prelude.{◌<◌, ◌≤◌, length};
+ghost use Rattle.std.specs.Prelude.{◌≤◌, length, vec_len, IfOk};
 
-// Where the byte stands first, at `at` or behind it; the end where there is none.
-fn find(bytes: &[u8], at: usize, byte: u8) -> usize
-    requires { at ≤ length bytes.now }
-    ensures { (at ≤ result) × (result ≤ length bytes.now) }
-{
-    match bytes[at..].iter().position(|b| *b == byte) {
-        Some(n) => at + n,
-        None => bytes.len(),
-    }
-}
-
-// Where the line after the one at `at` begins: each line ends with a newline.
-pub fn next(script: &[u8], at: usize) -> usize
-    requires { at < length script.now }
-    ensures { (at < result) × (result ≤ length script.now) }
-{
-    let end = find(script, at, b'\n');
-    if end == script.len() {
-        return end;
-    }
-    end + 1
-}
+use std::alloc::{AllocError, Global};
 
 // An unused entry, written as none.
 const NONE: u32 = 0xffffffff;
 
-// A byte of the line, a blank behind its end.
-fn letter(line: &[u8], at: usize) -> u8 {
-    if at < line.len() {
-        return line[at];
-    }
-    b' '
+// The most numbers that are read of a line where their number is free.
+const MOST: usize = 4;
+
+#[derive(Clone, Copy)]
+pub struct Line<'a> {
+    pub text: &'a [u8],
 }
 
-// The first four letters as a number of 4 bytes.
-pub fn name(line: &[u8]) -> u32 {
-    fields::u32_of_u8(letter(line, 0))
-        + 256 * fields::u32_of_u8(letter(line, 1))
-        + 65536 * fields::u32_of_u8(letter(line, 2))
-        + 16777216 * fields::u32_of_u8(letter(line, 3))
-}
-
-// Where word number n begins, the name being number 0; the line's end where there is none.
-fn word(line: &[u8], n: usize) -> usize
-    ensures { result ≤ length line.now }
-{
-    let mut at: usize = 0;
-    let mut left = n;
-    while 0 < left {
-        let blank = find(line, at, b' ');
-        if blank == line.len() {
-            return blank;
-        }
-        at = blank + 1;
-        left -= 1;
-    }
-    at
-}
-
-// A number with a digit more, modulo 2 to the 32nd power.
-fn onward(value: u32, digit: u8) -> u32 {
-    ((value as u64 * 10 + (fields::u32_of_u8(digit) % 16) as u64) % 4294967296) as u32
-}
-
-// Number n of the line, in decimal digits; 0 where there is none.
-pub fn number(line: &[u8], n: usize) -> u32 {
-    let mut at = word(line, n);
-    if letter(line, at) == b'n' {
+// A number in decimal digits, modulo 2 to the 32nd power; 0 where there is none. Of another byte than a digit its low
+// four bits count.
+fn number(word: &[u8]) -> u32 {
+    if word.starts_with(b"n") {
         return NONE;
     }
-    let mut value: u32 = 0;
-    while at < line.len() {
-        if line[at] == b' ' {
-            return value;
+    word.iter().fold(0u32, |value, digit| {
+        value.wrapping_mul(10).wrapping_add(u32::from(*digit % 16))
+    })
+}
+
+impl<'a> Line<'a> {
+    // The name's first four letters, with blanks behind a shorter one.
+    pub fn name(self) -> [u8; 4] {
+        let mut name = [b' '; 4];
+        for (letter, byte) in name.iter_mut().zip(self.text) {
+            *letter = *byte;
         }
-        value = onward(value, line[at]);
-        at += 1;
+        name
     }
-    value
-}
 
-// The same as a length or a place.
-pub fn size(line: &[u8], n: usize) -> usize {
-    number(line, n) as usize
-}
-
-// The same as a byte.
-pub fn byte(line: &[u8], n: usize) -> u8 {
-    (number(line, n) % 256) as u8
-}
-
-// The first letter of word n.
-pub fn initial(line: &[u8], n: usize) -> u8 {
-    letter(line, word(line, n))
-}
-
-// How many words there are behind the name, 4 at most.
-pub fn count(line: &[u8]) -> usize {
-    let mut n: usize = 0;
-    while n < 4 {
-        if word(line, n + 1) == line.len() {
-            return n;
-        }
-        n += 1;
+    // Word n, the name being number 0; empty where there is none.
+    fn word(self, n: usize) -> &'a [u8]
+        ensures { length result.now ≤ length self.entry.text.now }
+    {
+        self.text
+            .split(|byte| *byte == b' ')
+            .nth(n)
+            .unwrap_or_default()
     }
-    n
+
+    // Number n of the line; 0 where there is none.
+    pub fn number(self, n: usize) -> u32 {
+        number(self.word(n))
+    }
+
+    // The same as a length or a place.
+    pub fn size(self, n: usize) -> usize {
+        self.number(n) as usize
+    }
+
+    // The same as a byte.
+    pub fn byte(self, n: usize) -> u8 {
+        (self.number(n) % 256) as u8
+    }
+
+    // The first letter of word n, if there is one.
+    pub fn initial(self, n: usize) -> Option<u8> {
+        self.word(n).first().copied()
+    }
+
+    // The numbers behind the name, the first few at most. A blank at the line's end has none behind it.
+    pub fn numbers(self, alloc: Global) -> Result<Vec<u32>, AllocError>
+        ensures { IfOk result (λ v. vec_len v ≤ 4) }
+    {
+        self.text
+            .strip_suffix(b" ")
+            .unwrap_or(self.text)
+            .split(|byte| *byte == b' ')
+            .skip(1)
+            .take(MOST)
+            .map(|word| number(word))
+            .collect(alloc)
+    }
 }

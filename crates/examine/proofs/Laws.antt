@@ -1,19 +1,21 @@
 -- Laws of what a call examines first, one for each way on or out, and of the common verdict of the calls on a write-once disc, for the
 -- calls above. Assumes nothing.
-use Rattle.std.proofs.Common.{◌≡◌, ℕ, suc, ◌+◌, ◌-◌, ◌%◌, ◌<◌, ◌≤◌, Bool, true, false, cond, ◌&&◌, eqb, leb, List, [], ◌∷◌, length, get_or, take, drop, sym, refl, ap, ◌∙◌, add-one, arith, drop-cons, le-ltb, lt-ltb, eq-eqb, ne_eqb, le-leb}
+use Rattle.std.proofs.Common.{◌≡◌, ℕ, zero, suc, ◌+◌, ◌%◌, ◌<◌, ◌≤◌, Bool, true, false, cond, ◌&&◌, eqb, leb, List, [], ◌∷◌, ◌++◌, length, get_or, take, sym, refl, ap, ◌∙◌, arith, le-ltb, lt-ltb, eq-eqb, ne_eqb, le-leb}
 use mathlib.Core.Bool.{and-true}
+use Rattle.std.proofs.Math.Bool.{and_assoc}
+use Rattle.std.proofs.lemmas.List.{take_more}
 use borrow.Author.Tests.{lt-leb}
 use Rattle.refusal.specs.declared.Refusal.{Refusal}
 use Rattle.refusal.specs.declared.Refusal.TheVariants.{DiscShape, SpanOutside, LentLength, Misaligned, OtherKind, StaleRecord}
-use Rattle.refusal.specs.declared.Verdict.{Verdict}
-use Rattle.refusal.specs.declared.Verdict.TheVariants.{Go, Stop}
-use Rattle.refusal.proofs.Laws.{stop-go}
+use Rattle.refusal.specs.Verdict.{Verdict, verdict_of, answered}
+use Rattle.std.specs.Prelude.{Ok, Err, Result, IsErr}
+use Rattle.std.proofs.lemmas.Result.{IfOk-from_err}
+use Rattle.refusal.proofs.Laws.{answered-same, given}
 use Rattle.refusal.specs.Tests.{test, first, need}
 use Rattle.maps.specs.declared.Kind.{Kind}
 use Rattle.maps.specs.declared.Kind.TheVariants.{WriteOnce, Rewritable}
-use Rattle.maps.specs.declared.MapsRead.{MapsRead}
 use Rattle.maps.specs.declared.Volume.{Volume}
-use Rattle.maps.specs.Kinds.{no_volume, read_maps, tables_in, tables_of}
+use Rattle.maps.specs.Kinds.{read_maps, tables_in, tables_of, volume_read}
 use Rattle.maps.specs.Written.{kind_in_range}
 use Rattle.fields.proofs.Tests.{fails, holds}
 use Rattle.maps.proofs.Tables.{few-tables}
@@ -26,94 +28,69 @@ use Rattle.model.specs.Examine.{Setting, volume, is_once, size_in, write_once, g
 use Rattle.model.specs.Once.{next_on, held_fits, once_verdict}
 use Rattle.model.proofs.Basics.{by-eq, and-false, and-false-left, or_left}
 use Rattle.model.proofs.Verdicts.{Examined as Told, examined-tells}
-use Rattle.examine.specs.declared.Examined.{Examined}
-use Rattle.examine.specs.Ground.{placed_of, spanned, handed_on, examined_of, JudgedOnce}
+use Rattle.examine.specs.Ground.{placed_of, spanned, examined_of, JudgedOnce}
 
--- ---- the first n elements of a list, from place i on
+-- ---- entries below NWA
 
-module _ (n i : ℕ) (l : List ℕ) where
-  -- what is left of them, while there is one
-  left-next : i < n → i < length l → take (n - i) (drop i l) ≡ get_or l i 0 ∷ take (n - (i + 1)) (drop (i + 1) l)
-  left-next h k =
-      let e : n - i ≡ suc (n - (i + 1)) = omega arith in
-      rw (e, add-one, drop-cons l i 0 k)
-
-  -- and at the end
-  left-none : n ≤ i → take (n - i) (drop i l) ≡ []
-  left-none h = let e : n - i ≡ 0 = omega arith in rw e
-
--- from place 0 on it is all of them
-left-all : (n : ℕ) (l : List ℕ) → take (n - 0) (drop 0 l) ≡ take n l
-left-all n l = let e : n - 0 ≡ n = omega arith in rw e
-
--- ---- the packets of the table sectors, from place i on
-
--- from place 0 on it is all of them
-pub outside-all : (g : Geometry) (n : ℕ) (l : List ℕ) → all_outside g (take (n - 0) (drop 0 l)) ≡ all_outside g (take n l)
-outside-all g n l = ap (all_outside g) (left-all n l)
-
-module _ (g : Geometry) (n i : ℕ) (l : List ℕ) where
-  -- one that is not outside (m is the sector that a translation gave)
-  pub outside-stop : {m : ℕ} → i < n → i < length l → m ≡ get_or l i 0 → outside g m ≡ false → false ≡ all_outside g (take (n - i) (drop i l))
-  unfolding all_outside
-  outside-stop h k q e = let o = ap (outside g) (sym q) ∙ e in sym (ap (all_outside g) (left-next n i l h k) ∙ rw o)
-
-  -- one that is
-  pub outside-next : {m : ℕ} → i < n → i < length l → m ≡ get_or l i 0 → outside g m ≡ true → all_outside g (take (n - (i + 1)) (drop (i + 1) l)) ≡ all_outside g (take (n - i) (drop i l))
-  unfolding all_outside
-  outside-next h k q e = let o = ap (outside g) (sym q) ∙ e in sym (ap (all_outside g) (left-next n i l h k) ∙ rw o)
-
-  -- none is left
-  pub outside-none : n ≤ i → true ≡ all_outside g (take (n - i) (drop i l))
-  unfolding all_outside
-  outside-none h = sym (ap (all_outside g) (left-none n i l h))
-
--- ---- entries below NWA: what was found, and those from place i on
-
--- from place 0 on it is all of them
-pub below_all : (k n : ℕ) (l : List ℕ) → true && all_below k (take (n - 0) (drop 0 l)) ≡ all_below k (take n l)
-below_all k n l = ap (all_below k) (left-all n l)
-
-module _ (k n i : ℕ) (l : List ℕ) (all all' : Bool) {whole : Bool} (w : all && all_below k (take (n - i) (drop i l)) ≡ whole) where
-  module _ (h : i < n) (p : i < length l) where
-    -- the first that is left, and those after it
-    below_one : all && (below_or_none k (get_or l i 0) && all_below k (take (n - (i + 1)) (drop (i + 1) l))) ≡ whole
-    unfolding all_below
-    below_one = sym (ap (λ (t : List ℕ). all && all_below k t) (left-next n i l h p)) ∙ w
-
-    -- one that is used and not below
-    pub below-stop : (get_or l i 0 ≡ 0xffffffff → ⊥) → k ≤ get_or l i 0 → all' ≡ false → all' && all_below k (take (n - (i + 1)) (drop (i + 1) l)) ≡ whole
-    unfolding below_or_none none
-    below-stop u q f =
-        let a = ne_eqb (get_or l i 0) 0xffffffff u in
-        let b = le-ltb (get_or l i 0) k q in
-        let x : below_or_none k (get_or l i 0) ≡ false = rw (a, b) in
-        and-false-left _ f ∙ sym (and-false all (and-false-left _ x)) ∙ below_one
-
-    -- one of which that is known
-    below-go : below_or_none k (get_or l i 0) ≡ true → all' ≡ all → all' && all_below k (take (n - (i + 1)) (drop (i + 1) l)) ≡ whole
-    below-go e f =
-        ap (λ (b : Bool). b && all_below k (take (n - (i + 1)) (drop (i + 1) l))) f
-        ∙ sym (ap (λ (b : Bool). all && (b && all_below k (take (n - (i + 1)) (drop (i + 1) l)))) e)
-        ∙ below_one
-
-    -- one that is unused or below
-    pub below-past : ((get_or l i 0 ≡ 0xffffffff → ⊥) → get_or l i 0 < k) → all' ≡ all → all' && all_below k (take (n - (i + 1)) (drop (i + 1) l)) ≡ whole
-    unfolding below_or_none none
-    below-past q =
-        by-eq (get_or l i 0) 0xffffffff
-        (λ e. below-go (or_left _ (eq-eqb (get_or l i 0) 0xffffffff e)))
-        (λ u.
-        let a = ne_eqb (get_or l i 0) 0xffffffff u in
-        let b = lt-ltb (get_or l i 0) k (q u) in
-        below-go (rw (a, b)))
-
--- none is left
-pub below_none : (k n i : ℕ) (l : List ℕ) (all : Bool) {whole : Bool} → all && all_below k (take (n - i) (drop i l)) ≡ whole → n ≤ i → all ≡ whole
+-- entries, and one more
+below-append : (k : ℕ) (l : List ℕ) (e : ℕ) → all_below k (l ++ e ∷ []) ≡ all_below k l && below_or_none k e
 unfolding all_below
-below_none k n i l all w h = sym (and-true all) ∙ sym (ap (λ (t : List ℕ). all && all_below k t) (left-none n i l h)) ∙ w
+below-append k [] e = and-true _
+below-append k (x ∷ l) e = ap (λ (b : Bool). below_or_none k x && b) (below-append k l e) ∙ sym (and_assoc (below_or_none k x) _ _)
+
+-- the entries up to i, and the one at i
+pub below-next : (k i : ℕ) (l : List ℕ) → i < length l → all_below k (take (i + 1) l) ≡ all_below k (take i l) && below_or_none k (get_or l i 0)
+below-next k i l h = ap (all_below k) (take_more l i 0 h) ∙ below-append k (take i l) (get_or l i 0)
+
+-- none are
+pub below-none : (k : ℕ) → true ≡ all_below k []
+unfolding all_below
+below-none k = refl
+
+-- one more is found above NWA, and one is not
+module _ (k i : ℕ) (l : List ℕ) (over : ℕ) (h : i < length l) (inv : eqb over 0 ≡ all_below k (take i l)) where
+  -- one that is used and not below
+  pub below-stop : {over' : ℕ} → over' ≡ over + 1 → (get_or l i 0 ≡ 0xffffffff → ⊥) → k ≤ get_or l i 0 → eqb over' 0 ≡ all_below k (take (i + 1) l)
+  unfolding below_or_none none
+  below-stop {over'} o u q =
+      let a = ne_eqb (get_or l i 0) 0xffffffff u in
+      let b = le-ltb (get_or l i 0) k q in
+      let x : below_or_none k (get_or l i 0) ≡ false = rw (a, b) in
+      ne_eqb over' 0 (omega arith) ∙ sym (below-next k i l h ∙ and-false (all_below k (take i l)) x)
+
+  -- one that is unused or below
+  pub below-past : ((get_or l i 0 ≡ 0xffffffff → ⊥) → get_or l i 0 < k) → eqb over 0 ≡ all_below k (take (i + 1) l)
+  unfolding below_or_none none
+  below-past q =
+      let x : below_or_none k (get_or l i 0) ≡ true =
+      by-eq (get_or l i 0) 0xffffffff
+      (λ e. or_left _ (eq-eqb (get_or l i 0) 0xffffffff e))
+      (λ u. let a = ne_eqb (get_or l i 0) 0xffffffff u in let b = lt-ltb (get_or l i 0) k (q u) in rw (a, b)) in
+      inv ∙ sym (below-next k i l h ∙ ap (λ (b : Bool). all_below k (take i l) && b) x ∙ and-true _)
 
 -- ---- line 6 on a rewritable disc
+
+-- tables, and one more
+outside-append : (g : Geometry) (l : List ℕ) (m : ℕ) → all_outside g (l ++ m ∷ []) ≡ all_outside g l && outside g m
+unfolding all_outside
+outside-append g [] m = and-true _
+outside-append g (x ∷ l) m = ap (λ (b : Bool). outside g x && b) (outside-append g l m) ∙ sym (and_assoc (outside g x) _ _)
+
+-- none are
+pub outside-none : (g : Geometry) → all_outside g [] ≡ true
+unfolding all_outside
+outside-none g = refl
+
+-- those before i are outside the partition, and so is the one at i
+pub outside-next : (g : Geometry) (i : ℕ) (l : List ℕ) → i < length l → all_outside g (take i l) ≡ true → outside g (get_or l i 0) ≡ true → all_outside g (take (i + 1) l) ≡ true
+outside-next g i l h all one = ap (all_outside g) (take_more l i 0 h) ∙ outside-append g (take i l) (get_or l i 0) ∙ rw (all, one)
+
+-- one is not
+pub outside-stop : (g : Geometry) (i : ℕ) (l : List ℕ) → i < length l → outside g (get_or l i 0) ≡ false → false ≡ all_outside g l
+unfolding all_outside
+outside-stop g i [] h q = absurd (omega arith)
+outside-stop g zero (x ∷ l) h q = sym (and-false-left _ q)
+outside-stop g (suc i) (x ∷ l) h q = sym (and-false (outside g x) (sym (outside-stop g i l (omega arith) q)))
 
 module _ (g : Geometry) where
   -- S is no multiple of 32
@@ -193,177 +170,180 @@ unfolding kind_in_range
 few-in {n = n} {size = size} h is = few-tables n size (sym (ap kind_in_range is) ∙ h)
 
 -- the kind of a list that is read is in range
-pub read-in : (s : List ℕ) {r : MapsRead} → r ≡ read_maps s → r.verdict ≡ Go → kind_in_range r.volume.kind ≡ true
-read-in s q h = ap (λ (m : MapsRead). kind_in_range m.volume.kind) q ∙ (read-fine s (sym (ap (λ (m : MapsRead). m.verdict) q) ∙ h)).kinds
+pub read-in : (s : List ℕ) {r : Result Volume Refusal} → r ≡ read_maps s → {v : Volume} → r ≡ Ok v → kind_in_range v.kind ≡ true
+unfolding volume_read
+read-in s q h =
+    let m = sym q ∙ h in
+    sym (ap (λ (x : Result Volume Refusal). kind_in_range (volume_read x).kind) m) ∙ (read-fine s (ap verdict_of m)).kinds
 
 -- ---- lines 1 to 6
 
 module _ (e : Setting) (d : Disc) (lent : Bool) where
   -- a verdict that stops the call, as it is answered
-  answer-stop : {why : Refusal} → examined e d lent ≡ Stop why → handed_on (Stop why) no_volume ≡ examined_of e d lent
-  unfolding handed_on examined_of
-  answer-stop h = sym (ap (λ (v : Verdict). handed_on v (spanned (volume e) e.start e.span)) h)
-
-  -- and one that lets it go on
-  answer-go : {r : MapsRead} → r ≡ read_maps e.maps → examined e d lent ≡ Go → record { verdict = Go; volume = spanned r.volume e.start e.span } ≡ examined_of e d lent
-  unfolding handed_on examined_of volume
-  answer-go q h =
-      ap (λ (m : MapsRead). handed_on Go (spanned m.volume e.start e.span)) q
-      ∙ sym (ap (λ (v : Verdict). handed_on v (spanned (volume e) e.start e.span)) h)
+  answer-stop : {why : Refusal} → examined e d lent ≡ Err why → Err why ≡ examined_of e d lent
+  unfolding examined_of
+  answer-stop h = sym (answered-same (spanned (volume e) e.start e.span) h)
 
   -- line 1
-  pub examine-shape : shapely d ≡ false → handed_on (Stop DiscShape) no_volume ≡ examined_of e d lent
+  pub examine-shape : shapely d ≡ false → Err DiscShape ≡ examined_of e d lent
   unfolding examined shape_tests need
   examine-shape h = answer-stop (rw h)
 
   module _ (a : shapely d ≡ true) where
     -- line 2
-    pub examine-span : inside d e.start e.span ≡ false → handed_on (Stop SpanOutside) no_volume ≡ examined_of e d lent
+    pub examine-span : inside d e.start e.span ≡ false → Err SpanOutside ≡ examined_of e d lent
     unfolding examined shape_tests need
     examine-span h = answer-stop (rw (a, h))
 
     module _ (b : inside d e.start e.span ≡ true) where
       -- line 3
-      pub examine-lent : lent ≡ false → handed_on (Stop LentLength) no_volume ≡ examined_of e d lent
+      pub examine-lent : lent ≡ false → Err LentLength ≡ examined_of e d lent
       unfolding examined shape_tests need
       examine-lent h = answer-stop (rw (a, b, h))
 
-      module _ (c : lent ≡ true) {r : MapsRead} (q : r ≡ read_maps e.maps) where
-        -- the verdict of reading the map list
-        read-verdict : (read_maps e.maps).verdict ≡ r.verdict
-        read-verdict = sym (ap (λ (m : MapsRead). m.verdict) q)
-
+      module _ (c : lent ≡ true) {r : Result Volume Refusal} (q : r ≡ read_maps e.maps) where
         -- lines 4 and 5, and of 6 what the map list shows
-        pub examine-maps : {why : Refusal} → r.verdict ≡ Stop why → handed_on (Stop why) no_volume ≡ examined_of e d lent
+        pub examine-maps : {why : Refusal} → r ≡ Err why → Err why ≡ examined_of e d lent
         unfolding examined shape_tests need
-        examine-maps h = let m = read-verdict ∙ h in answer-stop (rw (a, b, c, m))
+        examine-maps h = let m = sym q ∙ h in answer-stop (rw (a, b, c, m))
 
-        module _ (h : r.verdict ≡ Go) {x : Bool} (g : x ≡ placed_of e.start e.span (length d.marks) r.volume.kind r.volume.tables) where
-          -- line 6 from the volume as it was read
+        module _ {v : Volume} (h : r ≡ Ok v) {x : Bool} (g : x ≡ placed_of e.start e.span (length d.marks) v.kind v.tables) where
+          -- the volume that was read
+          read : volume e ≡ v
+          unfolding volume volume_read
+          read = ap volume_read (sym q ∙ h)
+
+          -- line 6 from it
           place : cond (write_once e) true (aligned (geometry e d)) ≡ x
-          unfolding write_once geometry tables_of volume
-          place =
-              sym (ap (λ (m : MapsRead). placed_of e.start e.span (length d.marks) m.volume.kind m.volume.tables) q)
-              ∙ sym g
+          unfolding write_once geometry tables_of
+          place = ap (λ (w : Volume). placed_of e.start e.span (length d.marks) w.kind w.tables) read ∙ sym g
 
           -- which decides, where the lines before it let the call go on
           place-decides : examined e d lent ≡ first (test x Misaligned ∷ [])
           unfolding examined shape_tests place_tests need
-          place-decides = let m = read-verdict ∙ h in rw (a, b, c, m, place)
+          place-decides = let m = sym q ∙ h in rw (a, b, c, m, place)
 
           -- the rest of line 6
-          pub examine-misaligned : x ≡ false → handed_on (Stop Misaligned) no_volume ≡ examined_of e d lent
+          pub examine-misaligned : x ≡ false → Err Misaligned ≡ examined_of e d lent
           unfolding need
           examine-misaligned f = answer-stop (place-decides ∙ rw f)
 
           -- none of the lines
-          pub examine-placed : x ≡ true → record { verdict = Go; volume = spanned r.volume e.start e.span } ≡ examined_of e d lent
-          unfolding need
-          examine-placed f = answer-go q (place-decides ∙ rw f)
+          pub examine-placed : x ≡ true → Ok (spanned v e.start e.span) ≡ examined_of e d lent
+          unfolding examined_of need
+          examine-placed f =
+              ap (λ (w : Volume). Ok (spanned w e.start e.span)) (sym read)
+              ∙ sym (answered-same {y = Ok tt} (spanned (volume e) e.start e.span) (place-decides ∙ rw f))
 
 -- ---- what an answer of the examination tells
 
 -- an answer's verdict is the verdict
-handed-verdict : (v : Verdict) (w : Volume) → (handed_on v w).verdict ≡ v
-unfolding handed_on
-handed-verdict Go w = refl
-handed-verdict (Stop why) w = refl
+pub answered-verdict : {A : Type 0} (v : Verdict) (w : A) → verdict_of (answered v w) ≡ v
+answered-verdict (Ok _) w = refl
+answered-verdict (Err why) w = refl
 
-module _ (e : Setting) (d : Disc) (lent : Bool) {r : Examined} (q : r ≡ examined_of e d lent) where
+module _ (e : Setting) (d : Disc) (lent : Bool) {r : Result Volume Refusal} (q : r ≡ examined_of e d lent) where
   -- the verdict is that of lines 1 to 6
-  pub seen-verdict : examined e d lent ≡ r.verdict
+  pub seen-verdict : examined e d lent ≡ verdict_of r
   unfolding examined_of
-  seen-verdict = sym (ap (λ (x : Examined). x.verdict) q ∙ handed-verdict (examined e d lent) _)
+  seen-verdict = sym (ap verdict_of q ∙ answered-verdict (examined e d lent) _)
 
-  -- what lines 1 to 6 tell of a call that goes on
-  pub seen-tells : r.verdict ≡ Go → Told e d lent
-  seen-tells h = examined-tells e d lent (seen-verdict ∙ h)
+  -- where they stop the call
+  pub seen-stops : {why : Refusal} → r ≡ Err why → examined e d lent ≡ Err why
+  seen-stops h = seen-verdict ∙ ap verdict_of h
 
-  -- the volume of a call that goes on is the map list's, with its span
-  pub seen-volume : r.verdict ≡ Go → r.volume ≡ spanned (volume e) e.start e.span
-  unfolding examined_of handed_on
-  seen-volume h =
-      ap (λ (x : Examined). x.volume) q
-      ∙ ap (λ (v : Verdict). (handed_on v (spanned (volume e) e.start e.span)).volume) (seen-verdict ∙ h)
+  module _ {v : Volume} (h : r ≡ Ok v) where
+    -- where they let it go on
+    pub seen-goes : examined e d lent ≡ Ok tt
+    seen-goes = seen-verdict ∙ ap verdict_of h
 
-  -- its kind is the map list's
-  seen-kind : r.verdict ≡ Go → (volume e).kind ≡ r.volume.kind
-  seen-kind h = sym (ap (λ (v : Volume). v.kind) (seen-volume h))
+    -- what they tell then
+    pub seen-tells : Told e d lent
+    seen-tells = examined-tells e d lent seen-goes
 
-  -- a write-once volume
-  pub seen-once : {p : ℕ} → r.verdict ≡ Go → r.volume.kind ≡ WriteOnce p → write_once e ≡ true
-  unfolding write_once is_once
-  seen-once h is = ap is_once (seen-kind h ∙ is)
+    -- the volume is the map list's, with its span
+    handed : spanned (volume e) e.start e.span ≡ v
+    unfolding examined_of
+    handed = (given (examined e d lent) (sym q ∙ h)).1
 
-  -- a rewritable one
-  pub seen-rewritable : {p n size : ℕ} → r.verdict ≡ Go → r.volume.kind ≡ Rewritable p n size → write_once e ≡ false
-  unfolding write_once is_once
-  seen-rewritable h is = ap is_once (seen-kind h ∙ is)
+    pub seen-volume : v ≡ spanned (volume e) e.start e.span
+    seen-volume = sym handed
 
-  -- which has at most four tables
-  pub seen_few : {p n size : ℕ} → r.verdict ≡ Go → r.volume.kind ≡ Rewritable p n size → n ≤ 4
-  unfolding volume
-  seen_few h is = few-in (read-in e.maps refl (seen-tells h).maps) (seen-kind h ∙ is)
+    -- its kind is the map list's
+    seen-kind : (volume e).kind ≡ v.kind
+    seen-kind = ap (λ (w : Volume). w.kind) handed
 
-  -- and what it lies in
-  pub seen-geometry : {p n size : ℕ} → r.verdict ≡ Go → r.volume.kind ≡ Rewritable p n size → geometry e d ≡ ground_of e.start e.span (length d.marks) (take n r.volume.tables) size
-  unfolding geometry tables_of tables_in size_in
-  seen-geometry {p} {n} {size} h is =
-      ap (λ (k : Kind). ground_of e.start e.span (length d.marks) (tables_in k (volume e).tables) (size_in k)) (seen-kind h ∙ is)
-      ∙ sym (ap (λ (v : Volume). ground_of e.start e.span (length d.marks) (take n v.tables) size) (seen-volume h))
+    -- a write-once volume
+    pub seen-once : {p : ℕ} → v.kind ≡ WriteOnce p → write_once e ≡ true
+    unfolding write_once is_once
+    seen-once is = ap is_once (seen-kind ∙ is)
+
+    module _ {p n size : ℕ} (is : v.kind ≡ Rewritable p n size) where
+      -- a rewritable one
+      pub seen-rewritable : write_once e ≡ false
+      unfolding write_once is_once
+      seen-rewritable = ap is_once (seen-kind ∙ is)
+
+      -- which has at most four tables
+      pub seen_few : n ≤ 4
+      unfolding volume
+      seen_few = few-in (read-fine e.maps seen-tells.maps).kinds (seen-kind ∙ is)
+
+      -- and what it lies in
+      pub seen-geometry : geometry e d ≡ ground_of e.start e.span (length d.marks) (take n v.tables) size
+      unfolding geometry tables_of tables_in size_in
+      seen-geometry =
+          ap (λ (k : Kind). ground_of e.start e.span (length d.marks) (tables_in k (volume e).tables) (size_in k)) (seen-kind ∙ is)
+          ∙ ap (λ (w : Volume). ground_of e.start e.span (length d.marks) (take n w.tables) size) handed
 
 -- ---- lines 1 to 7 and 11 of the calls on a write-once disc
 
 module _ (e : Setting) (d : Disc) (t : List ℕ) (lent : Bool) (held : Record) where
-  module _ {r : Examined} (q : r ≡ examined_of e d lent) where
+  module _ {r : Result Volume Refusal} (q : r ≡ examined_of e d lent) where
     -- lines 1 to 6
-    pub once-examined : {why : Refusal} → r.verdict ≡ Stop why → Stop why ≡ once_verdict e d t lent held []
+    pub once-examined : {why : Refusal} → r ≡ Err why → Err why ≡ once_verdict e d t lent held []
     unfolding once_verdict
-    once-examined h = let v = seen-verdict e d lent q ∙ h in rw v
+    once-examined h = let v = seen-stops e d lent q h in rw v
 
-    module _ (h : r.verdict ≡ Go) where
+    module _ {v : Volume} (h : r ≡ Ok v) where
       -- line 7
-      pub once-other : {p n size : ℕ} → r.volume.kind ≡ Rewritable p n size → Stop OtherKind ≡ once_verdict e d t lent held []
+      pub once-other : {p n size : ℕ} → v.kind ≡ Rewritable p n size → Err OtherKind ≡ once_verdict e d t lent held []
       unfolding once_verdict need
       once-other is =
-          let v = seen-verdict e d lent q ∙ h in
+          let go = seen-goes e d lent q h in
           let w = seen-rewritable e d lent q h is in
-          rw (v, w)
+          rw (go, w)
 
-      -- line 11
-      pub once-stale : {p : ℕ} → r.volume.kind ≡ WriteOnce p → {x : Bool} → x ≡ held_fits e d t held → x ≡ false → Stop StaleRecord ≡ once_verdict e d t lent held []
-      unfolding once_verdict need
-      once-stale is f x =
-          let v = seen-verdict e d lent q ∙ h in
-          let w = seen-once e d lent q h is in
-          let k = sym f ∙ x in
-          rw (v, w, k)
+      module _ {p : ℕ} (is : v.kind ≡ WriteOnce p) {x : Bool} (f : x ≡ held_fits e d t held) where
+        -- line 11
+        pub once-stale : x ≡ false → Err StaleRecord ≡ once_verdict e d t lent held []
+        unfolding once_verdict need
+        once-stale n =
+            let go = seen-goes e d lent q h in
+            let w = seen-once e d lent q h is in
+            let k = sym f ∙ n in
+            rw (go, w, k)
 
-      -- none of the lines
-      pub once-fits : {p : ℕ} → r.volume.kind ≡ WriteOnce p → {x : Bool} → x ≡ held_fits e d t held → x ≡ true → Go ≡ once_verdict e d t lent held []
-      unfolding once_verdict need
-      once-fits is f x =
-          let v = seen-verdict e d lent q ∙ h in
-          let w = seen-once e d lent q h is in
-          let k = sym f ∙ x in
-          rw (v, w, k)
-
-      -- and then the span of the volume is the one given
-      pub once-judged : {x : Examined} → x.verdict ≡ Go → x.volume ≡ r.volume → Go ≡ once_verdict e d t lent held [] → JudgedOnce e d t lent held x
-      once-judged go same says =
-          let v = same ∙ seen-volume e d lent q h in
-          record {
-            verdict = go ∙ says;
-            start = λ _. ap (λ (w : Volume). w.span.start) v;
-            length = λ _. ap (λ (w : Volume). w.span.length) v;
-          }
+        -- none of the lines, and then the span of the volume is the one given
+        pub once-judged : x ≡ true → JudgedOnce e d t lent held (Ok v)
+        unfolding once_verdict need
+        once-judged y =
+            let go = seen-goes e d lent q h in
+            let w = seen-once e d lent q h is in
+            let k = sym f ∙ y in
+            let same = seen-volume e d lent q h in
+            record {
+              verdict = rw (go, w, k);
+              start = ap (λ (u : Volume). u.span.start) same;
+              length = ap (λ (u : Volume). u.span.length) same;
+            }
 
   -- a call that is turned down has no span
-  pub once-stopped : {x : Examined} {why : Refusal} → x ≡ handed_on (Stop why) no_volume → Stop why ≡ once_verdict e d t lent held [] → JudgedOnce e d t lent held x
-  once-stopped q says =
-      let stop = ap (λ (y : Examined). y.verdict) q ∙ handed-verdict (Stop _) no_volume in
+  pub once-stopped : {x : Result Volume Refusal} {why : Refusal} → x ≡ Err why → Err why ≡ once_verdict e d t lent held [] → JudgedOnce e d t lent held x
+  once-stopped {x} q says =
+      let stop : IsErr x = rw q in
       record {
-        verdict = stop ∙ says;
-        start = λ go. stop-go stop go;
-        length = λ go. stop-go stop go;
+        verdict = ap verdict_of q ∙ says;
+        start = IfOk-from_err x _ stop;
+        length = IfOk-from_err x _ stop;
       }

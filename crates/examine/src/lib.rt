@@ -1,34 +1,25 @@
 // What every call on a disc examines first: lines 1 to 6 of document 01, "Why a call is turned down", once
 // for all calls of both kinds; and lines 7 and 11 of the calls on a write-once disc.
-// The calls above match the verdict, and go on with the volume and their own tests.
+// The calls above go on with the volume, by `?`, and with their own tests.
 // All functions here are inside the layers: where one has a `requires`, the callers have tested it.
 #![tactic(auto)]
 
 ghost use Rattle.std.specs.Prelude.{◌≡◌, ℕ, ◌+◌, ◌%◌, ◌<◌, ◌≤◌, true, ◌&&◌, List, [], length, take, ◌==◌};
-ghost use Rattle.refusal.specs.declared.Verdict;
-ghost use Rattle.maps.specs.Kinds.{no_volume};
 ghost use Rattle.maps.specs.Written.{kind_in_range};
 ghost use Rattle.model.specs.Disc.{disc as disc_of};
 ghost use Rattle.model.specs.Sparing.{ground_of};
 ghost use Rattle.model.specs.Vat.{all_below};
 ghost use Rattle.model.specs.Examine.{setting, all_outside, aligned, lent_table};
 ghost use Rattle.model.specs.Once.{entries_held, next_held, last_held, held_fits};
-ghost use Rattle.examine.specs.Ground.{placed_of, handed_on, examined_of, JudgedOnce};
+ghost use Rattle.examine.specs.Ground.{placed_of, examined_of, JudgedOnce};
 
 use address::{LogicalAddress, MediaBlockAddress, Span};
 use maps::{Kind, PACKET, Volume};
 use model::{MOST_ENTRIES, Record};
-use refusal::{Refusal, Verdict};
+use refusal::Refusal;
 
 // The entries that a lent table has at least.
 const TABLE: usize = MOST_ENTRIES as usize;
-
-// A verdict, and where it says Go the volume with its span.
-#[derive(Clone, Copy)]
-pub struct Examined {
-    pub verdict: Verdict,
-    pub volume: Volume,
-}
 
 // Line 3 of a call that is lent a table: whether it is long enough.
 pub fn is_lent(table: &[u32]) -> bool
@@ -54,15 +45,8 @@ pub fn entries_held(held: Record) -> u32
     ensures { result ≡ entries_held held }
 {
     match held {
-        Record::WriteOnce {
-            entries,
-            next: _,
-            last: _,
-        } => entries,
-        Record::Rewritable {
-            entries: _,
-            sequence: _,
-        } => 0,
+        Record::WriteOnce { entries, .. } => entries,
+        Record::Rewritable { .. } => 0,
     }
 }
 
@@ -71,15 +55,8 @@ pub fn next_held(held: Record) -> LogicalAddress
     ensures { result.0 ≡ next_held held }
 {
     match held {
-        Record::WriteOnce {
-            entries: _,
-            next,
-            last: _,
-        } => LogicalAddress(next),
-        Record::Rewritable {
-            entries: _,
-            sequence: _,
-        } => LogicalAddress(0),
+        Record::WriteOnce { next, .. } => LogicalAddress(next),
+        Record::Rewritable { .. } => LogicalAddress(0),
     }
 }
 
@@ -88,15 +65,8 @@ pub fn last_held(held: Record) -> LogicalAddress
     ensures { result.0 ≡ last_held held }
 {
     match held {
-        Record::WriteOnce {
-            entries: _,
-            next: _,
-            last,
-        } => LogicalAddress(last),
-        Record::Rewritable {
-            entries: _,
-            sequence: _,
-        } => LogicalAddress(0),
+        Record::WriteOnce { last, .. } => LogicalAddress(last),
+        Record::Rewritable { .. } => LogicalAddress(0),
     }
 }
 
@@ -107,13 +77,11 @@ fn are_outside(sectors: usize, s: u32, l: u32, tables: [u32; 4], n: u8) -> bool
     requires { n ≤ 4 }
     ensures { result ≡ all_outside (ground_of s l sectors [] 0) (take n tables) }
 {
-    let mut i: usize = 0;
-    while i < n as usize {
-        let table = address::media_to_physical(MediaBlockAddress(tables[i]));
-        if !model::is_outside(sectors, s, l, table) {
+    for table in &tables[..usize::from(n)] {
+        let at = address::media_to_physical(MediaBlockAddress(*table));
+        if !model::is_outside(sectors, s, l, at) {
             return false;
         }
-        i += 1;
     }
     true
 }
@@ -138,66 +106,51 @@ fn is_placed(sectors: usize, s: u32, l: u32, kind: Kind, tables: [u32; 4]) -> bo
     ensures { result ≡ placed_of s l sectors kind tables }
 {
     match kind {
-        Kind::WriteOnce { partition: _ } => true,
-        Kind::Rewritable {
-            partition: _,
-            tables: n,
-            size: _,
-        } => is_aligned(sectors, s, l, tables, n),
-    }
-}
-
-// A call that is turned down.
-fn stopped(why: Refusal) -> Examined
-    ensures { result ≡ handed_on (Verdict.Stop why) no_volume }
-{
-    Examined {
-        verdict: Verdict::Stop(why),
-        volume: maps::no_volume(),
+        Kind::WriteOnce { .. } => true,
+        Kind::Rewritable { tables: n, .. } => is_aligned(sectors, s, l, tables, n),
     }
 }
 
 // Lines 1 to 6; `lent` says whether the other lent slices have their lengths.
-pub fn examine(disc: &[u8], marks: &[u8], maps: &[u8], s: u32, l: u32, lent: bool) -> Examined
+pub fn examine(
+    disc: &[u8],
+    marks: &[u8],
+    maps: &[u8],
+    s: u32,
+    l: u32,
+    lent: bool,
+) -> Result<Volume, Refusal>
     ensures { result ≡ examined_of (setting maps.now s l) (disc_of disc.now marks.now) lent }
 {
     let shapely = disc_marks::is_shapely(disc, marks);
     let inside = disc_marks::is_inside(marks, s, l);
     if !shapely {
-        return stopped(Refusal::DiscShape);
+        return Err(Refusal::DiscShape);
     }
     if !inside {
-        return stopped(Refusal::SpanOutside);
+        return Err(Refusal::SpanOutside);
     }
     if !lent {
-        return stopped(Refusal::LentLength);
+        return Err(Refusal::LentLength);
     }
-    let read = maps::read_maps(maps);
-    let verdict = read.verdict;
-    if let Verdict::Stop(why) = verdict {
-        return stopped(why);
-    }
-    let found = read.volume;
+    let found = maps::read_maps(maps)?;
     let kind = found.kind;
     let tables = found.tables;
     if !is_placed(marks.len(), s, l, kind, tables) {
-        return stopped(Refusal::Misaligned);
+        return Err(Refusal::Misaligned);
     }
     let span = Span {
         start: s,
         length: l,
     };
-    Examined {
-        verdict: Verdict::Go,
-        volume: Volume { span, kind, tables },
-    }
+    Ok(Volume { span, kind, tables })
 }
 
 // One more than an entry, in 32 bits: 0 if it is unused.
 fn one_past(entry: u32) -> u32
     ensures { (entry < 4294967296) × (result ≡ (entry + 1) % 4294967296) }
 {
-    std::num::wrapping_add_u32(entry, 1)
+    entry.wrapping_add(1)
 }
 
 // Whether each of the first n entries is unused or below NWA: one past it is at most NWA. It counts those that
@@ -208,13 +161,10 @@ fn are_below(table: &[u32], n: u32, next: LogicalAddress) -> bool
 {
     let next = next.0;
     let mut over: u32 = 0;
-    let mut i: usize = 0;
-    while i < n as usize {
-        let past = one_past(table[i]);
-        if next < past {
+    for entry in &table[..n as usize] {
+        if next < one_past(*entry) {
             over += 1;
         }
-        i += 1;
     }
     over == 0
 }
@@ -243,10 +193,7 @@ fn is_held(marks: &[u8], s: u32, l: u32, table: &[u32], held: Record) -> bool
             }
             are_below(table, entries, LogicalAddress(next))
         }
-        Record::Rewritable {
-            entries: _,
-            sequence: _,
-        } => false,
+        Record::Rewritable { .. } => false,
     }
 }
 
@@ -261,30 +208,16 @@ pub fn judge_once(
     table: &[u32],
     lent: bool,
     held: Record,
-) -> Examined
+) -> Result<Volume, Refusal>
     requires { lent ≡ true → 4096 ≤ length table.now }
     ensures { JudgedOnce (setting maps.now s l) (disc_of disc.now marks.now) table.now lent held result }
 {
-    let seen = examine(disc, marks, maps, s, l, lent);
-    let verdict = seen.verdict;
-    if let Verdict::Stop(why) = verdict {
-        return stopped(why);
-    }
-    let volume = seen.volume;
-    let kind = volume.kind;
-    if let Kind::Rewritable {
-        partition: _,
-        tables: _,
-        size: _,
-    } = kind
-    {
-        return stopped(Refusal::OtherKind);
+    let volume = examine(disc, marks, maps, s, l, lent)?;
+    if let Kind::Rewritable { .. } = volume.kind {
+        return Err(Refusal::OtherKind);
     }
     if !is_held(marks, s, l, table, held) {
-        return stopped(Refusal::StaleRecord);
+        return Err(Refusal::StaleRecord);
     }
-    Examined {
-        verdict: Verdict::Go,
-        volume,
-    }
+    Ok(volume)
 }

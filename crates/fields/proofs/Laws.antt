@@ -3,15 +3,22 @@ use Prim.Native.Nat.{ℕ, zero, suc, ◌+◌, ◌-◌, ◌*◌, ◌/◌, ◌%◌
 use mathlib.Core.Path.{◌≡◌, refl, sym, ap, ◌∙◌}
 use mathlib.Core.Bool.{Bool, true, false, false≢true, and-eq-true_iff}
 use mathlib.Core.Logic.{◌⊎◌, ⊎_elim}
-use mathlib.Core.List.{List, [], ◌∷◌, ◌++◌, append_assoc, append-nil}
+use mathlib.Core.List.{List, [], ◌∷◌, ◌++◌, append_assoc}
 use native.Mathlib.Omega.{arith}
 use native.Mathlib.Numerals.{add-one}
 use native.Mathlib.Nat.{add-zero, zero-add, suc-add, pow-suc}
 use lib.Dec.{eqb}
 use lib.ListN.{length, take, drop, set, get_or, replicate, length-append, length-take, length-drop, length-set, take-append-drop}
-use lib.Seq.{drop-cons, drop-append-le, take-nil, length-take-le, take-append-le, drop-append-add, drop-drop, take-take, take-add, take_at, drop_at, take-length, take_all, get_or-take, get_or-drop, drop-length, sets, sets-eq, paste, paste-zero, paste-suc, take-suc}
+use lib.Seq.{drop-append-le, take-nil, length-take-le, take-append-le, drop-append-add, drop-drop, take-take, take-add, take_at, drop_at, take-length, take_all, get_or-take, get_or-drop, sets, sets-eq, paste, paste-zero, paste-suc, take-suc}
 use borrow.Author.Tests.{eq-eqb, eqb-true}
+use Rattle.std.proofs.Math.Nat.{mul_comm, div-div-eq-div-mul}
+use Rattle.std.proofs.lemmas.Bool.{false_from_ne_true}
+use Rattle.std.proofs.lemmas.List.{drop-replicate}
+use Rattle.std.specs.Cmp.Lexicographic.{pointwise}
+use Rattle.std.specs.Prelude.{nat_eq, ◌&&◌}
+use Rattle.std.specs.Int.{byte_at, byte_worth, bytes_low_first, sum_through}
 use Rattle.fields.specs.Bytes.{part, splice, same}
+pub use Rattle.fields.specs.Back.{value-digits}
 use Rattle.fields.specs.Number.{value, digits, field}
 use Rattle.fields.specs.Regid.{identifier, regid, has_regid}
 
@@ -36,11 +43,6 @@ get_or-part s at w i h = get_or-take w (drop at s) i 0 h ∙ get_or-drop at s i 
 pub part-all : (s : List ℕ) (w : ℕ) → length s ≤ w → part s 0 w ≡ s
 unfolding part
 part-all s w h = take_all w s h
-
--- a part is its first byte and the part after it
-pub part-next : (s : List ℕ) (at w : ℕ) → at < length s → part s at (suc w) ≡ get_or s at 0 ∷ part s (at + 1) w
-unfolding part
-part-next s at w h = rw (add-one at, drop-cons s at 0 h)
 
 -- a part of the front is a part of the whole, in terms of take and drop
 take-drop-take : (l : List ℕ) (w from v : ℕ) → from + v ≤ w → take v (drop from (take w l)) ≡ take v (drop from l)
@@ -168,11 +170,6 @@ splice-own s at w h =
     ∙ ap (λ (x : List ℕ). take at s ++ x) (take-append-drop w (drop at s))
     ∙ take-append-drop at s
 
--- as many bytes as there are, spliced in from the start, are all there is
-pub splice_all : (s b : List ℕ) → length b ≡ length s → splice s 0 b ≡ b
-unfolding splice
-splice_all s b e = rw (zero-add (length b), e, drop-length s, append-nil b)
-
 -- of two splices in one place the second stays
 pub splice-again : (s : List ℕ) (at : ℕ) (a b : List ℕ) → at + length a ≤ length s → length a ≡ length b → splice (splice s at a) at b ≡ splice s at b
 unfolding splice
@@ -299,14 +296,6 @@ digits-below zero n i = omega arith
 digits-below (suc w) n zero = omega arith
 digits-below (suc w) n (suc i) = digits-below w (n / 256) i
 
--- enough digits of a number have its value
-pub value-digits : (w n : ℕ) → n < 256 ^ w → value (digits w n) ≡ n
-unfolding value digits
-value-digits zero n h = omega arith
-value-digits (suc w) n h =
-    let l : n / 256 < 256 ^ w = omega (arith, pow-suc 256 w) in
-    omega (arith, value-digits w (n / 256) l)
-
 -- the digits of a list's value are the list
 pub digits_value : (b : List ℕ) → AllBytes b → digits (length b) (value b) ≡ b
 unfolding value digits
@@ -370,10 +359,6 @@ field-split s at (suc v) w =
     let above = rw e at (field-split s (at + 1) v w) in
     rw (suc-add v w) (omega (arith, field_next s at (at + 1) (v + w) refl, field_next s at (at + 1) v refl))
 
--- a field of 8 bytes by its halves
-pub field-8 : (s : List ℕ) (at : ℕ) → field s at 8 ≡ field s at 4 + 4294967296 * field s (at + 4) 4
-field-8 s at = field-split s at 4 4
-
 -- a field where the bytes are the same
 pub field-same : (s t : List ℕ) (at from w : ℕ) → part s at w ≡ part t from w → field s at w ≡ field t from w
 unfolding field
@@ -428,16 +413,52 @@ unfolding field
 digits-field s at w a h =
     ap (λ (k : ℕ). digits k (value (part s at w))) (sym (length_part s at w h)) ∙ digits_value (part s at w) (bytes-part s at w a)
 
+-- ---- numbers as std's methods make them
+
+-- the number that the first bytes are
+pub from_le_bytes-field : (k : ℕ) (b : List ℕ) → sum_through (λ i. byte_worth i (get_or b i 0)) k ≡ field b 0 (suc k)
+from_le_bytes-field zero b = omega (arith, field_next b 0 1 0 refl, field-none b 1)
+from_le_bytes-field (suc k) b =
+    let e : suc k + 1 ≡ suc (suc k) = omega arith in
+    let last : field b (suc k) 1 ≡ get_or b (suc k) 0 = omega (arith, field_next b (suc k) (suc k + 1) 0 refl, field-none b (suc k + 1)) in
+    let up : get_or b (suc k) 0 * 256 ^ suc k ≡ 256 ^ suc k * field b (suc k) 1 = rw last (mul_comm (get_or b (suc k) 0) (256 ^ suc k)) in
+    omega (arith, up, from_le_bytes-field k b, rw (zero-add, e) at (field-split b 0 (suc k) 1))
+
+-- byte i of a number
+byte_at-div : (i n : ℕ) → byte_at i n ≡ n / 256 ^ i % 256
+byte_at-div zero n = omega arith
+byte_at-div (suc i) n = refl
+
+-- the bytes of a number, from byte i upward
+pub bytes-digits : (i k n : ℕ) → bytes_low_first i k n ≡ digits k (n / 256 ^ i)
+unfolding digits
+bytes-digits i zero n = refl
+bytes-digits i (suc k) n =
+    let first : byte_at i n ≡ n / 256 ^ i % 256 = byte_at-div i n in
+    let up : 256 ^ i * 256 ≡ 256 ^ suc i = omega (arith, pow-suc 256 i) in
+    let rest : n / 256 ^ suc i ≡ n / 256 ^ i / 256 = sym (rw up at (div-div-eq-div-mul n (256 ^ i) 256)) in
+    rw (first, bytes-digits (suc i) k n, rest) refl
+
+-- a field by the number that its bytes, copied, are
+pub field-copied : (k : ℕ) (s b : List ℕ) (at n : ℕ) → n ≡ suc k → b ≡ take n (drop at s) → sum_through (λ i. byte_worth i (get_or b i 0)) k ≡ field s at (suc k)
+unfolding part
+field-copied k s b at n e h =
+    let p : b ≡ part s at (suc k) = h ∙ ap (λ (j : ℕ). take j (drop at s)) e in
+    let z : at + 0 ≡ at = omega arith in
+    from_le_bytes-field k b
+    ∙ ap (λ (x : List ℕ). field x 0 (suc k)) p
+    ∙ field-part s at (suc k) 0 (suc k) (omega arith)
+    ∙ ap (λ (j : ℕ). field s j (suc k)) z
+
+-- a number's bytes, lent a place of as many and put into it, are spliced in
+pub digits-lent : (w : ℕ) (s b : List ℕ) (at n x : ℕ) → n ≡ w → b ≡ bytes_low_first 0 w x → take at s ++ (b ++ drop n (drop at s)) ≡ splice s at (digits w x)
+digits-lent w s b at n x e h =
+    let z : x / 256 ^ 0 ≡ x = omega arith in
+    let d : b ≡ digits w x = h ∙ rw z at (bytes-digits 0 w x) in
+    let l : length b ≡ n = ap (λ (y : List ℕ). length y) d ∙ length_digits w x ∙ sym e in
+    lent_back s b at n l ∙ ap (λ (y : List ℕ). splice s at y) d
+
 -- ---- rows of stores
-
--- a row of stores from `at` on is a splice
-pub stored : (s : List ℕ) (at : ℕ) (b : List ℕ) → at + length b ≤ length s → sets s at b ≡ splice s at b
-unfolding splice
-stored s at b h = sets-eq b s at h ∙ append_assoc (take at s) b (drop (at + length b) s)
-
--- a row of stores of a number's bytes from `at` on is a splice
-pub stored-digits : (w : ℕ) (s : List ℕ) (at n : ℕ) → at + w ≤ length s → sets s at (digits w n) ≡ splice s at (digits w n)
-stored-digits w s at n h = stored s at (digits w n) (rw (length_digits w n) h)
 
 -- ---- a regid's bytes
 
@@ -480,36 +501,29 @@ same_true (x ∷ a) (y ∷ b) e =
     let tail : a ≡ b = same_true a b both.1 in
     cc
 
--- what is not true is false
-not_so : (t : Bool) → (t ≡ true → ⊥) → t ≡ false
-not_so true n = absurd (n refl)
-not_so false n = refl
-
 -- lists that differ are not the same
 pub same_false : (a b : List ℕ) → (a ≡ b → ⊥) → same a b ≡ false
-same_false a b n = not_so (same a b) (λ e. n (same_true a b e))
+same_false a b n = false_from_ne_true (same a b) (λ e. n (same_true a b e))
 
 -- lists that differ at some index are not the same
 pub same-false-of-difference : (a b : List ℕ) (i : ℕ) → (get_or a i 0 ≡ get_or b i 0 → ⊥) → same a b ≡ false
 same-false-of-difference a b i n = same_false a b (λ e. n (ap (λ (l : List ℕ). get_or l i 0) e))
 
--- what tells whether two lists are equal
-pub same-told : (t : Bool) (a b : List ℕ) → (t ≡ true → a ≡ b) → (t ≡ false → same a b ≡ false) → t ≡ same a b
-same-told true a b f g = sym (same-equal a b (f refl))
-same-told false a b f g = sym (g refl)
-
 -- lists of other lengths are not the same
 pub same-false-of-length : (a b : List ℕ) → (length a ≡ length b → ⊥) → same a b ≡ false
 same-false-of-length a b n = same_false a b (λ e. n (ap (λ (l : List ℕ). length l) e))
 
+-- what std's == of bytes says
+pub same_eq : (a b : List ℕ) → pointwise nat_eq a b ≡ same a b
+unfolding same
+same_eq [] [] = refl
+same_eq [] (y ∷ b) = refl
+same_eq (x ∷ a) [] = refl
+same_eq (x ∷ a) (y ∷ b) = ap (λ (t : Bool). eqb x y && t) (same_eq a b)
+
 -- fronts that are equal, with one more element that is
 pub front-next : (a b : List ℕ) (i : ℕ) → i < length a → i < length b → get_or a i 0 ≡ get_or b i 0 → take i a ≡ take i b → take (i + 1) a ≡ take (i + 1) b
 front-next a b i ha hb e f = rw (add-one i, take-suc a i 0 ha, take-suc b i 0 hb, e, f)
-
--- a part that is a front, with one more element that is
-pub part-front-next : (s t : List ℕ) (at i : ℕ) → at + i < length s → i < length t → get_or s (at + i) 0 ≡ get_or t i 0 → part s at i ≡ take i t → part s at (i + 1) ≡ take (i + 1) t
-unfolding part
-part-front-next s t at i hs ht e f = front-next (drop at s) t i (simp length-drop (omega arith)) ht (get_or-drop at s i 0 ∙ e) f
 
 -- a part that differs from a front at some index
 pub part-differs : (s t : List ℕ) (at w i : ℕ) → i < w → (get_or s (at + i) 0 ≡ get_or t i 0 → ⊥) → same (part s at w) (take w t) ≡ false
@@ -576,12 +590,4 @@ copying-last s at b t i h c =
 
 -- zeros that are left behind the first k
 pub drop-zeros : (k n : ℕ) → drop {A = ℕ} k (replicate n 0) ≡ replicate (n - k) 0
-drop-zeros zero n =
-    let e : n ≡ n - 0 = omega arith in
-    ap (λ (j : ℕ). replicate {A = ℕ} j 0) e
-drop-zeros (suc k) zero =
-    let e : 0 ≡ 0 - suc k = omega arith in
-    ap (λ (j : ℕ). replicate {A = ℕ} j 0) e
-drop-zeros (suc k) (suc n) =
-    let e : n - k ≡ suc n - suc k = omega arith in
-    drop-zeros k n ∙ ap (λ (j : ℕ). replicate {A = ℕ} j 0) e
+drop-zeros k n = drop-replicate k n 0

@@ -1,13 +1,10 @@
 -- Laws of tests, alone and joined by &&. Assumes nothing.
 use mathlib.Core.Path.{◌≡◌, refl, sym}
-use mathlib.Core.Bool.{Bool, true, false, not, ◌&&◌, false≢true}
+use mathlib.Core.Bool.{Bool, true, false, ◌&&◌}
+-- both of two tests hold; and a test turned round
+pub use Rattle.std.proofs.lemmas.Bool.{and_parts as both, not-true, not-false}
 
--- both of two tests hold
-pub both : (a b : Bool) → a && b ≡ true → (a ≡ true) × (b ≡ true)
-both true b q = (refl, q)
-both false b q = absurd (false≢true q)
-
--- and the other way round
+-- two tests that hold do so together
 pub together : {a b : Bool} → a ≡ true → b ≡ true → a && b ≡ true
 together p q = rw (p, q)
 
@@ -29,12 +26,3 @@ alike false false f g = refl
 pub by-test : {P : Type 0} (b : Bool) → (b ≡ true → P) → (b ≡ false → P) → P
 by-test true f g = f refl
 by-test false f g = g refl
-
--- a test turned round
-pub not-true : (b : Bool) → not b ≡ true → b ≡ false
-not-true true e = absurd (false≢true e)
-not-true false e = refl
-
-pub not-false : (b : Bool) → not b ≡ false → b ≡ true
-not-false true e = refl
-not-false false e = absurd (false≢true (sym e))

@@ -1,3 +1,4 @@
+pub mod Back
 pub mod Bytes
 pub mod Number
 pub mod Regid

@@ -4,6 +4,8 @@
 ghost use Rattle.std.specs.Prelude.{◌≡◌, ◌≤◌, ◌<◌};
 ghost use Rattle.label.specs.PerMille.{nearest, per_mille};
 
+use std::cmp::Ordering;
+
 const THOUSAND: u64 = 1000;
 
 // Of a division by `l`, its quotient and its remainder.
@@ -11,14 +13,11 @@ fn nearest(quotient: u64, remainder: u64, l: u64) -> u64
     requires { (quotient ≤ 1000) × (remainder < 4294967296) }
     ensures { result ≡ nearest quotient remainder l }
 {
-    let twice = 2 * remainder;
-    if twice < l {
-        return quotient;
+    match (2 * remainder).cmp(&l) {
+        Ordering::Less => quotient,
+        Ordering::Greater => quotient + 1,
+        Ordering::Equal => quotient + quotient % 2,
     }
-    if l < twice {
-        return quotient + 1;
-    }
-    quotient + quotient % 2
 }
 
 // Of a part and its whole. Inside the layers: the part is at most the whole, and the whole is not 0.

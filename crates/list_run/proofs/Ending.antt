@@ -7,9 +7,9 @@ use mathlib.Core.List.{List, [], ◌∷◌}
 use native.Mathlib.Omega.{arith}
 use lib.ListN.{length, get_or}
 use Rattle.refusal.specs.declared.Refusal.{Refusal}
-use Rattle.refusal.specs.declared.Verdict.{Verdict}
-use Rattle.refusal.specs.declared.Verdict.TheVariants.{Go, Stop}
-use Rattle.refusal.specs.Number.{verdict_number}
+use Rattle.refusal.specs.Verdict.{Verdict}
+use Rattle.std.specs.Prelude.{Ok, Err, Result}
+use Rattle.refusal.specs.Number.{answer_number}
 use Rattle.model.specs.declared.Record.{Record}
 use Rattle.model.specs.declared.Opened.{Opened}
 use Rattle.model.specs.Disc.{Disc}
@@ -24,23 +24,22 @@ use Rattle.model.proofs.ConsequencesLists.{answers-count}
 use Rattle.model.proofs.Demand.{demand-3}
 use Rattle.model.proofs.Wait.{wait-bounded, wait-exact}
 use Rattle.list_step.specs.Stepped.{state_of, passed_by}
-use Rattle.list_run.specs.declared.Ran.{Ran}
 use Rattle.list_run.specs.Encoded.{decode, encode, pool_of}
 use Rattle.list_run.specs.Listed.{mended, passed_after}
-use Rattle.list_run.specs.Outcome.{Outcome, outcome, ran, ran_by, ran_number, carried_out, listed, answered, Runs}
+use Rattle.list_run.specs.Outcome.{Outcome, outcome, ran, ran_by, carried_out, listed, answered, Runs}
 use Rattle.list_run.specs.Promise.{DemandMet, count_before, WaitMet}
 use Rattle.list_run.proofs.Encoding.{decode-encode}
 use Rattle.list_run.proofs.Mending.{mended-proper, proper-mended}
 
 -- ---- its own opening
 
-left_by : (v : Verdict) (h : Record) (n : ℕ) (l t : List ℕ) (why : Refusal) → opened_by v h n ≡ Opened.Refused why → filled_by v l t ≡ t
+left_by : (v : Verdict) (h : Record) (n : ℕ) (l t : List ℕ) (why : Refusal) → opened_by v h n ≡ Err why → filled_by v l t ≡ t
 unfolding opened_by filled_by
-left_by Go h n l t why e = cc
-left_by (Stop why') h n l t why e = refl
+left_by (Ok _) h n l t why e = cc
+left_by (Err why') h n l t why e = refl
 
 -- an opening that is refused leaves the lent table
-left : (e : Setting) (d : Disc) (t : List ℕ) (why : Refusal) → opening e d t ≡ Opened.Refused why → opened_table e d t ≡ t
+left : (e : Setting) (d : Disc) (t : List ℕ) (why : Refusal) → opening e d t ≡ Err why → opened_table e d t ≡ t
 unfolding opening opened_table
 left e d t why q = left_by (open_verdict e d t) (record_on e d) (passed_on e d) (numbers_on e d) t why q
 
@@ -54,44 +53,44 @@ listed-encode e d t cs p = ap (mended e (after_opening e d t) false) (decode-enc
 -- ---- the equations
 
 -- a run whose opening is accepted
-pub run-ended : (e : Setting) (d : Disc) (t t' ns pool replies : List ℕ) (held : Record) (passed : ℕ) → opening e d t ≡ Opened.Open held passed → t' ≡ opened_table e d t → carried_out e (state_of d t' held) passed (mended e (state_of d t' held) false (decode ns pool)) replies ≡ ran e d t ns pool replies
+pub run-ended : (e : Setting) (d : Disc) (t t' ns pool replies : List ℕ) (held : Record) (passed : ℕ) → opening e d t ≡ Ok (record { handed = held; passed = passed }) → t' ≡ opened_table e d t → carried_out e (state_of d t' held) passed (mended e (state_of d t' held) false (decode ns pool)) replies ≡ ran e d t ns pool replies
 unfolding ran ran_by listed after_opening
 run-ended e d t t' ns pool replies held passed q h =
     ap (λ (x : List ℕ). carried_out e (state_of d x held) passed (mended e (state_of d x held) false (decode ns pool)) replies) h
     ∙ rw (q, sym (opened-tells e d t held passed q).held)
 
 -- a run whose opening is refused
-pub run-refused : (e : Setting) (d : Disc) (t t' ns pool replies : List ℕ) (why : Refusal) → opening e d t ≡ Opened.Refused why → t' ≡ opened_table e d t → outcome (Ran.Refused why) d t' replies ≡ ran e d t ns pool replies
+pub run-refused : (e : Setting) (d : Disc) (t t' ns pool replies : List ℕ) (why : Refusal) → opening e d t ≡ Err why → t' ≡ opened_table e d t → outcome (Err why) d t' replies ≡ ran e d t ns pool replies
 unfolding ran ran_by
-run-refused e d t t' ns pool replies why q h = ap (λ (x : List ℕ). outcome (Ran.Refused why) d x replies) (h ∙ left e d t why q) ∙ rw q
+run-refused e d t t' ns pool replies why q h = ap (λ (x : List ℕ). outcome (Err why) d x replies) (h ∙ left e d t why q) ∙ rw q
 
 -- ---- the promise of a run: of an outcome that the definition gives, its number
 
 -- the number is that of the verdict on its own opening
-ran-number : (v : Verdict) (h : Record) (n : ℕ) (e : Setting) (d : Disc) (t ns pool replies : List ℕ) → ran_number (ran_by (opened_by v h n) e d t ns pool replies).result ≡ verdict_number v
+ran-number : (v : Verdict) (h : Record) (n : ℕ) (e : Setting) (d : Disc) (t ns pool replies : List ℕ) → answer_number (ran_by (opened_by v h n) e d t ns pool replies).result ≡ answer_number v
 unfolding opened_by ran_by carried_out
-ran-number Go h n e d t ns pool replies = refl
-ran-number (Stop why) h n e d t ns pool replies = refl
+ran-number (Ok _) h n e d t ns pool replies = refl
+ran-number (Err why) h n e d t ns pool replies = refl
 
 -- the promise from the equation
-pub ran-so : (e : Setting) (d : Disc) {t ns pool replies : List ℕ} {r : Ran} {d' : Disc} {t' replies' : List ℕ} → outcome r d' t' replies' ≡ ran e d t ns pool replies → Runs (record { setting = e; disc = d }) t ns pool replies r d' t' replies'
+pub ran-so : (e : Setting) (d : Disc) {t ns pool replies : List ℕ} {r : Result Opened Refusal} {d' : Disc} {t' replies' : List ℕ} → outcome r d' t' replies' ≡ ran e d t ns pool replies → Runs (record { setting = e; disc = d }) t ns pool replies r d' t' replies'
 unfolding ran opening
 ran-so e d {t} {ns} {pool} {replies} w =
     record {
       outcome = w;
       number =
-          ap (λ (x : Outcome). ran_number x.result) w
+          ap (λ (x : Outcome). answer_number x.result) w
           ∙ ran-number (open_verdict e d t) (record_on e d) (passed_on e d) e d t ns pool replies;
     }
 
 -- ---- demand 3
 
-accepts : (e : Setting) (d : Disc) (t : List ℕ) (held : Record) (passed : ℕ) → opening e d t ≡ Opened.Open held passed → is_opened (answer_of_opening (opening e d t)) ≡ true
+accepts : (e : Setting) (d : Disc) (t : List ℕ) (held : Record) (passed : ℕ) → opening e d t ≡ Ok (record { handed = held; passed = passed }) → is_opened (answer_of_opening (opening e d t)) ≡ true
 unfolding is_opened answer_of_opening
 accepts e d t held passed q = rw q
 
 -- the list that is carried out is one of which demand 3 speaks
-follows-listed : (e : Setting) (d : Disc) (t ns pool : List ℕ) (held : Record) (passed : ℕ) → Below 256 d.bytes → opening e d t ≡ Opened.Open held passed → Follows e d t (listed e d t ns pool)
+follows-listed : (e : Setting) (d : Disc) (t ns pool : List ℕ) (held : Record) (passed : ℕ) → Below 256 d.bytes → opening e d t ≡ Ok (record { handed = held; passed = passed }) → Follows e d t (listed e d t ns pool)
 unfolding listed
 follows-listed e d t ns pool held passed low q =
     record { low = low; opens = accepts e d t held passed q; proper = mended-proper e (after_opening e d t) false (decode ns pool) }
@@ -101,7 +100,7 @@ unfolding Demand3
 kept-listed e d t ns pool f = demand-3 e d t f.low f.opens (listed e d t ns pool) f.proper
 
 -- the state that is left is the one after that list
-state-left : (e : Setting) (d : Disc) (t ns pool replies : List ℕ) (r : Ran) (d' : Disc) (t' replies' : List ℕ) (h held : Record) (n passed : ℕ) → outcome r d' t' replies' ≡ ran_by (Opened.Open h n) e d t ns pool replies → r ≡ Ran.Ended held passed → state_of d' t' held ≡ final e (after_opening e d t) (listed e d t ns pool)
+state-left : (e : Setting) (d : Disc) (t ns pool replies : List ℕ) (r : Result Opened Refusal) (d' : Disc) (t' replies' : List ℕ) (h held : Record) (n passed : ℕ) → outcome r d' t' replies' ≡ ran_by (Ok (record { handed = h; passed = n })) e d t ns pool replies → r ≡ Ok (record { handed = held; passed = passed }) → state_of d' t' held ≡ final e (after_opening e d t) (listed e d t ns pool)
 unfolding ran_by carried_out
 state-left e d t ns pool replies r d' t' replies' h held n passed w q =
     let st = final e (after_opening e d t) (listed e d t ns pool) in
@@ -110,10 +109,10 @@ state-left e d t ns pool replies r d' t' replies' h held n passed w q =
     ∙ ap (λ (x : List ℕ). state_of st.disc x held) (ap (λ (x : Outcome). x.table) w)
     ∙ ap (state_of st.disc st.table) a
   where
-    held_in : {x y : Record} {i j : ℕ} → Ran.Ended x i ≡ Ran.Ended y j → x ≡ y
-    held_in p = cc
+    held_in : {x y : Record} {i j : ℕ} → ◌≡◌ {A = Result Opened Refusal} (Ok (record { handed = x; passed = i })) (Ok (record { handed = y; passed = j })) → x ≡ y
+    held_in {x} {y} {i} {j} p = let o : ◌≡◌ {A = Opened} (record { handed = x; passed = i }) (record { handed = y; passed = j }) = cc in ap (λ (z : Opened). z.handed) o
 
-kept-met : (e : Setting) (d : Disc) (t ns pool : List ℕ) (r : Ran) (d' : Disc) (t' : List ℕ) → Kept e d t (listed e d t ns pool) → ((held : Record) (passed : ℕ) → r ≡ Ran.Ended held passed → state_of d' t' held ≡ final e (after_opening e d t) (listed e d t ns pool)) → DemandMet e d t ns pool r d' t'
+kept-met : (e : Setting) (d : Disc) (t ns pool : List ℕ) (r : Result Opened Refusal) (d' : Disc) (t' : List ℕ) → Kept e d t (listed e d t ns pool) → ((held : Record) (passed : ℕ) → r ≡ Ok (record { handed = held; passed = passed }) → state_of d' t' held ≡ final e (after_opening e d t) (listed e d t ns pool)) → DemandMet e d t ns pool r d' t'
 unfolding answered
 kept-met e d t ns pool r d' t' kept same =
     record {
@@ -150,8 +149,8 @@ is-opened (refused why) q = absurd (false≢true q)
 is-opened (opened r n) q = (r, n, refl)
 
 -- what is promised of a run that ended, whose own opening answered so
-module _ (e : Setting) (d : Disc) (t ns pool : List ℕ) (f : Follows e d t (listed e d t ns pool)) (r : Ran)
-    (same : (held : Record) (passed : ℕ) → r ≡ Ran.Ended held passed → passed ≡ passed_after (answered e d t ns pool) (passed_on e d)) where
+module _ (e : Setting) (d : Disc) (t ns pool : List ℕ) (f : Follows e d t (listed e d t ns pool)) (r : Result Opened Refusal)
+    (same : (held : Record) (passed : ℕ) → r ≡ Ok (record { handed = held; passed = passed }) → passed ≡ passed_after (answered e d t ns pool) (passed_on e d)) where
   as_many : length (answered e d t ns pool) ≡ length (listed e d t ns pool)
   unfolding answered
   as_many = answers-count e (listed e d t ns pool) (after_opening e d t)
@@ -180,7 +179,7 @@ module _ (e : Setting) (d : Disc) (t ns pool : List ℕ) (f : Follows e d t (lis
 -- ---- both promises
 
 -- nothing is promised of a run whose own opening was turned down
-pub nothing-met : (e : Setting) (d : Disc) (t ns pool : List ℕ) (r : Ran) (d' : Disc) (t' : List ℕ) (why : Refusal) → r ≡ Ran.Refused why → DemandMet e d t ns pool r d' t' × WaitMet e d t ns pool r
+pub nothing-met : (e : Setting) (d : Disc) (t ns pool : List ℕ) (r : Result Opened Refusal) (d' : Disc) (t' : List ℕ) (why : Refusal) → r ≡ Err why → DemandMet e d t ns pool r d' t' × WaitMet e d t ns pool r
 nothing-met e d t ns pool r d' t' why q = (
   record {
     opens = λ held passed is. absurd (never held passed is);
@@ -194,31 +193,33 @@ nothing-met e d t ns pool r d' t' why q = (
   },
 )
   where
-    never : (held : Record) (passed : ℕ) → r ≡ Ran.Ended held passed → ⊥
+    never : (held : Record) (passed : ℕ) → r ≡ Ok (record { handed = held; passed = passed }) → ⊥
     never held passed is = let z : ◌≡◌ {A = ℕ} 0 1 = cc in omega arith
 
-refused-result : (r : Ran) (d' : Disc) (t' replies' : List ℕ) (why : Refusal) (e : Setting) (d : Disc) (t ns pool replies : List ℕ) → outcome r d' t' replies' ≡ ran_by (Opened.Refused why) e d t ns pool replies → r ≡ Ran.Refused why
+refused-result : (r : Result Opened Refusal) (d' : Disc) (t' replies' : List ℕ) (why : Refusal) (e : Setting) (d : Disc) (t ns pool replies : List ℕ) → outcome r d' t' replies' ≡ ran_by (Err why) e d t ns pool replies → r ≡ Err why
 unfolding ran_by
 refused-result r d' t' replies' why e d t ns pool replies w = ap (λ (x : Outcome). x.result) w
 
 -- the number that is handed back
-passed-left : (e : Setting) (d : Disc) (t ns pool replies : List ℕ) (r : Ran) (d' : Disc) (t' replies' : List ℕ) (h held : Record) (n passed : ℕ) → outcome r d' t' replies' ≡ ran_by (Opened.Open h n) e d t ns pool replies → n ≡ passed_on e d → r ≡ Ran.Ended held passed → passed ≡ passed_after (answered e d t ns pool) (passed_on e d)
+passed-left : (e : Setting) (d : Disc) (t ns pool replies : List ℕ) (r : Result Opened Refusal) (d' : Disc) (t' replies' : List ℕ) (h held : Record) (n passed : ℕ) → outcome r d' t' replies' ≡ ran_by (Ok (record { handed = h; passed = n })) e d t ns pool replies → n ≡ passed_on e d → r ≡ Ok (record { handed = held; passed = passed }) → passed ≡ passed_after (answered e d t ns pool) (passed_on e d)
 unfolding ran_by carried_out answered
 passed-left e d t ns pool replies r d' t' replies' h held n passed w m q = passed-in (sym q ∙ ap (λ (x : Outcome). x.result) w) ∙ ap (passed_after (answered e d t ns pool)) m
   where
-    passed-in : {x y : Record} {i j : ℕ} → Ran.Ended x i ≡ Ran.Ended y j → i ≡ j
-    passed-in p = cc
+    passed-in : {x y : Record} {i j : ℕ} → ◌≡◌ {A = Result Opened Refusal} (Ok (record { handed = x; passed = i })) (Ok (record { handed = y; passed = j })) → i ≡ j
+    passed-in {x} {y} {i} {j} p = let o : ◌≡◌ {A = Opened} (record { handed = x; passed = i }) (record { handed = y; passed = j }) = cc in ap (λ (z : Opened). z.passed) o
 
-met_by : (o : Opened) (e : Setting) (d : Disc) (t ns pool replies : List ℕ) (r : Ran) (d' : Disc) (t' replies' : List ℕ) → Below 256 d.bytes → opening e d t ≡ o → outcome r d' t' replies' ≡ ran_by o e d t ns pool replies → DemandMet e d t ns pool r d' t' × WaitMet e d t ns pool r
-met_by (Opened.Open h n) e d t ns pool replies r d' t' replies' low q w =
+met_by : (o : Result Opened Refusal) (e : Setting) (d : Disc) (t ns pool replies : List ℕ) (r : Result Opened Refusal) (d' : Disc) (t' replies' : List ℕ) → Below 256 d.bytes → opening e d t ≡ o → outcome r d' t' replies' ≡ ran_by o e d t ns pool replies → DemandMet e d t ns pool r d' t' × WaitMet e d t ns pool r
+met_by (Ok o) e d t ns pool replies r d' t' replies' low q w =
+    let h = o.handed in
+    let n = o.passed in
     let f = follows-listed e d t ns pool h n low q in (
       kept-met e d t ns pool r d' t' (kept-listed e d t ns pool f) (λ held passed. state-left e d t ns pool replies r d' t' replies' h held n passed w),
       waits-met e d t ns pool f r (λ held passed. passed-left e d t ns pool replies r d' t' replies' h held n passed w (sym (opened-tells e d t h n q).passed)),
     )
-met_by (Opened.Refused why) e d t ns pool replies r d' t' replies' low q w =
+met_by (Err why) e d t ns pool replies r d' t' replies' low q w =
     nothing-met e d t ns pool r d' t' why (refused-result r d' t' replies' why e d t ns pool replies w)
 
 -- the equation of a run has demand 3 and the bound
-pub promises-met : (e : Setting) (d : Disc) (t ns pool replies : List ℕ) (r : Ran) (d' : Disc) (t' replies' : List ℕ) → Below 256 d.bytes → outcome r d' t' replies' ≡ ran e d t ns pool replies → DemandMet e d t ns pool r d' t' × WaitMet e d t ns pool r
+pub promises-met : (e : Setting) (d : Disc) (t ns pool replies : List ℕ) (r : Result Opened Refusal) (d' : Disc) (t' replies' : List ℕ) → Below 256 d.bytes → outcome r d' t' replies' ≡ ran e d t ns pool replies → DemandMet e d t ns pool r d' t' × WaitMet e d t ns pool r
 unfolding ran
 promises-met e d t ns pool replies r d' t' replies' low w = met_by (opening e d t) e d t ns pool replies r d' t' replies' low refl w

@@ -14,7 +14,11 @@ use Rattle.model.specs.Calls.{State}
 use Rattle.model.proofs.Basics.{by-lt}
 use Rattle.call_numbers.specs.Numbers.{cut_of}
 use Rattle.list_step.specs.declared.Answered.{Answered}
-use Rattle.list_step.specs.Stepped.{call_of, kind_after, Stepped}
+use Rattle.std.specs.Prelude.{Result, Ok, Err}
+use Rattle.refusal.specs.declared.Refusal.{Refusal}
+use Rattle.list_step.specs.declared.Calling.{Calling}
+use Rattle.list_step.proofs.Stepping.{call-of-number}
+use Rattle.list_step.specs.Stepped.{calling_of, call_in, call_of, kind_after, Stepped}
 use Rattle.list_run.specs.Encoded.{call_at}
 use Rattle.list_run.specs.Listed.{mended_call}
 
@@ -50,5 +54,8 @@ call-read ns pool down at kind from count w c qk qc qf qn qw =
     ∙ call-after down (get_or ns at 0) (get_or ns (at + 1) 0) (cut_of (get_or ns (at + 2) 0) (get_or ns (at + 3) 0)) (part pool (get_or ns (at + 4) 0) (get_or ns (at + 5) 0))
 
 -- a call as it is read from six numbers, w bytes from `from` on
-pub read_step : (e : Setting) (st : State) (ns pool : List ℕ) (down : Bool) (at kind from count w : ℕ) (c : Cut) (a : Answered) (d : Disc) (t : List ℕ) → kind ≡ kind_after down (get_or ns at 0) → c ≡ cut_of (get_or ns (at + 2) 0) (get_or ns (at + 3) 0) → from ≡ min (get_or ns (at + 4) 0) (length pool) → count ≡ min (get_or ns (at + 5) 0) (length pool - from) → w ≡ count → Stepped e st (call_of kind (get_or ns (at + 1) 0) c (take w (drop from pool))) a d t → Stepped e st (mended_call down (call_at ns pool at)) a d t
-read_step e st ns pool down at kind from count w c a d t qk qc qf qn qw s = rw (call-read ns pool down at kind from count w c qk qc qf qn qw) at s
+pub read_step : (e : Setting) (st : State) (ns pool : List ℕ) (down : Bool) (at from count w : ℕ) (k : Calling) (c : Cut) (a : Result Answered Refusal) (d : Disc) (t : List ℕ) → k ≡ calling_of (kind_after down (get_or ns at 0)) → c ≡ cut_of (get_or ns (at + 2) 0) (get_or ns (at + 3) 0) → from ≡ min (get_or ns (at + 4) 0) (length pool) → count ≡ min (get_or ns (at + 5) 0) (length pool - from) → w ≡ count → Stepped e st (call_in k (get_or ns (at + 1) 0) c (take w (drop from pool))) a d t → Stepped e st (mended_call down (call_at ns pool at)) a d t
+read_step e st ns pool down at from count w k c a d t qk qc qf qn qw s =
+    let kind = kind_after down (get_or ns at 0) in
+    let call = ap (λ (x : Calling). call_in x (get_or ns (at + 1) 0) c (take w (drop from pool))) qk ∙ call-of-number kind (get_or ns (at + 1) 0) c (take w (drop from pool)) in
+    rw (call ∙ call-read ns pool down at kind from count w c refl qc qf qn qw) at s

@@ -1,6 +1,6 @@
 -- Laws of the loop that carries out a list: what is left of it comes to what the whole comes to. Assumes nothing.
-use Prim.Native.Nat.{ℕ, ◌+◌, ◌<◌, ◌≤◌}
-use mathlib.Core.Path.{◌≡◌, refl, sym, ap, ◌∙◌}
+use Prim.Native.Nat.{ℕ, ◌+◌, ◌*◌, ◌<◌, ◌≤◌}
+use mathlib.Core.Path.{◌≡◌, refl, sym, ap, subst, ◌∙◌}
 use mathlib.Core.Bool.{Bool, false}
 use mathlib.Core.List.{List, [], ◌∷◌, ◌++◌, append_assoc}
 use native.Mathlib.Omega.{arith}
@@ -9,6 +9,8 @@ use lib.ListN.{length, get_or, set, take, drop, length-set, take-append-drop, dr
 use lib.Seq.{take-suc-set, drop-set-lt, drop-cons, take_all, set_out}
 use Rattle.model.specs.declared.Record.{Record}
 use Rattle.model.specs.declared.Opened.{Opened}
+use Rattle.std.specs.Prelude.{Result, Ok, Err}
+use Rattle.refusal.specs.declared.Refusal.{Refusal}
 use Rattle.model.specs.declared.Reply.{Reply}
 use Rattle.model.specs.Disc.{Disc}
 use Rattle.model.specs.Examine.{Setting}
@@ -16,7 +18,6 @@ use Rattle.model.specs.Calls.{Call, save_virtual, free_virtual, commit, save_blo
 use Rattle.model.proofs.Basics.{by-lt}
 use Rattle.list_step.specs.declared.Answered.{Answered}
 use Rattle.list_step.specs.Stepped.{answer_is, number_for, held_by, passed_by, state_of, Stepped}
-use Rattle.list_run.specs.declared.Ran.{Ran}
 use Rattle.list_run.specs.Encoded.{decode, call_at}
 use Rattle.list_run.specs.Listed.{mended_call, mended, told, passed_after}
 use Rattle.list_run.specs.Outcome.{Outcome, outcome, carried_out}
@@ -26,7 +27,7 @@ use Rattle.list_run.proofs.Encoding.{decode-next, decode-end}
 unfoldable pub toward : Setting → State → Bool → ℕ → List ℕ → List ℕ → List Call → Outcome
 toward e st down passed front rest cs =
     outcome
-    (Ran.Ended (final e st (mended e st down cs)).held (passed_after (answers e st (mended e st down cs)) passed))
+    (Ok (record { handed = (final e st (mended e st down cs)).held; passed = passed_after (answers e st (mended e st down cs)) passed }))
     (final e st (mended e st down cs)).disc
     (final e st (mended e st down cs)).table
     (front ++ told (answers e st (mended e st down cs)) rest)
@@ -67,16 +68,16 @@ told-next a al r i = by-lt i (length r) (told_here a al r i) (told-past a al r i
 
 -- ---- one call
 
-held-reply : (r : Reply) (held : Record) → held_after r held ≡ held_by (answer_of r) held
+held-reply : (r : Result Reply Refusal) (held : Record) → held_after r held ≡ held_by (answer_of r) held
 unfolding held_after answer_of
-held-reply (Reply.Done r) held = refl
-held-reply Reply.Cut held = refl
-held-reply (Reply.Refused why) held = refl
+held-reply (Ok (Reply.Done r)) held = refl
+held-reply (Ok Reply.Cut) held = refl
+held-reply (Err why) held = refl
 
-held-opening : (o : Opened) (held : Record) → held_after_opening o held ≡ held_by (answer_of_opening o) held
+held-opening : (o : Result Opened Refusal) (held : Record) → held_after_opening o held ≡ held_by (answer_of_opening o) held
 unfolding held_after_opening answer_of_opening
-held-opening (Opened.Open r n) held = refl
-held-opening (Opened.Refused why) held = refl
+held-opening (Ok o) held = refl
+held-opening (Err why) held = refl
 
 -- the record in force after a call is told by its answer
 pub held-step : (e : Setting) (st : State) (c : Call) → (step e st c).state.held ≡ held_by (step e st c).answer st.held
@@ -90,7 +91,7 @@ held-step e st (spare_packet n b c) = held-reply _ st.held
 held-step e st open_disc = held-opening _ st.held
 
 -- a call whose contract is met is a step
-stepped : (e : Setting) (st : State) (c : Call) (a : Answered) (d : Disc) (t : List ℕ) → Stepped e st c a d t → state_of d t (held_by (answer_is a) st.held) ≡ (step e st c).state
+stepped : (e : Setting) (st : State) (c : Call) (a : Result Answered Refusal) (d : Disc) (t : List ℕ) → Stepped e st c a d t → state_of d t (held_by (answer_is a) st.held) ≡ (step e st c).state
 stepped e st c a d t q =
     ap (λ (x : Disc). state_of x t (held_by (answer_is a) st.held)) q.disc
     ∙ ap (λ (x : List ℕ). state_of (step e st c).state.disc x (held_by (answer_is a) st.held)) q.table
@@ -106,7 +107,7 @@ toward-step e st down passed r i c cs =
     let st' = (step e st k).state in
     let a = (step e st k).answer in
     let ks = mended e st' (is_cut a) cs in
-    ap (outcome (Ran.Ended (final e st' ks).held (passed_after (answers e st' ks) (passed_by a passed))) (final e st' ks).disc (final e st' ks).table) (told-next a (answers e st' ks) r i)
+    ap (outcome (Ok (record { handed = (final e st' ks).held; passed = passed_after (answers e st' ks) (passed_by a passed) })) (final e st' ks).disc (final e st' ks).table) (told-next a (answers e st' ks) r i)
 
 toward-next : (e : Setting) (st st' : State) (down down' : Bool) (passed passed' : ℕ) (r r' : List ℕ) (i : ℕ) (c : Call) (cs : List Call) (a : Answer) → a ≡ (step e st (mended_call down c)).answer → st' ≡ (step e st (mended_call down c)).state → down' ≡ is_cut a → passed' ≡ passed_by a passed → r' ≡ set r i (number_for a) → toward e st' down' passed' (take (i + 1) r') (drop (i + 1) r') cs ≡ toward e st down passed (take i r) (drop i r) (c ∷ cs)
 toward-next e st st' down down' passed passed' r r' i c cs a ea es ed ep er = rw (er, ep, ed, es, ea) (sym (toward-step e st down passed r i c cs))
@@ -136,7 +137,7 @@ turn-first e ns pool st₀ passed₀ r₀ =
     }
 
 -- after one more call
-pub turn-next : (e : Setting) (ns pool : List ℕ) (st₀ : State) (passed₀ : ℕ) (r₀ : List ℕ) (st : State) (down down' : Bool) (passed passed' : ℕ) (r r' : List ℕ) (at i : ℕ) (a : Answered) (d : Disc) (t : List ℕ) (held : Record)
+pub turn-next : (e : Setting) (ns pool : List ℕ) (st₀ : State) (passed₀ : ℕ) (r₀ : List ℕ) (st : State) (down down' : Bool) (passed passed' : ℕ) (r r' : List ℕ) (at i : ℕ) (a : Result Answered Refusal) (d : Disc) (t : List ℕ) (held : Record)
     → at + 6 ≤ length ns → Stepped e st (mended_call down (call_at ns pool at)) a d t → held ≡ held_by (answer_is a) st.held → down' ≡ is_cut (answer_is a) → passed' ≡ passed_by (answer_is a) passed → r' ≡ set r i (number_for (answer_is a))
     → length d.bytes ≡ length st.disc.bytes → length d.marks ≡ length st.disc.marks → length t ≡ length st.table
     → Turn e ns pool st₀ passed₀ r₀ st down passed r at i → Turn e ns pool st₀ passed₀ r₀ (state_of d t held) down' passed' r' (at + 6) (i + 1)
@@ -154,12 +155,22 @@ turn-next e ns pool st₀ passed₀ r₀ st down down' passed passed' r r' at i 
           ∙ v.comes;
     }
 
-toward-none : (e : Setting) (st : State) (down : Bool) (passed : ℕ) (r : List ℕ) (i : ℕ) → toward e st down passed (take i r) (drop i r) [] ≡ outcome (Ran.Ended st.held passed) st.disc st.table r
+-- the same where the call is number i, of six numbers each
+pub turn-round : (e : Setting) (ns pool : List ℕ) (st₀ : State) (passed₀ : ℕ) (r₀ : List ℕ) (st : State) (down down' : Bool) (passed passed' : ℕ) (r r' : List ℕ) (i : ℕ) (a : Result Answered Refusal) (d : Disc) (t : List ℕ) (held : Record)
+    → 6 * i + 6 ≤ length ns → Stepped e st (mended_call down (call_at ns pool (6 * i))) a d t → held ≡ held_by (answer_is a) st.held → down' ≡ is_cut (answer_is a) → passed' ≡ passed_by (answer_is a) passed → r' ≡ set r i (number_for (answer_is a))
+    → length d.bytes ≡ length st.disc.bytes → length d.marks ≡ length st.disc.marks → length t ≡ length st.table
+    → Turn e ns pool st₀ passed₀ r₀ st down passed r (6 * i) i → Turn e ns pool st₀ passed₀ r₀ (state_of d t held) down' passed' r' (6 * (i + 1)) (i + 1)
+turn-round e ns pool st₀ passed₀ r₀ st down down' passed passed' r r' i a d t held h q eh ed ep er ld lm lt v =
+    let on : 6 * i + 6 ≡ 6 * (i + 1) = omega arith in
+    subst (λ (n : ℕ). Turn e ns pool st₀ passed₀ r₀ (state_of d t held) down' passed' r' n (i + 1)) on
+    (turn-next e ns pool st₀ passed₀ r₀ st down down' passed passed' r r' (6 * i) i a d t held h q eh ed ep er ld lm lt v)
+
+toward-none : (e : Setting) (st : State) (down : Bool) (passed : ℕ) (r : List ℕ) (i : ℕ) → toward e st down passed (take i r) (drop i r) [] ≡ outcome (Ok (record { handed = st.held; passed = passed })) st.disc st.table r
 unfolding toward mended answers final passed_after told
-toward-none e st down passed r i = ap (outcome (Ran.Ended st.held passed) st.disc st.table) (take-append-drop i r)
+toward-none e st down passed r i = ap (outcome (Ok (record { handed = st.held; passed = passed })) st.disc st.table) (take-append-drop i r)
 
 -- at the end
-pub turn_last : (e : Setting) (ns pool : List ℕ) (st₀ : State) (passed₀ : ℕ) (r₀ : List ℕ) (st : State) (down : Bool) (passed : ℕ) (r : List ℕ) (at i : ℕ) → length ns < at + 6 → Turn e ns pool st₀ passed₀ r₀ st down passed r at i → outcome (Ran.Ended st.held passed) st.disc st.table r ≡ carried_out e st₀ passed₀ (mended e st₀ false (decode ns pool)) r₀
+pub turn_last : (e : Setting) (ns pool : List ℕ) (st₀ : State) (passed₀ : ℕ) (r₀ : List ℕ) (st : State) (down : Bool) (passed : ℕ) (r : List ℕ) (at i : ℕ) → length ns < at + 6 → Turn e ns pool st₀ passed₀ r₀ st down passed r at i → outcome (Ok (record { handed = st.held; passed = passed })) st.disc st.table r ≡ carried_out e st₀ passed₀ (mended e st₀ false (decode ns pool)) r₀
 turn_last e ns pool st₀ passed₀ r₀ st down passed r at i h v =
     sym (toward-none e st down passed r i)
     ∙ ap (toward e st down passed (take i r) (drop i r)) (sym (decode-end ns pool at h))

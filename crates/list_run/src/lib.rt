@@ -21,14 +21,6 @@ use refusal::Refusal;
 // The numbers of a call in the lent list.
 const NUMBERS: usize = 6;
 
-// What `run` answers: the record in force after the list and how many sectors the last opening passed over
-// that was accepted; or why its own opening was turned down.
-#[derive(Clone, Copy)]
-pub enum Ran {
-    Ended { held: Record, passed: u32 },
-    Refused(Refusal),
-}
-
 // ---- one call
 
 // Carries out the call whose six numbers stand from `at` on, and after a cut an opening in its place. Inside
@@ -45,13 +37,13 @@ fn turn(
     numbers: &[u32],
     at: usize,
     pool: &[u8],
-) -> Answered
+) -> Result<Answered, Refusal>
     requires { at + 6 ≤ length numbers.now }
     ensures { Steps (lent disc.old marks.old maps.now s l)
         table.old held (mended_call down (call_at numbers.now pool.now at))
         result (disc_of disc.new marks.new) table.new }
 {
-    let kind = list_step::kind_after(down, numbers[at]);
+    let calling = list_step::calling_after(down, numbers[at]);
     let number = numbers[at + 1];
     let cut = call_numbers::cut_of(numbers[at + 2], numbers[at + 3]);
     let from = list_step::limited(numbers[at + 4], pool.len());
@@ -65,7 +57,7 @@ fn turn(
         l,
         table,
         held,
-        kind,
+        calling,
         number,
         &pool[from..to],
         cut,
@@ -96,28 +88,37 @@ fn carry(
     numbers: &[u32],
     pool: &[u8],
     replies: &mut [u32],
-) -> Ran
+) -> Opened
     ensures { CarriesOut (lent disc.old marks.old maps.now s l)
         table.old handed skipped numbers.now pool.now replies.old
-        result (disc_of disc.new marks.new) table.new replies.new }
+        (Ok result) (disc_of disc.new marks.new) table.new replies.new }
 {
     let mut held = handed;
     let mut passed = skipped;
     let mut down = false;
-    let mut at: usize = 0;
-    let mut i: usize = 0;
-    while NUMBERS <= numbers.len() - at {
+    for i in 0..numbers.len() / NUMBERS {
         let answered = turn(
-            disc, marks, maps, s, l, table, held, down, numbers, at, pool,
+            disc,
+            marks,
+            maps,
+            s,
+            l,
+            table,
+            held,
+            down,
+            numbers,
+            NUMBERS * i,
+            pool,
         );
         tell(replies, i, list_step::number_for(answered));
         held = list_step::held_after(answered, held);
         passed = list_step::passed_after(answered, passed);
         down = list_step::is_cut(answered);
-        at += NUMBERS;
-        i += 1;
     }
-    Ran::Ended { held, passed }
+    Opened {
+        handed: held,
+        passed,
+    }
 }
 
 // Opens the disc and carries out the calls that are lent: six numbers each of `numbers`, with their bytes in
@@ -132,7 +133,7 @@ pub fn run(
     numbers: &[u32],
     pool: &[u8],
     replies: &mut [u32],
-) -> Ran
+) -> Result<Opened, Refusal>
     ensures runs { Runs (lent disc.old marks.old maps.now s l)
         table.old numbers.now pool.now replies.old
         result (disc_of disc.new marks.new) table.new replies.new }
@@ -142,13 +143,18 @@ pub fn run(
     ensures wait_met { WaitMet (setting maps.now s l) (disc_of disc.old marks.old)
         table.old numbers.now pool.now result }
 {
-    let opened = blocks::open(disc, marks, maps, s, l, table);
-    match opened {
-        Opened::Refused(why) => Ran::Refused(why),
-        Opened::Open { handed, passed } => {
-            carry(
-                disc, marks, maps, s, l, table, handed, passed, numbers, pool, replies,
-            )
-        }
-    }
+    let opened = blocks::open(disc, marks, maps, s, l, table)?;
+    Ok(carry(
+        disc,
+        marks,
+        maps,
+        s,
+        l,
+        table,
+        opened.handed,
+        opened.passed,
+        numbers,
+        pool,
+        replies,
+    ))
 }

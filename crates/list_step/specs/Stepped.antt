@@ -1,6 +1,6 @@
 -- The call of a kind, what it comes to, and what its answer means for the calls after it (document 01, "Calls and their sector writes";
 -- "The plain store", second paragraph).
-use Rattle.std.specs.Prelude.{ℕ, zero, suc, ◌≡◌, Bool, true, false, List, [], ◌∷◌, ◌++◌}
+use Rattle.std.specs.Prelude.{ℕ, zero, suc, ◌≡◌, Bool, true, false, List, [], ◌∷◌, ◌++◌, Result, Ok, Err}
 use Rattle.refusal.specs.Number.{number_of}
 use Rattle.model.specs.declared.Cut.{Cut}
 use Rattle.model.specs.declared.Record.{Record}
@@ -10,6 +10,9 @@ use Rattle.model.specs.Told.{record_values}
 use Rattle.model.specs.Lent.{Lent}
 use Rattle.model.specs.Calls.{Call, save_virtual, free_virtual, commit, save_block, save_packet, spare_packet, open_disc, Answer, done, cut, refused, opened, State, step}
 use Rattle.list_step.specs.declared.Answered.{Answered}
+use Rattle.list_step.specs.declared.Calling.{Calling}
+use Rattle.list_step.specs.declared.Calling.TheVariants.{SaveVirtual, FreeVirtual, Commit, SaveBlock, SavePacket, SparePacket, Open}
+use Rattle.refusal.specs.declared.Refusal.{Refusal}
 
 -- ---- the call of a kind
 
@@ -23,6 +26,26 @@ call_of (suc (suc (suc (suc zero)))) n c b = save_packet n b c
 call_of (suc (suc (suc (suc (suc zero))))) n c b = spare_packet n b c
 call_of (suc (suc (suc (suc (suc (suc k)))))) n c b = open_disc
 
+-- the kind of a number
+abbrev pub calling_of : ℕ → Calling
+calling_of zero = SaveVirtual
+calling_of (suc zero) = FreeVirtual
+calling_of (suc (suc zero)) = Commit
+calling_of (suc (suc (suc zero))) = SaveBlock
+calling_of (suc (suc (suc (suc zero)))) = SavePacket
+calling_of (suc (suc (suc (suc (suc zero))))) = SparePacket
+calling_of (suc (suc (suc (suc (suc (suc k)))))) = Open
+
+-- the call of such a kind
+abbrev pub call_in : Calling → ℕ → Cut → List ℕ → Call
+call_in SaveVirtual n c b = save_virtual n b c
+call_in FreeVirtual n c b = free_virtual n
+call_in Commit n c b = commit c
+call_in SaveBlock n c b = save_block n b c
+call_in SavePacket n c b = save_packet n b c
+call_in SparePacket n c b = spare_packet n b c
+call_in Open n c b = open_disc
+
 -- the kind of the call that is carried out: after a cut an opening
 abbrev pub kind_after : Bool → ℕ → ℕ
 kind_after false k = k
@@ -31,11 +54,11 @@ kind_after true k = 6
 -- ---- its answer
 
 -- the answer of a call as it is told inside the layers
-abbrev pub answer_is : Answered → Answer
-answer_is (Answered.Done r) = done r
-answer_is Answered.Cut = cut
-answer_is (Answered.Refused why) = refused why
-answer_is (Answered.Opened r n) = opened r n
+abbrev pub answer_is : Result Answered Refusal → Answer
+answer_is (Ok (Answered.Done r)) = done r
+answer_is (Ok Answered.Cut) = cut
+answer_is (Err why) = refused why
+answer_is (Ok (Answered.Opened o)) = opened o.handed o.passed
 
 -- the number that is told of an answer: 0 done or opened, the line of a refusal, 255 cut
 abbrev pub number_for : Answer → ℕ
@@ -72,11 +95,11 @@ abbrev pub state_of : Disc → List ℕ → Record → State
 state_of d t held = record { disc = d; table = t; held = held }
 
 -- the answer a, the disc d and the table t are those of the call c in the state st
-pub record Stepped (e : Setting) (st : State) (c : Call) (a : Answered) (d : Disc) (t : List ℕ) : Type 0 where
+pub record Stepped (e : Setting) (st : State) (c : Call) (a : Result Answered Refusal) (d : Disc) (t : List ℕ) : Type 0 where
   pub answer : answer_is a ≡ (step e st c).answer
   pub disc : d ≡ (step e st c).state.disc
   pub table : t ≡ (step e st c).state.table
 
 -- the same over the lent lists: the call c, lent the table t and handed the record, answers a and leaves the disc d and the table t'
-abbrev pub Steps : Lent → List ℕ → Record → Call → Answered → Disc → List ℕ → Type 0
+abbrev pub Steps : Lent → List ℕ → Record → Call → Result Answered Refusal → Disc → List ℕ → Type 0
 Steps x t held c a d t' = Stepped x.setting (state_of x.disc t held) c a d t'

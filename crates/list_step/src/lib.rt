@@ -8,197 +8,141 @@ ghost use Rattle.std.specs.Prelude.{◌≡◌, ◌≤◌, min};
 ghost use Rattle.model.specs.Disc.{disc as disc_of};
 ghost use Rattle.model.specs.Lent.{lent};
 ghost use Rattle.model.specs.Calls.{is_cut, answer_of, answer_of_opening};
-ghost use Rattle.list_step.specs.Stepped.{call_of, kind_after, answer_is, number_for, held_by, passed_by, Steps};
+ghost use Rattle.list_step.specs.Stepped.{answer_is, number_for, held_by, passed_by, calling_of, call_in, kind_after, Steps};
 
 use model::{CUT, Cut, DONE, Opened, Record, Reply};
 use refusal::Refusal;
 
-// The kinds of the calls, in the order of the list; any other number is an opening.
-const SAVE_VIRTUAL: u32 = 0;
+// The kinds of the calls, in the order of their numbers from 0 on; any other number is an opening.
+#[derive(Clone, Copy, PartialEq, Eq)]
+pub enum Calling {
+    SaveVirtual,
+    FreeVirtual,
+    Commit,
+    SaveBlock,
+    SavePacket,
+    SparePacket,
+    Open,
+}
 
-const FREE_VIRTUAL: u32 = 1;
+impl From<u32> for Calling {
+    ghost from_gives = { λ k c. c ≡ calling_of k };
 
-const COMMIT: u32 = 2;
+    fn from(number: u32) -> Calling {
+        match number {
+            0 => Calling::SaveVirtual,
+            1 => Calling::FreeVirtual,
+            2 => Calling::Commit,
+            3 => Calling::SaveBlock,
+            4 => Calling::SavePacket,
+            5 => Calling::SparePacket,
+            _ => Calling::Open,
+        }
+    }
+}
 
-const SAVE_BLOCK: u32 = 3;
-
-const SAVE_PACKET: u32 = 4;
-
-const SPARE_PACKET: u32 = 5;
-
-const OPEN: u32 = 6;
-
-// What one call answers, a writing call or an opening.
-#[derive(Clone, Copy)]
+// What one call that is not turned down comes to, a writing call or an opening.
+#[derive(Clone, Copy, PartialEq, Eq)]
 pub enum Answered {
     Done(Record),
     Cut,
-    Refused(Refusal),
-    Opened { handed: Record, passed: u32 },
+    Opened(Opened),
 }
 
 // ---- what an answer means for the calls after it
 
 // The record in force after it.
-pub fn held_after(a: Answered, held: Record) -> Record
+pub fn held_after(a: Result<Answered, Refusal>, held: Record) -> Record
     ensures { result ≡ held_by (answer_is a) held }
 {
     match a {
-        Answered::Done(r) => r,
-        Answered::Cut => held,
-        Answered::Refused(_) => held,
-        Answered::Opened { handed, passed: _ } => handed,
+        Ok(Answered::Done(r)) => r,
+        Ok(Answered::Opened(o)) => o.handed,
+        Ok(Answered::Cut) => held,
+        Err(_) => held,
     }
 }
 
 // How many sectors the last opening passed over that was accepted.
-pub fn passed_after(a: Answered, n: u32) -> u32
+pub fn passed_after(a: Result<Answered, Refusal>, n: u32) -> u32
     ensures { result ≡ passed_by (answer_is a) n }
 {
     match a {
-        Answered::Done(_) => n,
-        Answered::Cut => n,
-        Answered::Refused(_) => n,
-        Answered::Opened { handed: _, passed } => passed,
+        Ok(Answered::Opened(o)) => o.passed,
+        Ok(Answered::Done(_)) => n,
+        Ok(Answered::Cut) => n,
+        Err(_) => n,
     }
 }
 
 // Whether the call was cut.
-pub fn is_cut(a: Answered) -> bool
+#[tactic(auto, unfolding(model::specs::Calls::is_cut))]
+pub fn is_cut(a: Result<Answered, Refusal>) -> bool
     ensures { result ≡ is_cut (answer_is a) }
 {
     match a {
-        Answered::Done(_) => false,
-        Answered::Cut => true,
-        Answered::Refused(_) => false,
-        Answered::Opened {
-            handed: _,
-            passed: _,
-        } => false,
+        Ok(Answered::Cut) => true,
+        Ok(Answered::Done(_)) => false,
+        Ok(Answered::Opened(_)) => false,
+        Err(_) => false,
     }
 }
 
 // The number that is told of it.
-pub fn number_for(a: Answered) -> u32
+pub fn number_for(a: Result<Answered, Refusal>) -> u32
     ensures { result ≡ number_for (answer_is a) }
 {
     match a {
-        Answered::Done(_) => DONE,
-        Answered::Cut => CUT,
-        Answered::Refused(why) => refusal::number(why),
-        Answered::Opened {
-            handed: _,
-            passed: _,
-        } => DONE,
+        Ok(Answered::Done(_)) => DONE,
+        Ok(Answered::Opened(_)) => DONE,
+        Ok(Answered::Cut) => CUT,
+        Err(why) => u32::from(why),
     }
 }
 
 // The answer of a reply.
-fn answer_of(r: Reply) -> Answered
+#[tactic(auto, unfolding(model::specs::Calls::answer_of))]
+fn answer_of(r: Result<Reply, Refusal>) -> Result<Answered, Refusal>
     ensures { answer_is result ≡ answer_of r }
 {
     match r {
-        Reply::Done(held) => Answered::Done(held),
-        Reply::Cut => Answered::Cut,
-        Reply::Refused(why) => Answered::Refused(why),
+        Ok(Reply::Done(held)) => Ok(Answered::Done(held)),
+        Ok(Reply::Cut) => Ok(Answered::Cut),
+        Err(why) => Err(why),
     }
 }
 
 // The answer of an opening.
-fn answer_of_opening(o: Opened) -> Answered
+#[tactic(auto, unfolding(model::specs::Calls::answer_of_opening))]
+fn answer_of_opening(o: Result<Opened, Refusal>) -> Result<Answered, Refusal>
     ensures { answer_is result ≡ answer_of_opening o }
 {
     match o {
-        Opened::Open { handed, passed } => Answered::Opened { handed, passed },
-        Opened::Refused(why) => Answered::Refused(why),
+        Ok(opened) => Ok(Answered::Opened(opened)),
+        Err(why) => Err(why),
     }
 }
 
 // ---- a call as numbers
 
-// The kind of the call that is carried out: after a cut an opening.
-pub fn kind_after(down: bool, kind: u32) -> u32
-    ensures { result ≡ kind_after down kind }
+// The call that is carried out: after a cut an opening.
+pub fn calling_after(down: bool, number: u32) -> Calling
+    ensures { result ≡ calling_of (kind_after down number) }
 {
     if down {
-        return OPEN;
+        return Calling::Open;
     }
-    kind
+    Calling::from(number)
 }
 
 // A number, or the limit where it is greater.
 pub fn limited(n: u32, limit: usize) -> usize
     ensures { result ≡ min n limit }
 {
-    if (n as u64) < limit as u64 {
-        return n as usize;
-    }
-    limit
+    (n as usize).min(limit)
 }
 
 // ---- one call
-
-// Carries out a call that is for write-once discs. Inside the layers: the kind has been tested.
-fn step_once(
-    disc: &mut [u8],
-    marks: &mut [u8],
-    maps: &[u8],
-    s: u32,
-    l: u32,
-    table: &mut [u32],
-    held: Record,
-    kind: u32,
-    number: u32,
-    bytes: &[u8],
-    cut: Cut,
-) -> Answered
-    requires { kind ≤ 2 }
-    ensures { Steps (lent disc.old marks.old maps.now s l)
-        table.old held (call_of kind number cut bytes.now)
-        result (disc_of disc.new marks.new) table.new }
-{
-    if kind == SAVE_VIRTUAL {
-        let saved = blocks::save_virtual(disc, marks, maps, s, l, table, held, number, bytes, cut);
-        return answer_of(saved);
-    }
-    if kind == FREE_VIRTUAL {
-        let freed = blocks::free_virtual(disc, marks, maps, s, l, table, held, number);
-        return answer_of(freed);
-    }
-    let committed = blocks::commit(disc, marks, maps, s, l, table, held, cut);
-    answer_of(committed)
-}
-
-// Carries out a call that is for rewritable discs. Inside the layers: the kind has been tested.
-fn step_rewritable(
-    disc: &mut [u8],
-    marks: &mut [u8],
-    maps: &[u8],
-    s: u32,
-    l: u32,
-    table: &mut [u32],
-    held: Record,
-    kind: u32,
-    number: u32,
-    bytes: &[u8],
-    cut: Cut,
-) -> Answered
-    requires { (3 ≤ kind) × (kind ≤ 5) }
-    ensures { Steps (lent disc.old marks.old maps.now s l)
-        table.old held (call_of kind number cut bytes.now)
-        result (disc_of disc.new marks.new) table.new }
-{
-    if kind == SAVE_BLOCK {
-        let saved = blocks::save_block(disc, marks, maps, s, l, table, held, number, bytes, cut);
-        return answer_of(saved);
-    }
-    if kind == SAVE_PACKET {
-        let saved = blocks::save_packet(disc, marks, maps, s, l, table, held, number, bytes, cut);
-        return answer_of(saved);
-    }
-    let spared = blocks::spare_packet(disc, marks, maps, s, l, table, held, number, bytes, cut);
-    answer_of(spared)
-}
 
 // Carries out a call.
 pub fn step(
@@ -209,25 +153,32 @@ pub fn step(
     l: u32,
     table: &mut [u32],
     held: Record,
-    kind: u32,
+    calling: Calling,
     number: u32,
     bytes: &[u8],
     cut: Cut,
-) -> Answered
+) -> Result<Answered, Refusal>
     ensures { Steps (lent disc.old marks.old maps.now s l)
-        table.old held (call_of kind number cut bytes.now)
+        table.old held (call_in calling number cut bytes.now)
         result (disc_of disc.new marks.new) table.new }
 {
-    if kind <= COMMIT {
-        return step_once(
-            disc, marks, maps, s, l, table, held, kind, number, bytes, cut,
-        );
+    match calling {
+        Calling::SaveVirtual => answer_of(blocks::save_virtual(
+            disc, marks, maps, s, l, table, held, number, bytes, cut,
+        )),
+        Calling::FreeVirtual => answer_of(blocks::free_virtual(
+            disc, marks, maps, s, l, table, held, number,
+        )),
+        Calling::Commit => answer_of(blocks::commit(disc, marks, maps, s, l, table, held, cut)),
+        Calling::SaveBlock => answer_of(blocks::save_block(
+            disc, marks, maps, s, l, table, held, number, bytes, cut,
+        )),
+        Calling::SavePacket => answer_of(blocks::save_packet(
+            disc, marks, maps, s, l, table, held, number, bytes, cut,
+        )),
+        Calling::SparePacket => answer_of(blocks::spare_packet(
+            disc, marks, maps, s, l, table, held, number, bytes, cut,
+        )),
+        Calling::Open => answer_of_opening(blocks::open(disc, marks, maps, s, l, table)),
     }
-    if kind <= SPARE_PACKET {
-        return step_rewritable(
-            disc, marks, maps, s, l, table, held, kind, number, bytes, cut,
-        );
-    }
-    let opened = blocks::open(disc, marks, maps, s, l, table);
-    answer_of_opening(opened)
 }

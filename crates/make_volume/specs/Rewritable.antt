@@ -1,7 +1,7 @@
 -- Making a rewritable disc alone: as the call of both kinds (model, Both.antt), with line 7 for a write-once list.
-use Rattle.std.specs.Prelude.{ℕ, ◌*◌, true, not, List, [], ◌∷◌, ◌++◌, replicate}
+use Rattle.std.specs.Prelude.{ℕ, ◌*◌, true, not, List, [], ◌∷◌, ◌++◌, replicate, ◌≡◌, IfOk, Result}
 use Rattle.refusal.specs.declared.Refusal.TheVariants.{OtherKind, Misaligned}
-use Rattle.refusal.specs.declared.Verdict.{Verdict}
+use Rattle.refusal.specs.Verdict.{Verdict, verdict_of}
 use Rattle.refusal.specs.Tests.{test, first, and_then}
 use Rattle.model.specs.Disc.{Disc}
 use Rattle.model.specs.Writes.{Write, upward}
@@ -10,8 +10,9 @@ use Rattle.model.specs.Examine.{Setting, write_once, geometry, examined}
 use Rattle.model.specs.Rewrite.{copies_to}
 use Rattle.model.specs.Both.{spare_entries, made_by}
 use Rattle.model.specs.Lent.{Lent}
-use Rattle.sparing_current.specs.declared.Judged.{Judged}
-use Rattle.sparing_current.specs.Looked.{JudgedAs}
+use Rattle.sparing_copy.specs.declared.Layout.{Layout}
+use Rattle.sparing_current.specs.Looked.{LaidOut}
+use Rattle.refusal.specs.declared.Refusal.{Refusal}
 
 -- ---- making: lines 1, 2 and 4 to 7; packets of zeros, a list of spares and tables of sequence 0
 
@@ -35,6 +36,11 @@ made_rewritable e d spares = made_by (make_rewritable_verdict e d spares) (rewri
 unfoldable pub making_writes : Geometry → List ℕ → List Write
 making_writes g table = upward g.span g.start (replicate (2048 * g.span) 0) 0 ++ copies_to g.tables table
 
--- what the call is judged to be, over the lent lists
-abbrev pub JudgesMaking : Lent → List ℕ → Judged → Type 0
-JudgesMaking x spares r = JudgedAs (make_rewritable_verdict x.setting x.disc spares) x.setting x.disc r
+-- what the call is judged to be: the verdict, and where it goes on the layout
+pub record JudgedMaking (e : Setting) (d : Disc) (spares : List ℕ) (r : Result Layout Refusal) : Type 0 where
+  pub verdict : verdict_of r ≡ make_rewritable_verdict e d spares
+  pub layout : IfOk r (LaidOut e d)
+
+-- the same over the lent lists
+abbrev pub JudgesMaking : Lent → List ℕ → Result Layout Refusal → Type 0
+JudgesMaking x spares r = JudgedMaking x.setting x.disc spares r

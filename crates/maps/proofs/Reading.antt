@@ -9,14 +9,16 @@ use lib.Dec.{eqb, leb, lit<, lit≤}
 use lib.ListN.{length, get_or, take, drop, replicate, length-drop}
 use lib.Seq.{get_or-take, length-take-le}
 use Rattle.refusal.specs.declared.Refusal.TheVariants.{MapCut, NeitherKind, Misaligned}
-use Rattle.refusal.specs.declared.Verdict.TheVariants.{Go, Stop}
+use Rattle.std.specs.Prelude.{Ok, Err, Result}
+use Rattle.refusal.specs.Verdict.{answered}
 use Rattle.refusal.specs.Tests.{first, need}
+use Rattle.maps.specs.declared.Volume.{Volume}
 use Rattle.fields.specs.Number.{field}
 use Rattle.fields.proofs.Laws.{field-take}
 use Rattle.maps.specs.declared.Kind.TheVariants.{WriteOnce, Rewritable}
-use Rattle.maps.specs.declared.MapsRead.{MapsRead}
+use Rattle.refusal.specs.declared.Refusal.{Refusal}
 use Rattle.maps.specs.Walk.{Walked, short, maps, first_length, walk}
-use Rattle.maps.specs.Kinds.{virtual_name, sparable_name, type_one, type_two, words, tables_in_range, is_write_once, is_rewritable, used, volume_with, no_volume, volume_of, tables_apart, tables_in, tables_of, kind_tests, judged, answered, volume_in, read_maps}
+use Rattle.maps.specs.Kinds.{virtual_name, sparable_name, type_one, type_two, words, tables_in_range, is_write_once, is_rewritable, used, volume_with, no_volume, volume_of, tables_apart, tables_in, tables_of, kind_tests, judged, volume_in, volume_read, read_maps}
 use Rattle.maps.specs.Told.{is_short, on_maps, one_type_two}
 use Rattle.fields.proofs.Tests.{both, together, alike, by-test}
 use Rattle.maps.proofs.Walk.{whole, walked-first, walked_one, walk_more, walk-one}
@@ -170,23 +172,23 @@ rewritable-bytes s =
 -- ---- what reading a list comes to
 
 -- what a walk that is cut short, and one of neither kind, are answered
-cut-answer : (w : Walked) → is_short w ≡ true → answered (Stop MapCut) no_volume ≡ answered (judged w) (volume_in w)
-unfolding is_short answered judged
+cut-answer : (w : Walked) → is_short w ≡ true → Err MapCut ≡ answered (judged w) (volume_in w)
+unfolding is_short judged
 cut-answer short q = refl
 cut-answer (maps ms) q = absurd (false≢true q)
 
 -- a list that is cut short
-pub read-cut : (s : List ℕ) → is_short (walk s) ≡ true → answered (Stop MapCut) no_volume ≡ read_maps s
+pub read-cut : (s : List ℕ) → is_short (walk s) ≡ true → Err MapCut ≡ read_maps s
 unfolding read_maps
 read-cut s q = cut-answer (walk s) q
 
-neither-answer : (w : Walked) → is_short w ≡ false → on_maps is_write_once w ≡ false → on_maps is_rewritable w ≡ false → answered (Stop NeitherKind) no_volume ≡ answered (judged w) (volume_in w)
-unfolding is_short answered judged on_maps kind_tests need
+neither-answer : (w : Walked) → is_short w ≡ false → on_maps is_write_once w ≡ false → on_maps is_rewritable w ≡ false → Err NeitherKind ≡ answered (judged w) (volume_in w)
+unfolding is_short judged on_maps kind_tests need
 neither-answer short p q r = absurd (false≢true (sym p))
 neither-answer (maps ms) p q r = simp (q, r)
 
 -- a list of neither kind
-pub read-neither : (s : List ℕ) → is_short (walk s) ≡ false → on_maps is_write_once (walk s) ≡ false → on_maps is_rewritable (walk s) ≡ false → answered (Stop NeitherKind) no_volume ≡ read_maps s
+pub read-neither : (s : List ℕ) → is_short (walk s) ≡ false → on_maps is_write_once (walk s) ≡ false → on_maps is_rewritable (walk s) ≡ false → Err NeitherKind ≡ read_maps s
 unfolding read_maps
 read-neither s p q r = neither-answer (walk s) p q r
 
@@ -196,7 +198,7 @@ unfolding read_maps judged volume_in
 by-maps s ms e = ap (λ (w : Walked). answered (judged w) (volume_in w)) (sym e)
 
 -- a list that is write-once
-pub read-write-once : (s : List ℕ) → WriteOnceMaps s → answered Go (volume_with (WriteOnce (field (drop 6 s) 38 2)) (replicate 4 0)) ≡ read_maps s
+pub read-write-once : (s : List ℕ) → WriteOnceMaps s → Ok (volume_with (WriteOnce (field (drop 6 s) 38 2)) (replicate 4 0)) ≡ read_maps s
 unfolding kind_tests need tables_of tables_in tables_apart volume_of volume_with
 read-write-once s m = sym (simp m.told) ∙ by-maps s (take 6 s ∷ drop 6 s ∷ []) m.walked
 
@@ -207,25 +209,25 @@ module _ (s : List ℕ) (m : RewritableMap s) where
   told-rewritable = m.told
 
   -- its tables are not apart
-  pub read-misaligned : tables_apart (take (get_or s 42 0) (used (get_or s 42 0) (words s 48 4))) ≡ false → answered (Stop Misaligned) no_volume ≡ read_maps s
-  unfolding answered kind_tests need tables_of tables_in volume_of volume_with
+  pub read-misaligned : tables_apart (take (get_or s 42 0) (used (get_or s 42 0) (words s 48 4))) ≡ false → Err Misaligned ≡ read_maps s
+  unfolding kind_tests need tables_of tables_in volume_of volume_with
   read-misaligned a = sym (simp (told-rewritable, a)) ∙ by-maps s (s ∷ []) m.walked
 
   -- its tables are apart
-  pub read-rewritable : tables_apart (take (get_or s 42 0) (used (get_or s 42 0) (words s 48 4))) ≡ true → answered Go (volume_with (Rewritable (field s 38 2) (get_or s 42 0) (field s 44 4)) (used (get_or s 42 0) (words s 48 4))) ≡ read_maps s
+  pub read-rewritable : tables_apart (take (get_or s 42 0) (used (get_or s 42 0) (words s 48 4))) ≡ true → Ok (volume_with (Rewritable (field s 38 2) (get_or s 42 0) (field s 44 4)) (used (get_or s 42 0) (words s 48 4))) ≡ read_maps s
   unfolding kind_tests need tables_of tables_in volume_of volume_with
   read-rewritable a = sym (simp (told-rewritable, a)) ∙ by-maps s (s ∷ []) m.walked
 
 -- a list of another length than a rewritable one's is write-once, or refused
-pub read-other-length : {C : Type 0} (s : List ℕ) → (length s ≡ 64 → ⊥) → ((p : ℕ) → (read_maps s).volume.kind ≡ WriteOnce p → C) → C
-unfolding answered no_volume volume_with
+pub read-other-length : {C : Type 0} (s : List ℕ) → (length s ≡ 64 → ⊥) → ((p : ℕ) → (volume_read (read_maps s)).kind ≡ WriteOnce p → C) → C
+unfolding volume_read no_volume volume_with
 read-other-length s n f =
     by-test (is_short (walk s))
-    (λ q. f 0 (ap (λ (m : MapsRead). m.volume.kind) (sym (read-cut s q))))
+    (λ q. f 0 (ap (λ (m : Result Volume Refusal). (volume_read m).kind) (sym (read-cut s q))))
     (λ q.
     by-test (on_maps is_write_once (walk s))
-    (λ w. f (field (drop 6 s) 38 2) (ap (λ (m : MapsRead). m.volume.kind) (sym (read-write-once s (write-once-maps s w)))))
+    (λ w. f (field (drop 6 s) 38 2) (ap (λ (m : Result Volume Refusal). (volume_read m).kind) (sym (read-write-once s (write-once-maps s w)))))
     (λ w.
     by-test (on_maps is_rewritable (walk s))
     (λ r. absurd (n (rewritable-map s r).long))
-    (λ r. f 0 (ap (λ (m : MapsRead). m.volume.kind) (sym (read-neither s q w r))))))
+    (λ r. f 0 (ap (λ (m : Result Volume Refusal). (volume_read m).kind) (sym (read-neither s q w r))))))

@@ -5,7 +5,7 @@ use mathlib.Core.List.{List, [], ◌∷◌, ◌++◌}
 use mathlib.Core.Bool.{true}
 use borrow.Author.Tests.{eq-eqb}
 use lib.ListN.{length, get_or, take, drop, replicate}
-use Rattle.refusal.specs.declared.Verdict.TheVariants.{Go}
+use Rattle.std.specs.Prelude.{Ok}
 use Rattle.fields.specs.Bytes.{part, same}
 use Rattle.fields.specs.Number.{value, digits, field, words, quads}
 use Rattle.fields.specs.Regid.{identifier, regid, has_regid}
@@ -14,7 +14,7 @@ use Rattle.maps.specs.declared.Kind.{Kind}
 use Rattle.maps.specs.declared.Kind.TheVariants.{WriteOnce, Rewritable}
 use Rattle.maps.specs.declared.Volume.{Volume}
 use Rattle.maps.specs.Walk.{walk}
-use Rattle.maps.specs.Kinds.{virtual_name, sparable_name, tables_in_range, is_write_once, is_rewritable, used, volume_with, tables_apart, tables_in, tables_of, answered, read_maps}
+use Rattle.maps.specs.Kinds.{virtual_name, sparable_name, tables_in_range, is_write_once, is_rewritable, used, volume_with, tables_apart, tables_in, tables_of, read_maps}
 use Rattle.maps.specs.Told.{on_maps, one_type_two}
 use Rattle.maps.specs.Written.{type_one_map, type_two_map, maps_of, kind_in_range, places_of, NumbersIn, Ranged}
 use Rattle.maps.proofs.Tables.{length-used, few-tables}
@@ -34,11 +34,11 @@ module _ (p : ℕ) where
   unfolding write_once_list type_one_map type_two_map digits regid identifier virtual_name field part
   write-once-partition = refl
 
-  write-once-back : (t : List ℕ) → p < 65536 → read_maps (maps_of (WriteOnce p) t) ≡ answered Go (volume_with (WriteOnce p) (replicate 4 0))
+  write-once-back : (t : List ℕ) → p < 65536 → read_maps (maps_of (WriteOnce p) t) ≡ Ok (volume_with (WriteOnce p) (replicate 4 0))
   unfolding maps_of write_once_list
   write-once-back t h =
       sym (read-write-once write_once_list (write-once-maps write_once_list write-once-list))
-      ∙ ap (λ (k : ℕ). answered Go (volume_with (WriteOnce k) (replicate 4 0))) (write-once-partition ∙ value-digits 2 p h)
+      ∙ ap (λ (k : ℕ). Ok (volume_with (WriteOnce k) (replicate 4 0))) (write-once-partition ∙ value-digits 2 p h)
 
 -- the list of a rewritable volume, from its four places
 module _ (p n size : ℕ) where
@@ -88,23 +88,23 @@ module _ (p n size : ℕ) (hp : p < 65536) (hs : size < 2 ^ 32) (q : tables_in_r
   apart-back : tables_apart (take n (used n (words list 48 4))) ≡ true
   apart-back = ap (λ (x : List ℕ). tables_apart (take n x)) words_back ∙ ap tables_apart (take-used n (few-tables n size q) t four-t) ∙ a
 
-  rewritable-back : read_maps (maps_of (Rewritable p n size) t) ≡ answered Go (volume_with (Rewritable p n size) (used n t))
+  rewritable-back : read_maps (maps_of (Rewritable p n size) t) ≡ Ok (volume_with (Rewritable p n size) (used n t))
   unfolding maps_of list placed rewritable_list type_two_map regid identifier sparable_name digits
   rewritable-back =
       let f = rewritable-numbers p n size placed in
       let ep = f.0 ∙ value-digits 2 p hp in
       let es = f.2 ∙ size_back in
       sym (read-rewritable list map_back apart-back)
-      ∙ (λ i. answered Go (volume_with (Rewritable (ep i) n (es i)) (words_back i)))
+      ∙ (λ i. Ok (volume_with (Rewritable (ep i) n (es i)) (words_back i)))
 
 -- each kind back
-kind-back : (k : Kind) (t : List ℕ) → NumbersIn k → length t ≡ 4 → Sectors t → kind_in_range k ≡ true → tables_apart (tables_in k t) ≡ true → read_maps (maps_of k t) ≡ answered Go (volume_with k (places_of k t))
+kind-back : (k : Kind) (t : List ℕ) → NumbersIn k → length t ≡ 4 → Sectors t → kind_in_range k ≡ true → tables_apart (tables_in k t) ≡ true → read_maps (maps_of k t) ≡ Ok (volume_with k (places_of k t))
 unfolding kind_in_range tables_in places_of
 kind-back (WriteOnce p) t r l h q a = write-once-back p t r
 kind-back (Rewritable p n size) t r l h q a = rewritable-back p n size r.0 r.2 q t l h a
 
 -- every list of a volume of one of the two kinds, whose table sectors are apart, is read as that volume, with no span
 pub list-reads-back : (v : Volume) → Ranged v → kind_in_range v.kind ≡ true → tables_apart (tables_of v) ≡ true
-    → read_maps (maps_of v.kind v.tables) ≡ record { verdict = Go; volume = volume_with v.kind (places_of v.kind v.tables) }
-unfolding tables_of answered
+    → read_maps (maps_of v.kind v.tables) ≡ Ok (volume_with v.kind (places_of v.kind v.tables))
+unfolding tables_of
 list-reads-back v r q a = kind-back v.kind v.tables r.numbers r.places r.sectors q a

@@ -1,8 +1,7 @@
 -- The two kinds of volume, told by the map list (document 01, "The disc and its addresses"), and why a list is turned down (lines 4 to 6).
-use Rattle.std.specs.Prelude.{ℕ, ◌%◌, Bool, true, false, not, ◌&&◌, ◌||◌, List, [], ◌∷◌, ◌++◌, length, get_or, take, replicate, eqb, leb}
+use Rattle.std.specs.Prelude.{ℕ, ◌%◌, Bool, true, false, not, ◌&&◌, ◌||◌, List, [], ◌∷◌, ◌++◌, length, get_or, take, replicate, eqb, leb, Ok, Err, Result}
 use Rattle.refusal.specs.declared.Refusal.TheVariants.{MapCut, NeitherKind, Misaligned}
-use Rattle.refusal.specs.declared.Verdict.{Verdict}
-use Rattle.refusal.specs.declared.Verdict.TheVariants.{Go, Stop}
+use Rattle.refusal.specs.Verdict.{Verdict, answered}
 use Rattle.refusal.specs.Tests.{Test, test, first}
 use Rattle.fields.specs.Number.{field}
 unfoldable pub use Rattle.fields.specs.Number.{words}
@@ -10,7 +9,7 @@ use Rattle.fields.specs.Regid.{has_regid}
 use Rattle.maps.specs.declared.Kind.{Kind}
 use Rattle.maps.specs.declared.Kind.TheVariants.{WriteOnce, Rewritable}
 use Rattle.maps.specs.declared.Volume.{Volume}
-use Rattle.maps.specs.declared.MapsRead.{MapsRead}
+use Rattle.refusal.specs.declared.Refusal.{Refusal}
 use Rattle.maps.specs.Walk.{Walked, short, maps, walk}
 
 -- "*UDF Virtual Partition"
@@ -93,13 +92,8 @@ kind_tests ms =
 
 -- why a map list is turned down: lines 4, 5 and, of 6, what it shows
 unfoldable pub judged : Walked → Verdict
-judged short = Stop MapCut
+judged short = Err MapCut
 judged (maps ms) = first (kind_tests ms)
-
--- the answer of a verdict: the volume, or nothing beside the refusal
-unfoldable pub answered : Verdict → Volume → MapsRead
-answered Go v = record { verdict = Go; volume = v }
-answered (Stop why) v = record { verdict = Stop why; volume = no_volume }
 
 -- the volume of a walked list
 unfoldable pub volume_in : Walked → Volume
@@ -107,5 +101,10 @@ volume_in short = no_volume
 volume_in (maps ms) = volume_of ms
 
 -- reading a map list
-unfoldable pub read_maps : List ℕ → MapsRead
+unfoldable pub read_maps : List ℕ → Result Volume Refusal
 read_maps s = answered (judged (walk s)) (volume_in (walk s))
+
+-- the volume that was read, none where the list is turned down
+unfoldable pub volume_read : Result Volume Refusal → Volume
+volume_read (Ok v) = v
+volume_read (Err why) = no_volume

@@ -5,14 +5,14 @@
 #![tactic(auto)]
 
 ghost use Rattle.std.specs.Prelude.{◌≡◌, true, List, ℕ, ◌≤◌, ◌<◌, length, take, drop};
-ghost use Rattle.refusal.specs.declared.Verdict;
 ghost use Rattle.fields.specs.Regid.{regid as regidOf};
 ghost use Rattle.maps.specs.Walk.{walk};
-ghost use Rattle.maps.specs.Kinds.{words, tables_in_range, is_write_once, is_rewritable, used, volume_with, no_volume, absent, tables_apart, answered, read_maps};
+ghost use Rattle.maps.specs.Kinds.{words, tables_in_range, is_write_once, is_rewritable, used, volume_with, absent, tables_apart, read_maps};
 ghost use Rattle.maps.specs.Told.{is_short, on_maps, one_type_two};
 
 use address::Span;
-use refusal::{Refusal, Verdict};
+use fields::Number;
+use refusal::Refusal;
 
 // Every map begins with its type and its length.
 pub const TYPE_AT: usize = 0;
@@ -76,7 +76,7 @@ const MOST_SIZE: u32 = 2048;
 const PLACES: usize = 4;
 
 // The two kinds of volume, and what the map list says of each.
-#[derive(Clone, Copy)]
+#[derive(Clone, Copy, PartialEq, Eq)]
 pub enum Kind {
     WriteOnce {
         partition: u16,
@@ -91,58 +91,24 @@ pub enum Kind {
 
 // A volume: its span on the disc, which no map list gives and the caller fills in, its kind, and on a
 // rewritable one the sectors of its sparing tables (0 in the places that are not used).
-#[derive(Clone, Copy)]
+#[derive(Clone, Copy, PartialEq, Eq)]
 pub struct Volume {
     pub span: Span,
     pub kind: Kind,
     pub tables: [u32; 4],
 }
 
-// What reading a map list gives: a verdict, and the volume where it says Go.
-#[derive(Clone, Copy)]
-pub struct MapsRead {
-    pub verdict: Verdict,
-    pub volume: Volume,
-}
-
-// What stands for the volume of a list that is turned down.
-pub fn no_volume() -> Volume
-    ensures { result ≡ no_volume }
+// A volume, its span not known yet.
+fn volume_with(kind: Kind, tables: [u32; 4]) -> Volume
+    ensures { result ≡ volume_with kind tables }
 {
     Volume {
         span: Span {
             start: 0,
             length: 0,
         },
-        kind: Kind::WriteOnce { partition: 0 },
-        tables: [0; 4],
-    }
-}
-
-// A reading that is turned down.
-fn refused(why: Refusal) -> MapsRead
-    ensures { result ≡ answered (Verdict.Stop why) no_volume }
-{
-    MapsRead {
-        verdict: Verdict::Stop(why),
-        volume: no_volume(),
-    }
-}
-
-// A reading that gives a volume.
-fn accepted(kind: Kind, tables: [u32; 4]) -> MapsRead
-    ensures { result ≡ answered Verdict.Go (volume_with kind tables) }
-{
-    MapsRead {
-        verdict: Verdict::Go,
-        volume: Volume {
-            span: Span {
-                start: 0,
-                length: 0,
-            },
-            kind,
-            tables,
-        },
+        kind,
+        tables,
     }
 }
 
@@ -151,12 +117,13 @@ fn is_short(maps: &[u8]) -> bool
     ensures { result ≡ is_short (walk maps.now) }
 {
     let mut at: usize = 0;
+    // The new form is no plainer: a step is as long as the map says, and no range or chunks take that.
     while at < maps.len() {
         let left = maps.len() - at;
         if left < HEAD_BYTES {
             return true;
         }
-        let bytes = fields::usize_of_u8(maps[at + LENGTH_AT]);
+        let bytes = usize::from(maps[at + LENGTH_AT]);
         if bytes < 1 {
             return true;
         }
@@ -202,7 +169,7 @@ fn is_write_once(maps: &[u8]) -> bool
     if !is_type_two(second, &VIRTUAL) {
         return false;
     }
-    fields::read16(maps, ONE_PARTITION_AT) == fields::read16(second, PARTITION_AT)
+    u16::read(maps, ONE_PARTITION_AT) == u16::read(second, PARTITION_AT)
 }
 
 // Whether a rewritable map's number of tables and the bytes of each are in their ranges.
@@ -228,10 +195,10 @@ fn is_rewritable(maps: &[u8]) -> bool
     if !is_type_two(maps, &SPARABLE) {
         return false;
     }
-    if fields::read16(maps, PACKET_LENGTH_AT) != PACKET_LENGTH {
+    if u16::read(maps, PACKET_LENGTH_AT) != PACKET_LENGTH {
         return false;
     }
-    tables_in_range(maps[TABLES_AT], fields::read32(maps, SIZE_AT))
+    tables_in_range(maps[TABLES_AT], u32::read(maps, SIZE_AT))
 }
 
 // The first `n` table sectors of a rewritable map, and 0 in the other places.
@@ -240,27 +207,10 @@ fn table_sectors(map: &[u8], n: usize) -> [u32; 4]
     ensures { result ≡ used n (words map.now 48 4) }
 {
     let mut sectors = [0u32; 4];
-    let mut i: usize = 0;
-    while i < n {
-        sectors[i] = fields::read32(map, SECTORS_AT + SECTOR_WIDTH * i);
-        i += 1;
+    for i in 0..n {
+        sectors[i] = u32::read(map, SECTORS_AT + SECTOR_WIDTH * i);
     }
     sectors
-}
-
-// Whether none of the first `n` table sectors, from the place `from` on, is `sector`.
-fn is_absent(sectors: [u32; 4], n: usize, from: usize, sector: u32) -> bool
-    requires { n ≤ 4 }
-    ensures { result ≡ absent sector (drop from (take n sectors)) }
-{
-    let mut i = from;
-    while i < n {
-        if sector == sectors[i] {
-            return false;
-        }
-        i += 1;
-    }
-    true
 }
 
 // Whether each of the first `n` of four table sectors starts a packet, and none is named twice.
@@ -268,16 +218,14 @@ fn are_apart(sectors: [u32; 4], n: usize) -> bool
     requires { n ≤ 4 }
     ensures { result ≡ tables_apart (take n sectors) }
 {
-    let mut i: usize = 0;
-    while i < n {
+    for i in 0..n {
         let sector = sectors[i];
         if sector % PACKET != 0 {
             return false;
         }
-        if !is_absent(sectors, n, i + 1, sector) {
+        if sectors[i + 1..n].contains(&sector) {
             return false;
         }
-        i += 1;
     }
     true
 }
@@ -286,51 +234,48 @@ fn are_apart(sectors: [u32; 4], n: usize) -> bool
 pub fn tables_apart(sectors: [u32; 4], n: usize) -> bool
     ensures { result ≡ tables_apart (take n sectors) }
 {
-    if PLACES < n {
-        return are_apart(sectors, PLACES);
-    }
-    are_apart(sectors, n)
+    are_apart(sectors, n.min(PLACES))
 }
 
 // Reads a list that is write-once.
-fn read_write_once(maps: &[u8]) -> MapsRead
+fn read_write_once(maps: &[u8]) -> Result<Volume, Refusal>
     requires { on_maps is_write_once (walk maps.now) ≡ true }
     ensures { result ≡ read_maps maps.now }
 {
     let second = &maps[TYPE_ONE_BYTES..];
-    let partition = fields::read16(second, PARTITION_AT);
-    accepted(Kind::WriteOnce { partition }, [0; 4])
+    let partition = u16::read(second, PARTITION_AT);
+    Ok(volume_with(Kind::WriteOnce { partition }, [0; 4]))
 }
 
 // Reads a list that is rewritable.
-fn read_rewritable(maps: &[u8]) -> MapsRead
+fn read_rewritable(maps: &[u8]) -> Result<Volume, Refusal>
     requires { on_maps is_rewritable (walk maps.now) ≡ true }
     ensures { result ≡ read_maps maps.now }
 {
     let tables = maps[TABLES_AT];
-    let n = fields::usize_of_u8(tables);
+    let n = usize::from(tables);
     let sectors = table_sectors(maps, n);
     if !tables_apart(sectors, n) {
-        return refused(Refusal::Misaligned);
+        return Err(Refusal::Misaligned);
     }
-    let partition = fields::read16(maps, PARTITION_AT);
-    let size = fields::read32(maps, SIZE_AT);
-    accepted(
+    let partition = u16::read(maps, PARTITION_AT);
+    let size = u32::read(maps, SIZE_AT);
+    Ok(volume_with(
         Kind::Rewritable {
             partition,
             tables,
             size,
         },
         sectors,
-    )
+    ))
 }
 
 // Reads a map list.
-pub fn read_maps(maps: &[u8]) -> MapsRead
+pub fn read_maps(maps: &[u8]) -> Result<Volume, Refusal>
     ensures { result ≡ read_maps maps.now }
 {
     if is_short(maps) {
-        return refused(Refusal::MapCut);
+        return Err(Refusal::MapCut);
     }
     if is_write_once(maps) {
         return read_write_once(maps);
@@ -338,5 +283,5 @@ pub fn read_maps(maps: &[u8]) -> MapsRead
     if is_rewritable(maps) {
         return read_rewritable(maps);
     }
-    refused(Refusal::NeitherKind)
+    Err(Refusal::NeitherKind)
 }

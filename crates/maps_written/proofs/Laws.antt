@@ -6,7 +6,7 @@ use native.Mathlib.Omega.{arith}
 use borrow.Author.Tests.{eq-eqb}
 use lib.ListN.{length}
 use Rattle.refusal.specs.declared.Refusal.TheVariants.{LentLength, NeitherKind, Misaligned}
-use Rattle.refusal.specs.declared.Verdict.TheVariants.{Go}
+use Rattle.std.specs.Prelude.{Ok}
 use Rattle.refusal.specs.Tests.{first}
 use Rattle.refusal.proofs.Laws.{passed, goes}
 use Rattle.fields.specs.Number.{digits}
@@ -36,7 +36,7 @@ unfolding written_maps
 length-written v = length-maps v.kind v.tables
 
 -- what is written reads back: every list that may be written is read as its volume
-pub written-reads-back : (v : Volume) → Ranged v → first (write_tests v (map_bytes v.kind)) ≡ Go → read_maps (written_maps v) ≡ record { verdict = Go; volume = told_of v }
+pub written-reads-back : (v : Volume) → Ranged v → first (write_tests v (map_bytes v.kind)) ≡ Ok tt → read_maps (written_maps v) ≡ Ok (told_of v)
 unfolding written_maps write_tests told_of
 written-reads-back v r q =
     let z = passed (write_tests v (map_bytes v.kind)) q in
@@ -45,7 +45,7 @@ written-reads-back v r q =
 -- ---- what is read may be written
 
 -- a volume that is fine, as every one that was read is (`read-fine` of maps), has a list that may be written
-pub fine-goes : (v : Volume) → Fine v → Go ≡ first (write_tests v (map_bytes v.kind))
+pub fine-goes : (v : Volume) → Fine v → (Ok tt) ≡ first (write_tests v (map_bytes v.kind))
 unfolding write_tests
 fine-goes v f =
     goes LentLength (eq-eqb (map_bytes v.kind) (map_bytes v.kind) refl) (goes NeitherKind f.kinds (goes Misaligned f.apart refl))

@@ -11,8 +11,8 @@ use lib.ListN.{length, get_or, take, drop, set, replicate, length-append, take-a
 use lib.Seq.{take-suc, take_at, drop-append-add, length-take-le}
 use Rattle.refusal.specs.declared.Refusal.{Refusal}
 use Rattle.refusal.specs.declared.Refusal.TheVariants.{LentLength, NeitherKind, Misaligned}
-use Rattle.refusal.specs.declared.Verdict.{Verdict}
-use Rattle.refusal.specs.declared.Verdict.TheVariants.{Go, Stop}
+use Rattle.refusal.specs.Verdict.{Verdict}
+use Rattle.std.specs.Prelude.{Ok, Err}
 use Rattle.refusal.specs.Tests.{need}
 use Rattle.refusal.proofs.Laws.{goes, stops}
 use Rattle.fields.specs.Bytes.{splice}
@@ -142,60 +142,60 @@ rewritable-written t a b d e p n k size l h ek ea eb ed ee = (cc) ∙ rewritable
 -- ---- what writing a list comes to
 
 -- the verdict by the volume's kind
-verdict_of : Kind → List ℕ → ℕ → Verdict
-verdict_of k t bytes =
-    need (eqb bytes (map_bytes k)) LentLength (need (kind_in_range k) NeitherKind (need (tables_apart (tables_in k t)) Misaligned Go))
+verdict_by : Kind → List ℕ → ℕ → Verdict
+verdict_by k t bytes =
+    need (eqb bytes (map_bytes k)) LentLength (need (kind_in_range k) NeitherKind (need (tables_apart (tables_in k t)) Misaligned (Ok tt)))
 
 -- a volume, and the bytes that are lent for its list
 module _ (v : Volume) (out : List ℕ) where
-  by_kind : (k : Kind) → v.kind ≡ k → verdict_of k v.tables (length out) ≡ write_verdict v out
-  unfolding verdict_of write_verdict write_tests tables_of
-  by_kind k e = ap (λ (x : Kind). verdict_of x v.tables (length out)) (sym e)
+  by_kind : (k : Kind) → v.kind ≡ k → verdict_by k v.tables (length out) ≡ write_verdict v out
+  unfolding verdict_by write_verdict write_tests tables_of
+  by_kind k e = ap (λ (x : Kind). verdict_by x v.tables (length out)) (sym e)
 
   -- the verdict, and the bytes that go with it
   pub settled : (w : Verdict) (x : List ℕ) → w ≡ write_verdict v out → x ≡ written_or w v out → (w ≡ write_verdict v out) × (x ≡ written_or (write_verdict v out) v out)
   settled w x e q = (e, q ∙ ap (λ (y : Verdict). written_or y v out) e)
 
   -- turned down, the bytes are as they came
-  pub as-it-came : {why : Refusal} → Stop why ≡ write_verdict v out → (Stop why ≡ write_verdict v out) × (out ≡ written_or (write_verdict v out) v out)
+  pub as-it-came : {why : Refusal} → Err why ≡ write_verdict v out → (Err why ≡ write_verdict v out) × (out ≡ written_or (write_verdict v out) v out)
   unfolding written_or
-  as-it-came {why} e = settled (Stop why) out e refl
+  as-it-came {why} e = settled (Err why) out e refl
 
   module _ (p : ℕ) (e : v.kind ≡ WriteOnce p) where
     -- a write-once list of the wrong length
-    pub write-once-length : (length out ≡ 70 → ⊥) → Stop LentLength ≡ write_verdict v out
-    unfolding verdict_of map_bytes
+    pub write-once-length : (length out ≡ 70 → ⊥) → Err LentLength ≡ write_verdict v out
+    unfolding verdict_by map_bytes
     write-once-length h = stops _ (ne_eqb _ _ h) ∙ by_kind (WriteOnce p) e
 
     -- a write-once list, written
-    pub write-once-goes : (x : List ℕ) → length out ≡ 70 → x ≡ maps_of (WriteOnce p) (replicate 4 0) → (Go ≡ write_verdict v out) × (x ≡ written_or (write_verdict v out) v out)
-    unfolding verdict_of map_bytes kind_in_range tables_in tables_apart need written_or written_maps maps_of
+    pub write-once-goes : (x : List ℕ) → length out ≡ 70 → x ≡ maps_of (WriteOnce p) (replicate 4 0) → ((Ok tt) ≡ write_verdict v out) × (x ≡ written_or (write_verdict v out) v out)
+    unfolding verdict_by map_bytes kind_in_range tables_in tables_apart need written_or written_maps maps_of
     write-once-goes x h q =
-        settled Go x
+        settled (Ok tt) x
         (goes LentLength (eq-eqb _ _ h) refl ∙ by_kind (WriteOnce p) e)
         (q ∙ ap (λ (k : Kind). maps_of k v.tables) (sym e))
 
   module _ (p n size : ℕ) (e : v.kind ≡ Rewritable p n size) where
-    by-tables : need (eqb (length out) 64) LentLength (need (tables_in_range n size) NeitherKind (need (tables_apart (take n v.tables)) Misaligned Go)) ≡ write_verdict v out
-    unfolding verdict_of map_bytes kind_in_range tables_in
+    by-tables : need (eqb (length out) 64) LentLength (need (tables_in_range n size) NeitherKind (need (tables_apart (take n v.tables)) Misaligned (Ok tt))) ≡ write_verdict v out
+    unfolding verdict_by map_bytes kind_in_range tables_in
     by-tables = by_kind (Rewritable p n size) e
 
     -- a rewritable list of the wrong length
-    pub rewritable-length : (length out ≡ 64 → ⊥) → Stop LentLength ≡ write_verdict v out
+    pub rewritable-length : (length out ≡ 64 → ⊥) → Err LentLength ≡ write_verdict v out
     rewritable-length h = stops _ (ne_eqb _ _ h) ∙ by-tables
 
     -- one whose numbers are out of range
-    pub rewritable-range : length out ≡ 64 → tables_in_range n size ≡ false → Stop NeitherKind ≡ write_verdict v out
+    pub rewritable-range : length out ≡ 64 → tables_in_range n size ≡ false → Err NeitherKind ≡ write_verdict v out
     rewritable-range h r = goes LentLength (eq-eqb _ _ h) (stops _ r) ∙ by-tables
 
     -- one whose tables are not apart
-    pub rewritable-apart : length out ≡ 64 → tables_in_range n size ≡ true → tables_apart (take n v.tables) ≡ false → Stop Misaligned ≡ write_verdict v out
+    pub rewritable-apart : length out ≡ 64 → tables_in_range n size ≡ true → tables_apart (take n v.tables) ≡ false → Err Misaligned ≡ write_verdict v out
     rewritable-apart h r a = goes LentLength (eq-eqb _ _ h) (goes NeitherKind r (stops _ a)) ∙ by-tables
 
     -- a rewritable list, written
-    pub rewritable-goes : (x : List ℕ) → length out ≡ 64 → tables_in_range n size ≡ true → tables_apart (take n v.tables) ≡ true → x ≡ maps_of (Rewritable p n size) v.tables → (Go ≡ write_verdict v out) × (x ≡ written_or (write_verdict v out) v out)
+    pub rewritable-goes : (x : List ℕ) → length out ≡ 64 → tables_in_range n size ≡ true → tables_apart (take n v.tables) ≡ true → x ≡ maps_of (Rewritable p n size) v.tables → ((Ok tt) ≡ write_verdict v out) × (x ≡ written_or (write_verdict v out) v out)
     unfolding written_or written_maps
     rewritable-goes x h r a q =
-        settled Go x
+        settled (Ok tt) x
         (goes LentLength (eq-eqb _ _ h) (goes NeitherKind r (goes Misaligned a refl)) ∙ by-tables)
         (q ∙ ap (λ (k : Kind). maps_of k v.tables) (sym e))

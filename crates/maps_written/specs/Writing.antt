@@ -1,9 +1,8 @@
 -- Writing a volume's map list: why it is turned down, the lent bytes after it, and what the list tells of the volume (document 01, "The
 -- disc and its addresses"; "Why a call is turned down", lines 3, 5 and 6).
-use Rattle.std.specs.Prelude.{ℕ, List, [], ◌∷◌, length, eqb}
+use Rattle.std.specs.Prelude.{ℕ, List, [], ◌∷◌, length, eqb, Ok, Err}
 use Rattle.refusal.specs.declared.Refusal.TheVariants.{LentLength, NeitherKind, Misaligned}
-use Rattle.refusal.specs.declared.Verdict.{Verdict}
-use Rattle.refusal.specs.declared.Verdict.TheVariants.{Go, Stop}
+use Rattle.refusal.specs.Verdict.{Verdict}
 use Rattle.refusal.specs.Tests.{Test, test, first}
 use Rattle.maps.specs.declared.Kind.{Kind}
 use Rattle.maps.specs.declared.Kind.TheVariants.{WriteOnce, Rewritable}
@@ -34,8 +33,8 @@ write_verdict v out = first (write_tests v (length out))
 
 -- the lent bytes after it: the list, or as they came
 unfoldable pub written_or : Verdict → Volume → List ℕ → List ℕ
-written_or Go v out = written_maps v
-written_or (Stop why) v out = out
+written_or (Ok _) v out = written_maps v
+written_or (Err why) v out = out
 
 -- what the list of a volume tells of it: all but its span, and 0 in the places that are not used
 unfoldable pub told_of : Volume → Volume

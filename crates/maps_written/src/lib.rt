@@ -11,12 +11,13 @@ ghost use Rattle.maps.specs.declared.Kind;
 ghost use Rattle.maps.specs.Written.{type_one_map, type_two_map, maps_of};
 ghost use Rattle.maps_written.specs.Writing.{write_verdict, written_or};
 
+use fields::Number;
 use maps::{
     Kind, LENGTH_AT, ONE_PARTITION_AT, PACKET_LENGTH, PACKET_LENGTH_AT, PARTITION_AT, REGID_AT,
-    SECTOR_WIDTH, SECTORS_AT, SIZE_AT, SPARABLE, TABLES_AT, TYPE_AT, TYPE_ONE, TYPE_ONE_BYTES,
-    TYPE_ONE_LENGTH, TYPE_TWO, TYPE_TWO_BYTES, TYPE_TWO_LENGTH, VIRTUAL, Volume,
+    SECTORS_AT, SIZE_AT, SPARABLE, TABLES_AT, TYPE_AT, TYPE_ONE, TYPE_ONE_BYTES, TYPE_ONE_LENGTH,
+    TYPE_TWO, TYPE_TWO_BYTES, TYPE_TWO_LENGTH, VIRTUAL, Volume,
 };
-use refusal::{Refusal, Verdict};
+use refusal::Refusal;
 
 // The volume sequence number, its place in a map of either type, and its value as it is written.
 const ONE_SEQUENCE_AT: usize = 2;
@@ -38,8 +39,8 @@ fn put_type_one(map: &mut [u8], partition: u16)
 {
     map[TYPE_AT] = TYPE_ONE;
     map[LENGTH_AT] = TYPE_ONE_LENGTH;
-    fields_written::write16(map, ONE_SEQUENCE_AT, SEQUENCE);
-    fields_written::write16(map, ONE_PARTITION_AT, partition);
+    SEQUENCE.write(map, ONE_SEQUENCE_AT);
+    partition.write(map, ONE_PARTITION_AT);
 }
 
 // Writes a type 2 map up to its partition number, and 0 after that.
@@ -52,20 +53,8 @@ fn put_type_two(map: &mut [u8], regid: &[u8], partition: u16)
     map[LENGTH_AT] = TYPE_TWO_LENGTH;
     fields_written::clear(&mut map[RESERVED_AT..]);
     fields_written::write_regid(map, REGID_AT, regid);
-    fields_written::write16(map, SEQUENCE_AT, SEQUENCE);
-    fields_written::write16(map, PARTITION_AT, partition);
-}
-
-// Writes the first `n` table sectors into a map.
-fn put_sectors(map: &mut [u8], sectors: [u32; 4], n: usize)
-    requires { (n ≤ 4) × (64 ≤ length map.old) }
-    ensures { map.new ≡ splice map.old 48 (quads (take n sectors)) }
-{
-    let mut i: usize = 0;
-    while i < n {
-        fields_written::write32(map, SECTORS_AT + SECTOR_WIDTH * i, sectors[i]);
-        i += 1;
-    }
+    SEQUENCE.write(map, SEQUENCE_AT);
+    partition.write(map, PARTITION_AT);
 }
 
 // Writes the list of a write-once volume.
@@ -83,24 +72,22 @@ fn put_rewritable(out: &mut [u8], partition: u16, tables: u8, size: u32, sectors
     ensures { out.new ≡ maps_of (Kind.Rewritable partition tables size) sectors }
 {
     put_type_two(out, &SPARABLE, partition);
-    fields_written::write16(out, PACKET_LENGTH_AT, PACKET_LENGTH);
+    PACKET_LENGTH.write(out, PACKET_LENGTH_AT);
     out[TABLES_AT] = tables;
-    fields_written::write32(out, SIZE_AT, size);
-    put_sectors(out, sectors, fields::usize_of_u8(tables));
+    size.write(out, SIZE_AT);
+    fields_written::write_numbers(out, SECTORS_AT, &sectors[..usize::from(tables)]);
 }
 
 // Writes a volume's map list into all bytes lent, or leaves them as they came. The volume's span is not
 // looked at.
-pub fn write_maps(volume: Volume, out: &mut [u8]) -> Verdict
+pub fn write_maps(volume: Volume, out: &mut [u8]) -> Result<(), Refusal>
     ensures value { result ≡ write_verdict volume out.old }
     ensures out_after { out.new ≡ written_or (write_verdict volume out.old) volume out.old }
 {
-    let kind = volume.kind;
-    let sectors = volume.tables;
-    match kind {
+    match volume.kind {
         Kind::WriteOnce { partition } => {
             if out.len() != WRITE_ONCE_BYTES {
-                return Verdict::Stop(Refusal::LentLength);
+                return Err(Refusal::LentLength);
             }
             put_write_once(out, partition);
         }
@@ -110,16 +97,16 @@ pub fn write_maps(volume: Volume, out: &mut [u8]) -> Verdict
             size,
         } => {
             if out.len() != TYPE_TWO_BYTES {
-                return Verdict::Stop(Refusal::LentLength);
+                return Err(Refusal::LentLength);
             }
             if !maps::tables_in_range(tables, size) {
-                return Verdict::Stop(Refusal::NeitherKind);
+                return Err(Refusal::NeitherKind);
             }
-            if !maps::tables_apart(sectors, fields::usize_of_u8(tables)) {
-                return Verdict::Stop(Refusal::Misaligned);
+            if !maps::tables_apart(volume.tables, usize::from(tables)) {
+                return Err(Refusal::Misaligned);
             }
-            put_rewritable(out, partition, tables, size, sectors);
+            put_rewritable(out, partition, tables, size, volume.tables);
         }
     }
-    Verdict::Go
+    Ok(())
 }

@@ -8,7 +8,7 @@ use mathlib.Core.List.{List, [], ◌∷◌}
 use native.Mathlib.Omega.{arith}
 use lib.ListN.{length}
 use Rattle.refusal.specs.declared.Refusal.TheVariants.{BlankSector}
-use Rattle.refusal.specs.declared.Verdict.TheVariants.{Go}
+use Rattle.std.specs.Prelude.{Ok}
 use Rattle.refusal.specs.Tests.{need}
 use Rattle.fields.specs.Bytes.{part, splice, same, join}
 use Rattle.fields.specs.Number.{value, digits, field, words, quads}
@@ -16,11 +16,11 @@ use Rattle.fields.specs.Regid.{identifier, regid, has_regid}
 use Rattle.tag.specs.Checksum.{total, checksum_of}
 use Rattle.tag.specs.Crc.{bit_step, bits_of, bits_from, byte_step, crc_from}
 use Rattle.maps.specs.Walk.{before as before_rest, first_length, first_whole, walk_up_to, walk}
-use Rattle.maps.specs.Kinds.{virtual_name, type_one, type_two, is_write_once, volume_with, volume_of, tables_apart, tables_in, tables_of, kind_tests, judged, answered, volume_in, read_maps}
+use Rattle.maps.specs.Kinds.{virtual_name, type_one, type_two, is_write_once, volume_with, volume_of, tables_apart, tables_in, tables_of, kind_tests, judged, volume_in, read_maps, volume_read}
+use Rattle.refusal.specs.Verdict.{verdict_of}
 use Rattle.maps.specs.Written.{type_one_map, type_two_map, maps_of}
 use Rattle.model.specs.declared.Effect.{Effect}
 use Rattle.model.specs.declared.Record.{Record}
-use Rattle.model.specs.declared.Opened.{Opened}
 use Rattle.model.specs.Disc.{sector, mark, recorded, recorded_run, first_mark, nwa, known, shapely, inside}
 use Rattle.model.specs.Writes.{on_effect, landing, landed, write, writes, struck, no_cut}
 use Rattle.model.specs.Vat.{vat_name, none, file_fits, count_of, entries_of, previous_of, below_or_none, all_below, tag_fits, form, file_length, attributes, allocation, entry_fits, allocation_fits, file_of, table_fits, passes, vat_icb, vat_file, scan}
@@ -53,13 +53,13 @@ first-met = record { unreadable = refl; blank = refl; above = refl; below = refl
 -- what is computed of the disc: opening finds the VAT, its ICB in block 1, and passes over no sector; its one entry names a blank block
 record Computed : Type 0 where
   once : write_once six ≡ true
-  maps : (read_maps six.maps).verdict ≡ Go
-  opens : opening six named lent ≡ Opened.Open (Record.WriteOnce 1 2 1) 0
+  maps : verdict_of (read_maps six.maps) ≡ Ok tt
+  opens : opening six named lent ≡ Ok (record { handed = Record.WriteOnce 1 2 1; passed = 0 })
   whole : bytes_only named.bytes ≡ true
   begins : start six named ≡ store (blank ∷ []) (blank ∷ [])
 
 computed : Computed
-unfolding bytes_only six named lent write_once is_once volume before_rest first_length first_whole walk_up_to walk virtual_name type_one type_two is_write_once volume_with volume_of tables_apart tables_in tables_of kind_tests judged answered volume_in read_maps type_one_map type_two_map maps_of need part splice same join value digits field words quads identifier regid has_regid total checksum_of bit_step bits_of bits_from byte_step crc_from sector mark recorded nwa known shapely inside landing landed write writes no_cut vat_name none file_fits count_of entries_of previous_of below_or_none all_below tag_fits form file_length attributes allocation entry_fits allocation_fits file_of table_fits passes vat_icb vat_file scan file_bytes data_sectors written_file filled written_allocation written_form written_entry tag_with written_tag written_icb shape_tests place_tests examined lent_table next_on is_found found_at newest newest_file open_once_tests found_record passed_over open_verdict record_on passed_on opened_by opening start blocks_on entry_slots entry_slot slot_at
+unfolding bytes_only six named lent write_once is_once volume before_rest first_length first_whole walk_up_to walk virtual_name type_one type_two is_write_once volume_with volume_of tables_apart tables_in tables_of kind_tests judged volume_in read_maps type_one_map type_two_map maps_of need part splice same join value digits field words quads identifier regid has_regid total checksum_of bit_step bits_of bits_from byte_step crc_from sector mark recorded nwa known shapely inside landing landed write writes no_cut vat_name none file_fits count_of entries_of previous_of below_or_none all_below tag_fits form file_length attributes allocation entry_fits allocation_fits file_of table_fits passes vat_icb vat_file scan file_bytes data_sectors written_file filled written_allocation written_form written_entry tag_with written_tag written_icb shape_tests place_tests examined lent_table next_on is_found found_at newest newest_file open_once_tests found_record passed_over open_verdict record_on passed_on opened_by opening start blocks_on entry_slots entry_slot slot_at volume_read
 computed = record { once = refl; maps = refl; opens = refl; whole = refl; begins = refl }
 
 abbrev st : State
@@ -69,7 +69,7 @@ accepts : is_opened (answer_of_opening (opening six named lent)) ≡ true
 unfolding is_opened answer_of_opening
 accepts = ap (λ x. is_opened (answer_of_opening x)) computed.opens
 
-goes : open_verdict six named lent ≡ Go
+goes : open_verdict six named lent ≡ Ok tt
 goes = accepted-goes six named lent accepts
 
 at_first : Between six st (store (blank ∷ []) (blank ∷ [])) 1 2 1

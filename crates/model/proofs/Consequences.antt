@@ -9,8 +9,8 @@ use lib.ListN.{length, length-append}
 use lib.Seq.{get_or-append_seam, take-append_seam}
 use borrow.Author.Tests.{leb-true, ltb-true, eqb-true, eq-eqb, ne_eqb, not-true}
 use Rattle.refusal.specs.declared.Refusal.TheVariants.{OtherKind, StaleRecord, UnusedEntry}
-use Rattle.refusal.specs.declared.Verdict.{Verdict}
-use Rattle.refusal.specs.declared.Verdict.TheVariants.{Go}
+use Rattle.refusal.specs.Verdict.{Verdict}
+use Rattle.std.specs.Prelude.{Ok}
 use Rattle.refusal.specs.Tests.{Test, test}
 use Rattle.refusal.proofs.Laws.{passed}
 use Rattle.fields.specs.Bytes.{part}
@@ -175,13 +175,13 @@ refusals-change-nothing e d t cs c f a =
 
 -- ---- what the acceptance of a call tells
 
-kind-again : (e : Setting) (d : Disc) (t : List ℕ) (lent : Bool) (r : Record) (own : List Test) → rewritable_verdict e d t lent r own ≡ Go → write_once e ≡ false
+kind-again : (e : Setting) (d : Disc) (t : List ℕ) (lent : Bool) (r : Record) (own : List Test) → rewritable_verdict e d t lent r own ≡ Ok tt → write_once e ≡ false
 unfolding rewritable_verdict
 kind-again e d t lent r own g =
     let p = then-go (examined e d lent) _ g in
     not-true _ (passed (test (not (write_once e)) OtherKind ∷ (copy_tests e d ++ (test (held_current e d t r) StaleRecord ∷ own))) p.1).0
 
-kind-once : (e : Setting) (d : Disc) (t : List ℕ) (lent : Bool) (r : Record) (own : List Test) → once_verdict e d t lent r own ≡ Go → write_once e ≡ true
+kind-once : (e : Setting) (d : Disc) (t : List ℕ) (lent : Bool) (r : Record) (own : List Test) → once_verdict e d t lent r own ≡ Ok tt → write_once e ≡ true
 unfolding once_verdict
 kind-once e d t lent r own g =
     let p = then-go (examined e d lent) _ g in
@@ -352,7 +352,7 @@ full-effect =
     }
 
 -- the same plan, not cut
-uncut-plan : (v : Verdict) (ws : List Write) (tb : List ℕ) (r : Record) (st : State) → v ≡ Go
+uncut-plan : (v : Verdict) (ws : List Write) (tb : List ℕ) (r : Record) (st : State) → v ≡ Ok tt
     → (accepted (carried (unless v (carry ws tb r)) no_cut st).answer ≡ true) × (is_cut (carried (unless v (carry ws tb r)) no_cut st).answer ≡ false)
 unfolding carried unless reply_of answer_of accepted is_cut struck no_cut
 uncut-plan v ws tb r st g = rw g (refl, refl)

@@ -10,12 +10,12 @@ use native.Mathlib.Omega.{arith}
 use lib.Dec.{eqb}
 use lib.ListN.{length}
 use borrow.Author.Tests.{eqb-true, le-leb}
-use Rattle.refusal.specs.declared.Verdict.TheVariants.{Go}
+use Rattle.std.specs.Prelude.{Ok}
 use Rattle.refusal.specs.Tests.{need}
 use Rattle.model.specs.declared.Cut.{Cut}
 use Rattle.model.specs.Examine.{Setting, lent_table}
 use Rattle.model.specs.Once.{entries_held, next_held, last_held, once_verdict, save_plan, room_to_commit, commit_tests, commit_plan, held_verdict}
-use Rattle.model.specs.Calls.{save_virtual, commit, open_disc, State, Result, step, answers, final, accepted, is_cut}
+use Rattle.model.specs.Calls.{save_virtual, commit, open_disc, State, Stepped, step, answers, final, accepted, is_cut}
 use Rattle.model.specs.Store.{Slot, holds, put, store, shape_of, Seen, bytes, seen_as}
 use Rattle.model.specs.Demand.{after_opening, seen}
 use Rattle.model.specs.EitherFirst.{Block, Cuts, both_saved, in_turn, AllDone, EitherFirst, EitherAfter, SavedInTurn, SavesDecide}
@@ -48,7 +48,7 @@ saved e st v b c ok uncut =
     let go = plan-goes _ _ _ c st ok in
     let whole = plan-uncut _ _ _ c st go uncut in
     let f = facts e st v b c go in
-    subst (λ (r : Result). Saved e st v b r.state) (sym (plan-done _ _ _ c st go whole))
+    subst (λ (r : Stepped). Saved e st v b r.state) (sym (plan-done _ _ _ c st go whole))
     (record {
       from = f.fits;
       fits = saved-fits e st v b c go whole;
@@ -61,12 +61,12 @@ saved e st v b c ok uncut =
 
 -- it goes on where there is room
 commit-goes : (e : Setting) (st : State) → Fits e st → room_to_commit e.span st.held ≡ true
-    → once_verdict e st.disc st.table (lent_table st.table) st.held (commit_tests e st.held) ≡ Go
+    → once_verdict e st.disc st.table (lent_table st.table) st.held (commit_tests e st.held) ≡ Ok tt
 unfolding held_verdict commit_tests need
 commit-goes e st f room = once-goes e st.disc st.table _ st.held _ (fits-go e st f) ∙ rw room
 
 -- what one that is not cut leaves
-record Committed (e : Setting) (st : State) (r : Result) : Type 0 where
+record Committed (e : Setting) (st : State) (r : Stepped) : Type 0 where
   live : Live e r.state (store (blocks_of e st) (blocks_of e st))
   accepts : accepted r.answer ≡ true
 

@@ -5,7 +5,7 @@ use mathlib.Core.List.{List, [], ◌∷◌}
 use native.Mathlib.Omega.{arith}
 use lib.ListN.{set}
 use Rattle.label.specs.PerMille.{nearest, per_mille}
-use Rattle.refusal.specs.declared.Verdict.TheVariants.{Go}
+use Rattle.std.specs.Prelude.{Ok}
 use Rattle.refusal.specs.Tests.{need}
 use Rattle.model.specs.declared.Record.{Record}
 use Rattle.model.specs.Disc.{Disc}
@@ -24,7 +24,7 @@ use Rattle.model.proofs.Verdicts.{unless-go, once-goes}
 
 -- the one write of example j
 one-write : (maps : List ℕ) (d : Disc) (s last : ℕ) (t : List ℕ) (v : ℕ) → v < 2
-    → once_verdict (setting maps s 9) d t (save_lent t zeros) (Record.WriteOnce 2 7 last) [] ≡ Go
+    → once_verdict (setting maps s 9) d t (save_lent t zeros) (Record.WriteOnce 2 7 last) [] ≡ Ok tt
     → save_plan (setting maps s 9) d t (Record.WriteOnce 2 7 last) v zeros
     ≡ carry (record { place = s + 7; bytes = zeros } ∷ []) (set t v 7) (Record.WriteOnce 2 8 last)
 unfolding save_plan number_fits save_tests need part value field blocks_in tag_fits passes file_bytes data_sectors entries_held next_held last_held count_after room_to_save zeros

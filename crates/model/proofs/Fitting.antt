@@ -8,8 +8,8 @@ use native.Mathlib.Omega.{arith}
 use lib.Dec.{eqb}
 use borrow.Author.Tests.{le-leb, ne_eqb}
 use Rattle.refusal.specs.declared.Refusal.TheVariants.{StaleRecord, PassesAsIcb}
-use Rattle.refusal.specs.declared.Verdict.{Verdict}
-use Rattle.refusal.specs.declared.Verdict.TheVariants.{Go}
+use Rattle.refusal.specs.Verdict.{Verdict}
+use Rattle.std.specs.Prelude.{Ok}
 use Rattle.refusal.specs.Tests.{need}
 use Rattle.fields.specs.Bytes.{part}
 use Rattle.fields.specs.Number.{value, field}
@@ -34,7 +34,7 @@ use Rattle.model.proofs.Run.{computed, at_first, Now}
 
 -- lines 1 to 6 hold of the disc as it was opened
 examined-first : (held : Record) (b : Bool) → held_fits twelve before.disc before.table held ≡ b
-    → held_verdict twelve before.disc before.table held ≡ need b StaleRecord Go
+    → held_verdict twelve before.disc before.table held ≡ need b StaleRecord (Ok tt)
 unfolding held_verdict once_verdict lent_table need
 examined-first held b q =
     let l = at_first.live in
@@ -75,7 +75,7 @@ refused-first : (step twelve before (save_virtual 0 (written_icb 1 [] 0) no_cut)
 unfolding twelve number_fits save_tests entries_held next_held need
 refused-first = (save-refused at_first 0 (written_icb 1 [] 0) no_cut PassesAsIcb (length-icb [] 0 1) (rw passing)).says
 
-hindered : carried_out twelve before (λ i. written_icb 1 [] 0) (λ i. no_cut) day ≡ Forecast.Stops 0 PassesAsIcb
+hindered : carried_out twelve before (λ i. written_icb 1 [] 0) (λ i. no_cut) day ≡ Ok (Forecast.Stops 0 PassesAsIcb)
 unfolding carried_out told_of or_refused item_calls item_call is_commit day answers
 hindered = rw refused-first
 

@@ -8,7 +8,7 @@ use lib.ListN.{length}
 use borrow.Author.Tests.{leb-true, eqb-true}
 use Rattle.maps.specs.declared.Kind.{Kind}
 use Rattle.maps.specs.declared.Kind.TheVariants.{WriteOnce, Rewritable}
-use Rattle.maps.specs.Kinds.{tables_in_range, tables_apart, read_maps}
+use Rattle.maps.specs.Kinds.{tables_in_range, tables_apart, read_maps, volume_read}
 use Rattle.maps.specs.Written.{kind_in_range}
 use Rattle.maps.proofs.Laws.{read-fine}
 use Rattle.model.specs.Disc.{Disc}
@@ -58,7 +58,7 @@ ground e d lent kind x =
       span-32 = eqb-true _ _ q.0;
       outside = q.1;
       apart = (read-fine e.maps x.maps).apart;
-      size = size-in-range (read_maps e.maps).volume.kind (read-fine e.maps x.maps).kinds;
+      size = size-in-range (volume_read (read_maps e.maps)).kind (read-fine e.maps x.maps).kinds;
       sectors = shapely-most d x.shape;
       inside = (inside-fits d e.start e.span x.within).1;
     }

@@ -12,9 +12,9 @@ use lib.Seq.{take_at}
 use borrow.Author.Tests.{eq-eqb, eqb-true, eqb-false, ltb-true, leb-true, not-true}
 use Rattle.refusal.specs.declared.Refusal.{Refusal}
 use Rattle.refusal.specs.declared.Refusal.TheVariants.{DiscShape, SpanOutside, LentLength, BitmapMalformed, MapCut, NeitherKind, Misaligned, OtherKind, NoTable, TooManyEntries, CopiesDiffer, StaleRecord, NumberOutside, BelongsToSpare, WrongRun, NoRun, UnusedEntry, BlankSector, UnreadableSector, PassesAsIcb, NoRoom, OneTable, NoSpare, LastSequence, NotBlank}
-use Rattle.refusal.specs.declared.Verdict.{Verdict}
-use Rattle.refusal.specs.declared.Verdict.TheVariants.{Go, Stop}
-use Rattle.refusal.specs.Number.{number_of, verdict_number}
+use Rattle.refusal.specs.Verdict.{Verdict}
+use Rattle.std.specs.Prelude.{Ok, Err, Result}
+use Rattle.refusal.specs.Number.{number_of, answer_number}
 use Rattle.refusal.specs.Tests.{Test, test}
 use Rattle.refusal.proofs.Laws.{passed, both_go}
 use Rattle.fields.specs.Bytes.{part, same, splice, join}
@@ -25,13 +25,12 @@ use Rattle.model.specs.declared.Cut.{Cut}
 use Rattle.model.specs.declared.Record.{Record}
 use Rattle.model.specs.declared.Reply.{Reply}
 use Rattle.model.specs.declared.Opened.{Opened}
-use Rattle.model.specs.declared.Given.{Given}
 use Rattle.model.specs.declared.Forecast.{Forecast}
 use Rattle.model.specs.Disc.{Disc, recorded}
 use Rattle.model.specs.Writes.{Write, writes, upward, struck}
 use Rattle.model.specs.Vat.{none}
 use Rattle.model.specs.VatWritten.{filled}
-use Rattle.model.specs.Told.{reply_number, opened_number, given_number, forecast_number}
+use Rattle.model.specs.Told.{reply_number, forecast_number}
 use Rattle.model.specs.Sparing.{sparing_name, older_name, Geometry, Entry, entries, flat, is_free, defective, is_defective, is_used, used_of, defective_of, free_of, original_fits, originals_fit, may_follow, ascending, apart, apart_from, whole_packet, original_clear, originals_clear, mapped_of, mapped_fit, entries_fit, count_in, table_in, none_defective, named, copy_fits, spot_of, inserted, first_free, rest, without, turned_defective, retired, free_taken, resorted, written_table, counts, counting_of, counting, sequence_in, sequence_at, table_at, highest, with_sequence, current_sequence, current, first_table, current_table, agree}
 use Rattle.maps.specs.Kinds.{absent}
 use Rattle.model.specs.Plan.{unless, disc_after}
@@ -86,27 +85,27 @@ line NoSpare = omega arith
 line LastSequence = omega arith
 line NotBlank = omega arith
 
-told-verdict : (v : Verdict) → verdict_number v ≢ 18
-told-verdict Go = omega arith
-told-verdict (Stop why) = line why
+told-verdict : (v : Verdict) → answer_number v ≢ 18
+told-verdict (Ok _) = omega arith
+told-verdict (Err why) = line why
 
-told-reply : (r : Reply) → reply_number r ≢ 18
-told-reply (Reply.Done r) = omega arith
-told-reply Reply.Cut = omega arith
-told-reply (Reply.Refused why) = line why
+told-reply : (r : Result Reply Refusal) → reply_number r ≢ 18
+told-reply (Ok (Reply.Done r)) = omega arith
+told-reply (Ok Reply.Cut) = omega arith
+told-reply (Err why) = line why
 
-told-opened : (o : Opened) → opened_number o ≢ 18
-told-opened (Opened.Open r n) = omega arith
-told-opened (Opened.Refused why) = line why
+told-opened : (o : Result Opened Refusal) → answer_number o ≢ 18
+told-opened (Ok o) = omega arith
+told-opened (Err why) = line why
 
-told-given : (r : Given) → given_number r ≢ 18
-told-given Given.Block = omega arith
-told-given (Given.Refused why) = line why
+told-given : (r : Verdict) → answer_number r ≢ 18
+told-given (Ok _) = omega arith
+told-given (Err why) = line why
 
-told-forecast : (f : Forecast) → forecast_number f ≢ 18
-told-forecast (Forecast.Ends next n) = omega arith
-told-forecast (Forecast.Stops i why) = omega arith
-told-forecast (Forecast.Refused why) = line why
+told-forecast : (f : Result Forecast Refusal) → forecast_number f ≢ 18
+told-forecast (Ok (Forecast.Ends next n)) = omega arith
+told-forecast (Ok (Forecast.Stops i why)) = omega arith
+told-forecast (Err why) = line why
 
 -- 18 is the number of nothing that a call answers
 pub no-eighteen : NoEighteen
@@ -225,14 +224,14 @@ unfolding recorded
 stands d t x h = record { marked = ap (λ (m : ℕ). eqb m 1) h.one; holds = h.own }
 
 module _ (e : Setting) (d : Disc) (t : List ℕ) (held : Record) (b : ℕ) (packet : List ℕ) (c : Cut) (low : Below 256 d.bytes)
-    (go : rewritable_verdict e d t (packet_lent t packet) held (spare_tests e d b) ≡ Go) (uncut : struck c (length (spare_writes e d b packet)) ≡ false) where
+    (go : rewritable_verdict e d t (packet_lent t packet) held (spare_tests e d b) ≡ Ok tt) (uncut : struck c (length (spare_writes e d b packet)) ≡ false) where
   abbrev g : Geometry
   g = geometry e d
 
   -- what the tests tell
   record Lines : Type 0 where
     kind : write_once e ≡ false
-    opens : open_verdict e d t ≡ Go
+    opens : open_verdict e d t ≡ Ok tt
     start : b % 32 ≡ 0
     below : b < e.span
     place : of_spare_on e d b ≡ false

@@ -127,14 +127,14 @@ kept-write lg s l i b d {a} {bs} κ r z e p =
     }
 
 -- what a run of writes upward from the first blank block leaves, however it is cut
-pub record Ran (s l i k : ℕ) (d' d : Disc) : Type 0 where
+pub record WrittenUp (s l i k : ℕ) (d' d : Disc) : Type 0 where
   pub shape : shapely d' ≡ true
   pub within : inside d' s l ≡ true
   pub blank : BlankFrom s l d' (i + k)
   pub agree : Agree s i d' d
 
 pub ran-upward : (k n : ℕ) (c : Cut) (s l i : ℕ) (b : List ℕ) (at : ℕ) (d : Disc) → shapely d ≡ true → inside d s l ≡ true → i + k ≤ l → BlankFrom s l d i
-    → at + 2048 * k ≤ length b → Ran s l i k (writes n c (upward k (s + i) b at) d) d
+    → at + 2048 * k ≤ length b → WrittenUp s l i k (writes n c (upward k (s + i) b at) d) d
 unfolding upward writes write
 ran-upward zero n c s l i b at d shape within r z e =
     let q : i + 0 ≡ i = omega arith in
@@ -146,7 +146,7 @@ ran-upward (suc k) n c s l i b at d shape within r z e =
     let d₁ : Disc = landed (landing n c) (s + i) x d in
     let up : s + i + 1 ≡ s + (i + 1) = omega arith in
     let more : i + 1 + k ≡ i + suc k = omega arith in
-    let rec : Ran s l (i + 1) k (writes (n + 1) c (upward k (s + (i + 1)) b (at + 2048)) d₁) d₁ =
+    let rec : WrittenUp s l (i + 1) k (writes (n + 1) c (upward k (s + (i + 1)) b (at + 2048)) d₁) d₁ =
     ran-upward k (n + 1) c s l (i + 1) b (at + 2048) d₁
     (landed-shapely (landing n c) (s + i) x d lx on shape) (sym (landed-inside (landing n c) (s + i) x d s l) ∙ within)
     (omega arith) (blank-landed (landing n c) s l i x d z) (omega arith) in

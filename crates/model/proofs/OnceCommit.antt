@@ -10,7 +10,7 @@ use lib.Dec.{leb, eqb}
 use lib.ListN.{length, take, length-append}
 use lib.Seq.{length-take-le}
 use borrow.Author.Tests.{leb-true, lt-ltb, not-true}
-use Rattle.refusal.specs.declared.Verdict.TheVariants.{Go}
+use Rattle.std.specs.Prelude.{Ok}
 use Rattle.fields.proofs.Laws.{part-all}
 use Rattle.model.specs.declared.Cut.{Cut}
 use Rattle.model.specs.declared.Landing.{Landing}
@@ -30,7 +30,7 @@ use Rattle.model.proofs.Scan.{below-mono, not-recorded, slots-agree}
 use Rattle.model.proofs.Sectors.{Made, shapely-made, shapely-most, inside-fits, landed-shapely, landed-inside, sector-done, recorded-done, writes-append, writes_one, landing-uncut, landing-done-before}
 use Rattle.model.proofs.SectorsRuns.{joined-agree, recorded_run-agree, length-upward, upward-joined, upward-recorded_run}
 use Rattle.model.proofs.WrittenVat.{length-data, data-enough, length-icb, file-count, file-entries, file-previous, icb-file, icb-passes, data-never}
-use Rattle.model.proofs.Once.{Kept, BlankFrom, Ran, on-disc, agree-landed, blank-landed, next-done, kept-write, ran-upward, kept_run}
+use Rattle.model.proofs.Once.{Kept, BlankFrom, WrittenUp, on-disc, agree-landed, blank-landed, next-done, kept-write, ran-upward, kept_run}
 use Rattle.model.proofs.OnceFits.{once_held, held-blank, Fits, goes-fits, blocks_of}
 use Rattle.model.proofs.OnceRead.{Live, live-length, live-fits}
 use Rattle.model.proofs.Cuts.{whole-lands, broken-lands, choice-same}
@@ -81,7 +81,7 @@ module _ (s l : ℕ) (d : Disc) (c : Cut) (t : List ℕ) (i₀ last : ℕ) (shap
   enough : 2048 * D ≤ length body
   enough = data-enough t last
 
-  ran : Ran s l i₀ D d₁ d
+  ran : WrittenUp s l i₀ D d₁ d
   ran = ran-upward D 1 c s l i₀ body 0 d shape within (omega arith) z (omega (arith, enough))
 
   on-k : s + k < length d₁.marks
@@ -246,7 +246,7 @@ module _ (e : Setting) (t : List ℕ) (held : Record) (count : entries_held held
 -- ---- a commit, from any disc, table and record
 
 module _ (e : Setting) (st : State) (c : Cut)
-    (goes : once_verdict e st.disc st.table (lent_table st.table) st.held (commit_tests e st.held) ≡ Go) where
+    (goes : once_verdict e st.disc st.table (lent_table st.table) st.held (commit_tests e st.held) ≡ Ok tt) where
   abbrev t' : List ℕ
   t' = take (entries_held st.held) st.table
 
@@ -315,7 +315,7 @@ module _ (e : Setting) (st : State) (c : Cut)
 -- ---- a commit, between calls
 
 module _ (e : Setting) (h : Shape) (st : State) (σ : Store) (i : Live e st σ) (c : Cut)
-    (goes : once_verdict e st.disc st.table (lent_table st.table) st.held (commit_tests e st.held) ≡ Go) where
+    (goes : once_verdict e st.disc st.table (lent_table st.table) st.held (commit_tests e st.held) ≡ Ok tt) where
   abbrev D'' : ℕ
   D'' = D' e st c goes
 

@@ -5,7 +5,7 @@ use mathlib.Core.Path.{◌≡◌, refl, sym, subst}
 use mathlib.Core.List.{List, ◌∷◌, ◌++◌}
 use lib.ListN.{length, get_or, take}
 use Rattle.refusal.specs.declared.Refusal.TheVariants.{OtherKind, StaleRecord}
-use Rattle.refusal.specs.declared.Verdict.TheVariants.{Go}
+use Rattle.std.specs.Prelude.{Ok}
 use Rattle.refusal.specs.Tests.{Test, test}
 use Rattle.refusal.proofs.Laws.{passed}
 use Rattle.maps.specs.Kinds.{read_maps}
@@ -24,21 +24,22 @@ use Rattle.model.proofs.OnceSave.{OnceOk, sound-save, sound-free, told-save, tol
 use Rattle.model.proofs.OnceOpen.{reopened, first_live}
 use Rattle.model.proofs.OnceCommit.{sound-commit, told-commit}
 use Rattle.model.proofs.Steps.{Told, told-plan, told-opening, list-told, Sound, sound-plan, list-opens, list-ends}
+use Rattle.refusal.specs.Verdict.{verdict_of}
 
 -- an opening that was accepted went on
-pub accepted-goes : (e : Setting) (d : Disc) (t : List ℕ) → is_opened (answer_of_opening (opening e d t)) ≡ true → open_verdict e d t ≡ Go
+pub accepted-goes : (e : Setting) (d : Disc) (t : List ℕ) → is_opened (answer_of_opening (opening e d t)) ≡ true → open_verdict e d t ≡ Ok tt
 unfolding opening opened_by answer_of_opening is_opened
 accepted-goes e d t h = by-verdict (open_verdict e d t) (λ q. q) (λ why q. absurd (false≢true (rw q at h)))
 
 -- a call for rewritable discs never goes on
-pub other-kind : {P : Type 0} (e : Setting) (d : Disc) (t : List ℕ) (lent : Bool) (r : Record) (own : List Test) → write_once e ≡ true → rewritable_verdict e d t lent r own ≡ Go → P
+pub other-kind : {P : Type 0} (e : Setting) (d : Disc) (t : List ℕ) (lent : Bool) (r : Record) (own : List Test) → write_once e ≡ true → rewritable_verdict e d t lent r own ≡ Ok tt → P
 unfolding rewritable_verdict
 other-kind e d t lent r own one g =
     let p = then-go (examined e d lent) _ g in
     let q = passed (test (not (write_once e)) OtherKind ∷ (copy_tests e d ++ (test (held_current e d t r) StaleRecord ∷ own))) p.1 in
     absurd (false≢true (rw one at q.0))
 
-module _ (e : Setting) (one : write_once e ≡ true) (maps-go : (read_maps e.maps).verdict ≡ Go) where
+module _ (e : Setting) (one : write_once e ≡ true) (maps-go : verdict_of (read_maps e.maps) ≡ Ok tt) where
   abbrev h : Shape
   h = shape_of e
 
@@ -84,7 +85,7 @@ module _ (e : Setting) (one : write_once e ≡ true) (maps-go : (read_maps e.map
   told-any false st σ c o q = told-live st σ c o
 
   -- every list of calls
-  once-lists : (d : Disc) (t : List ℕ) → open_verdict e d t ≡ Go → (cs : List Call) → Proper false cs (answers e (after_opening e d t) cs) → Kept e d t cs
+  once-lists : (d : Disc) (t : List ℕ) → open_verdict e d t ≡ Ok tt → (cs : List Call) → Proper false cs (answers e (after_opening e d t) cs) → Kept e d t cs
   unfolding OnceOk
   once-lists d t g cs p =
       let i : OnceOk e false (after_opening e d t) (start e d) = first_live e one maps-go d t g in
@@ -94,13 +95,13 @@ module _ (e : Setting) (one : write_once e ≡ true) (maps-go : (read_maps e.map
             read-once e one maps-go _ _ (list-ends (OnceOk e) h e sound-any cs (after_opening e d t) (start e d) i p q) v out long;
       }
 
-  once-answers : (d : Disc) (t : List ℕ) → open_verdict e d t ≡ Go → (cs : List Call) → Proper false cs (answers e (after_opening e d t) cs)
+  once-answers : (d : Disc) (t : List ℕ) → open_verdict e d t ≡ Ok tt → (cs : List Call) → Proper false cs (answers e (after_opening e d t) cs)
       → (i : ℕ) → i < length cs
       → Told h (followed h (start e d) (take i cs) (answers e (after_opening e d t) (take i cs))) (get_or cs i open_disc) (get_or (answers e (after_opening e d t) cs) i cut)
   unfolding OnceOk
   once-answers d t g cs p = list-told (OnceOk e) h e sound-any cs (after_opening e d t) (start e d) (first_live e one maps-go d t g) p told-any
 
-  once-ends : (d : Disc) (t : List ℕ) → open_verdict e d t ≡ Go → (cs : List Call) → Proper false cs (answers e (after_opening e d t) cs)
+  once-ends : (d : Disc) (t : List ℕ) → open_verdict e d t ≡ Ok tt → (cs : List Call) → Proper false cs (answers e (after_opening e d t) cs)
       → ends_cut false (answers e (after_opening e d t) cs) ≡ false
       → Live e (final e (after_opening e d t) cs) (followed h (start e d) cs (answers e (after_opening e d t) cs))
   unfolding OnceOk

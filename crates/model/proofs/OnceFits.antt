@@ -10,8 +10,8 @@ use lib.ListN.{length, get_or, take, get_or-map}
 use lib.Seq.{get_or-take, length-take-le}
 use borrow.Author.Tests.{ltb-true, leb-true, eqb-true, lt-ltb, le-ltb, le-leb, eq-eqb}
 use Rattle.refusal.specs.declared.Refusal.TheVariants.{LentLength, OtherKind, StaleRecord, NumberOutside, UnusedEntry}
-use Rattle.refusal.specs.declared.Verdict.{Verdict}
-use Rattle.refusal.specs.declared.Verdict.TheVariants.{Go, Stop}
+use Rattle.refusal.specs.Verdict.{Verdict, verdict_of}
+use Rattle.std.specs.Prelude.{Ok, Err}
 use Rattle.refusal.specs.Tests.{Test, test, first, need}
 use Rattle.refusal.proofs.Laws.{passed}
 use Rattle.maps.specs.Kinds.{read_maps}
@@ -65,7 +65,7 @@ held-kind e d t (Record.Rewritable n sequence) h = h
 
 pub record Fits (e : Setting) (st : State) : Type 0 where
   pub kind : write_once e ≡ true
-  pub maps : (read_maps e.maps).verdict ≡ Go
+  pub maps : verdict_of (read_maps e.maps) ≡ Ok tt
   pub shape : shapely st.disc ≡ true
   pub within : inside st.disc e.start e.span ≡ true
   pub lent : 4096 ≤ length st.table
@@ -77,7 +77,7 @@ pub record Fits (e : Setting) (st : State) : Type 0 where
 
 module _ (e : Setting) (st : State) where
   -- a call that goes on has passed them
-  pub goes-fits : (lent : Bool) (own : List Test) → (lent ≡ true → lent_table st.table ≡ true) → once_verdict e st.disc st.table lent st.held own ≡ Go → Fits e st
+  pub goes-fits : (lent : Bool) (own : List Test) → (lent ≡ true → lent_table st.table ≡ true) → once_verdict e st.disc st.table lent st.held own ≡ Ok tt → Fits e st
   unfolding once_verdict lent_table
   goes-fits lent own table g =
       let p = then-go (examined e st.disc lent) _ g in
@@ -100,7 +100,7 @@ module _ (e : Setting) (st : State) where
         last = ltb-true _ _ c.1;
       }
 
-  pub fits : held_verdict e st.disc st.table st.held ≡ Go → Fits e st
+  pub fits : held_verdict e st.disc st.table st.held ≡ Ok tt → Fits e st
   unfolding held_verdict
   fits g = goes-fits _ [] (λ q. q) g
 
@@ -110,10 +110,10 @@ module _ (e : Setting) (st : State) where
     fits-held = held-true e st.disc st.table st.held f.once f.top f.few f.fresh f.last
 
     -- lines 1 to 6, of a call that is lent what it asks for
-    fits-examined : (lent : Bool) → lent ≡ true → examined e st.disc lent ≡ Go
+    fits-examined : (lent : Bool) → lent ≡ true → examined e st.disc lent ≡ Ok tt
     fits-examined lent q = examined-once e f.kind f.maps st.disc lent f.shape f.within q
 
-    pub fits-go : held_verdict e st.disc st.table st.held ≡ Go
+    pub fits-go : held_verdict e st.disc st.table st.held ≡ Ok tt
     unfolding held_verdict once_verdict lent_table need
     fits-go = go-then _ (fits-examined _ (le-leb _ _ f.lent)) ∙ rw (f.kind, fits-held)
 
@@ -172,14 +172,14 @@ module _ (e : Setting) (st : State) (f : Fits e st) (v : ℕ) (out : List ℕ) (
       let bl : get_or σ.blocks v unused ≡ entry_slot st.disc e.start x =
       ap (λ (l : List Slot). get_or l v unused) (sym same) ∙ slots_at st.disc e.start n st.table v on a in
       by_bool (eqb x none)
-      (λ b. shown (Stop UnusedEntry) (read-tests ∙ rw (la, b)) ∙ sym (rw (ln, la, bl, b)))
+      (λ b. shown (Err UnusedEntry) (read-tests ∙ rw (la, b)) ∙ sym (rw (ln, la, bl, b)))
       (λ b.
       shown (first (mark_tests (mark st.disc (e.start + x)))) (read-tests ∙ rw (la, b))
       ∙ sector-shown st.disc (e.start + x) out
       ∙ sym (rw (ln, la, bl, b))))
       (λ a.
       let la : ltb v n ≡ false = le-ltb v n a in
-      shown (Stop NumberOutside) (read-tests ∙ rw la) ∙ sym (rw (ln, la)))
+      shown (Err NumberOutside) (read-tests ∙ rw la) ∙ sym (rw (ln, la)))
 
 -- with lent bytes of another length it is refused under 3
 pub fits-unread : (e : Setting) (st : State) → Fits e st → (v : ℕ) (out : List ℕ) → eqb (length out) 2048 ≡ false → seen e st v out ≡ turned LentLength

@@ -8,13 +8,12 @@ use lib.Dec.{eqb}
 use lib.ListN.{length, set, take}
 use borrow.Author.Tests.{eqb-true, le-leb, eq-eqb}
 use Rattle.refusal.specs.declared.Refusal.TheVariants.{NotBlank}
-use Rattle.refusal.specs.declared.Verdict.TheVariants.{Go}
+use Rattle.std.specs.Prelude.{Ok}
 use Rattle.refusal.specs.Tests.{Test, test, first, need}
 use Rattle.refusal.proofs.Laws.{passed}
 use Rattle.maps.specs.Kinds.{read_maps}
 use Rattle.model.specs.declared.Landing.{Landing}
 use Rattle.model.specs.declared.Record.{Record}
-use Rattle.model.specs.declared.Opened.{Opened}
 use Rattle.model.specs.Disc.{Disc, sector, recorded_run, joined, shapely, inside, nwa}
 use Rattle.model.specs.Writes.{landed, writes, struck, no_cut}
 use Rattle.model.specs.Vat.{none, all_below, passes, vat_icb, vat_file, count_of, entries_of, file_of, icb_at}
@@ -23,7 +22,7 @@ use Rattle.model.specs.Plan.{unless, reply_of, disc_after, table_after}
 use Rattle.model.specs.Examine.{Setting, write_once, examined, lent_table}
 use Rattle.model.specs.Once.{next_on, entries_held, next_held, last_held, once_verdict, found_at, newest, newest_file, found_record, filled_from, count_after, room_to_save, number_fits, save_tests, save_lent, save_plan, room_to_commit, commit_tests, icb_block, commit_writes, commit_plan}
 use Rattle.model.specs.Both.{record_on, numbers_on, passed_on, opened_by, filled_by, opening, opened_table, make_tests, make_verdict, make_writes, made_by, made}
-use Rattle.model.specs.Calls.{save_virtual, commit, open_disc, done, opened, State, Result, answer_of, held_after, carried, answer_of_opening, held_after_opening, step, answers, final, accepted, is_cut}
+use Rattle.model.specs.Calls.{save_virtual, commit, open_disc, done, opened, State, Stepped, answer_of, held_after, carried, answer_of_opening, held_after_opening, step, answers, final, accepted, is_cut}
 use Rattle.model.specs.Store.{Slot, holds, entry_slots, Store, store, Shape, shape_of, put, cut_in, writes_in, was_cut, taken, next, seen_as, bytes, look}
 use Rattle.model.specs.Demand.{after_opening, seen}
 use Rattle.model.specs.Lives.{OnceMadeOpens, first_block, OnceLives}
@@ -39,6 +38,7 @@ use Rattle.model.proofs.OnceRead.{Live, live-held, read-once}
 use Rattle.model.proofs.OnceSave.{OnceOk, sound-save}
 use Rattle.model.proofs.OnceOpen.{length-entries, kept-newest, passed-kept, open-goes, reopened}
 use Rattle.model.proofs.OnceCommit.{sound-commit}
+use Rattle.refusal.specs.Verdict.{verdict_of}
 
 -- ---- what making leaves
 
@@ -112,7 +112,7 @@ module _ (s l : ℕ) (d : Disc) (shape : shapely d ≡ true) (within : inside d 
 
 -- ---- opening a disc that keeps a VAT at a, whose NWA is n
 
-module _ (e : Setting) (once : write_once e ≡ true) (maps-go : (read_maps e.maps).verdict ≡ Go) where
+module _ (e : Setting) (once : write_once e ≡ true) (maps-go : verdict_of (read_maps e.maps) ≡ Ok tt) where
   module _ (d : Disc) (a n : ℕ) (bs : List Slot) (κ : Kept e.start e.span d a bs) (top : next_on e d ≡ n) where
     found : newest e d ≡ icb_at a
     found = kept-newest e once maps-go d a κ
@@ -138,13 +138,13 @@ module _ (e : Setting) (once : write_once e ≡ true) (maps-go : (read_maps e.ma
     unfolding passed_on
     kept-passed = rw (once, ← top) (passed-kept e once maps-go d a κ)
 
-    kept-opening : (t : List ℕ) → 4096 ≤ length t → opening e d t ≡ Opened.Open (Record.WriteOnce (length bs) n a) (n - 1 - a)
+    kept-opening : (t : List ℕ) → 4096 ≤ length t → opening e d t ≡ Ok (record { handed = Record.WriteOnce (length bs) n a; passed = n - 1 - a })
     unfolding opening opened_by
     kept-opening t long = rw (open-goes e once maps-go d t a κ long, kept_record, kept-passed)
 
 -- ---- a disc that was made
 
-module _ (e : Setting) (d : Disc) (spares : List ℕ) (once : write_once e ≡ true) (goes : make_verdict e d spares ≡ Go) where
+module _ (e : Setting) (d : Disc) (spares : List ℕ) (once : write_once e ≡ true) (goes : make_verdict e d spares ≡ Ok tt) where
   record Told : Type 0 where
     examines : Examined e d true
     empty : next_on e d ≡ 0
@@ -153,10 +153,10 @@ module _ (e : Setting) (d : Disc) (spares : List ℕ) (once : write_once e ≡ t
   unfolding make_verdict make_tests
   told =
       let p = then-go (examined e d true) _ goes in
-      let q : first (test (eqb (next_on e d) 0) NotBlank ∷ []) ≡ Go = rw once at p.1 in
+      let q : first (test (eqb (next_on e d) 0) NotBlank ∷ []) ≡ (Ok tt) = rw once at p.1 in
       record { examines = examined-tells e d true p.0; empty = eqb-true _ _ (passed (test (eqb (next_on e d) 0) NotBlank ∷ []) q).0 }
 
-  made-maps : (read_maps e.maps).verdict ≡ Go
+  made-maps : verdict_of (read_maps e.maps) ≡ Ok tt
   made-maps = told.examines.maps
 
   was-blank : BlankFrom e.start e.span d 0
@@ -211,14 +211,14 @@ once-made-opens e d spares t once goes long =
 -- ---- a first block
 
 -- a call whose own tests hold goes on
-live-goes : (e : Setting) → write_once e ≡ true → (read_maps e.maps).verdict ≡ Go → (st : State) (σ : Store) → Live e st σ
-    → (lent : Bool) (own : List Test) → lent ≡ true → first own ≡ Go → once_verdict e st.disc st.table lent st.held own ≡ Go
+live-goes : (e : Setting) → write_once e ≡ true → verdict_of (read_maps e.maps) ≡ Ok tt → (st : State) (σ : Store) → Live e st σ
+    → (lent : Bool) (own : List Test) → lent ≡ true → first own ≡ Ok tt → once_verdict e st.disc st.table lent st.held own ≡ Ok tt
 unfolding once_verdict need
 live-goes e once maps-go st σ i lent own q g =
     go-then _ (examined-once e once maps-go st.disc lent i.kept.shape i.kept.within q)
     ∙ rw (once, live-held e st σ i) g
 
-module _ (e : Setting) (once : write_once e ≡ true) (maps-go : (read_maps e.maps).verdict ≡ Go) (d : Disc) (t b : List ℕ)
+module _ (e : Setting) (once : write_once e ≡ true) (maps-go : verdict_of (read_maps e.maps) ≡ Ok tt) (d : Disc) (t b : List ℕ)
     (κ : Kept e.start e.span d 0 []) (top : next_on e d ≡ 1) (three : 3 ≤ e.span) (lent : 4096 ≤ length t) (whole : length b ≡ 2048)
     (plain : passes d e.start 1 b ≡ false) where
   abbrev h : Shape
@@ -250,7 +250,7 @@ module _ (e : Setting) (once : write_once e ≡ true) (maps-go : (read_maps e.ma
         held = Record.WriteOnce 1 2 0;
       }
 
-  save-goes : once_verdict e d t (save_lent t b) (Record.WriteOnce 0 1 0) (save_tests e d (Record.WriteOnce 0 1 0) 0 b) ≡ Go
+  save-goes : once_verdict e d t (save_lent t b) (Record.WriteOnce 0 1 0) (save_tests e d (Record.WriteOnce 0 1 0) 0 b) ≡ Ok tt
   unfolding save_lent lent_table number_fits save_tests room_to_save count_after entries_held next_held need data_sectors file_bytes
   save-goes =
       live-goes e once maps-go st₀ (store [] []) live₀ _ _ (both (le-leb _ _ lent) (eq-eqb _ _ whole)) (rw (plain, le-leb 3 e.span three) refl)
@@ -272,7 +272,7 @@ module _ (e : Setting) (once : write_once e ≡ true) (maps-go : (read_maps e.ma
         held = Record.WriteOnce 1 3 2;
       }
 
-  commit-goes : once_verdict e st₁.disc st₁.table (lent_table st₁.table) st₁.held (commit_tests e st₁.held) ≡ Go
+  commit-goes : once_verdict e st₁.disc st₁.table (lent_table st₁.table) st₁.held (commit_tests e st₁.held) ≡ Ok tt
   unfolding lent_table commit_tests room_to_commit entries_held next_held need data_sectors file_bytes
   commit-goes = live-goes e once maps-go st₁ (store (holds b ∷ []) []) live₁ _ _ (le-leb _ _ live₁.lent) (rw (le-leb 3 e.span three) refl)
 
@@ -288,7 +288,7 @@ module _ (e : Setting) (once : write_once e ≡ true) (maps-go : (read_maps e.ma
   abbrev st₃ : State
   st₃ = record { disc = st₂.disc; table = opened_table e st₂.disc st₂.table; held = Record.WriteOnce 1 3 2 }
 
-  opening₂ : opening e st₂.disc st₂.table ≡ Opened.Open (Record.WriteOnce 1 3 2) 0
+  opening₂ : opening e st₂.disc st₂.table ≡ Ok (record { handed = Record.WriteOnce 1 3 2; passed = 0 })
   unfolding last_held next_held
   opening₂ = kept-opening e once maps-go st₂.disc 2 3 (holds b ∷ []) live₂.kept (sym live₂.top) st₂.table live₂.lent
 
@@ -308,9 +308,9 @@ module _ (e : Setting) (once : write_once e ≡ true) (maps-go : (read_maps e.ma
   all-final : final e st₀ (first_block b) ≡ st₃
   unfolding final first_block
   all-final =
-      ap (λ (r : Result). final e r.state (commit no_cut ∷ open_disc ∷ [])) saved
-      ∙ ap (λ (r : Result). final e r.state (open_disc ∷ [])) committed
-      ∙ ap (λ (r : Result). r.state) reopens
+      ap (λ (r : Stepped). final e r.state (commit no_cut ∷ open_disc ∷ [])) saved
+      ∙ ap (λ (r : Stepped). final e r.state (open_disc ∷ [])) committed
+      ∙ ap (λ (r : Stepped). r.state) reopens
 
   -- reading number 0 shows the bytes
   shown : (out : List ℕ) → length out ≡ 2048 → seen e (final e st₀ (first_block b)) 0 out ≡ bytes b

@@ -8,7 +8,7 @@ use lib.Dec.{leb}
 use lib.ListN.{length, take, drop, length-append, length-drop}
 use lib.Seq.{take_at}
 use borrow.Author.Tests.{leb-true, le-leb}
-use Rattle.refusal.specs.declared.Verdict.TheVariants.{Go}
+use Rattle.std.specs.Prelude.{Ok}
 use Rattle.refusal.specs.Tests.{first, need}
 use Rattle.refusal.proofs.Laws.{passed}
 use Rattle.fields.specs.Number.{words}
@@ -19,7 +19,7 @@ use Rattle.model.specs.Vat.{Found, icb_at, nowhere, vat_file, count_of, entries_
 use Rattle.model.specs.Examine.{Setting, write_once, examined, lent_table}
 use Rattle.model.specs.Once.{next_on, entries_held, next_held, last_held, is_found, found_at, newest, newest_file, open_once_tests, found_record, passed_over, filled_from}
 use Rattle.model.specs.Both.{open_verdict, record_on, numbers_on, opened_by, filled_by, opening, opened_table}
-use Rattle.model.specs.Calls.{open_disc, State, Result, step, answer_of_opening, held_after_opening, accepted, is_cut, is_opened}
+use Rattle.model.specs.Calls.{open_disc, State, Stepped, step, answer_of_opening, held_after_opening, accepted, is_cut, is_opened}
 use Rattle.model.specs.Store.{Slot, entry_slots, Store, store, Shape, blocks_on, start, cut_in, writes_in, was_cut, taken, next}
 use Rattle.model.specs.Demand.{after_opening}
 use Rattle.model.proofs.Basics.{by-lt}
@@ -31,6 +31,7 @@ use Rattle.model.proofs.OnceFits.{once_held}
 use Rattle.model.proofs.OnceRead.{Live}
 use Rattle.model.proofs.OnceSave.{OnceOk}
 use Rattle.model.proofs.Steps.{Sound}
+use Rattle.refusal.specs.Verdict.{verdict_of}
 
 -- as many words as were asked for
 pub length-words : (s : List ℕ) (at n : ℕ) → length (words s at n) ≡ n
@@ -86,7 +87,7 @@ live-open e st σ a κ long found =
       now = ap (entry_slots d e.start) front ∙ κ.same;
     })
 
-module _ (e : Setting) (once : write_once e ≡ true) (maps-go : (read_maps e.maps).verdict ≡ Go) where
+module _ (e : Setting) (once : write_once e ≡ true) (maps-go : verdict_of (read_maps e.maps) ≡ Ok tt) where
   -- the scan finds the VAT that is kept
   pub kept-newest : (d : Disc) (a : ℕ) {bs : List Slot} → Kept e.start e.span d a bs → newest e d ≡ icb_at a
   unfolding newest next_on
@@ -104,14 +105,14 @@ module _ (e : Setting) (once : write_once e ≡ true) (maps-go : (read_maps e.ma
   passed-kept d a κ = rw (kept-newest d a κ)
 
   -- opening goes on
-  pub open-goes : (d : Disc) (t : List ℕ) (a : ℕ) {bs : List Slot} → Kept e.start e.span d a bs → 4096 ≤ length t → open_verdict e d t ≡ Go
+  pub open-goes : (d : Disc) (t : List ℕ) (a : ℕ) {bs : List Slot} → Kept e.start e.span d a bs → 4096 ≤ length t → open_verdict e d t ≡ Ok tt
   unfolding open_verdict open_once_tests need is_found found_at newest_file lent_table
   open-goes d t a κ long =
       go-then _ (examined-once e once maps-go d _ κ.shape κ.within (le-leb _ _ long))
       ∙ rw (once, kept-newest d a κ, le-leb (count_of (vat_file d e.start a)) 4096 κ.few)
 
   -- every opening is accepted, and returns to the store's copy
-  pub record Reopened (h : Shape) (σ : Store) (r : Result) : Type 1 where
+  pub record Reopened (h : Shape) (σ : Store) (r : Stepped) : Type 1 where
     pub sound : Sound (OnceOk e) h σ open_disc r
     pub live : Live e r.state (store σ.copy σ.copy)
     pub accepts : is_opened r.answer ≡ true
@@ -130,7 +131,7 @@ module _ (e : Setting) (once : write_once e ≡ true) (maps-go : (read_maps e.ma
       })
 
   -- ---- the disc that opening accepts at first
-  module _ (d : Disc) (t : List ℕ) (g : open_verdict e d t ≡ Go) where
+  module _ (d : Disc) (t : List ℕ) (g : open_verdict e d t ≡ Ok tt) where
     record First : Type 0 where
       examines : Examined e d (lent_table t)
       found : is_found (newest e d) ≡ true
@@ -140,7 +141,7 @@ module _ (e : Setting) (once : write_once e ≡ true) (maps-go : (read_maps e.ma
     unfolding open_verdict open_once_tests
     first-tells =
         let p = then-go (examined e d (lent_table t)) _ g in
-        let q : first (open_once_tests e d) ≡ Go = rw once at p.1 in
+        let q : first (open_once_tests e d) ≡ (Ok tt) = rw once at p.1 in
         let w = passed (open_once_tests e d) q in
         record { examines = examined-tells e d (lent_table t) p.0; found = w.0; few = w.1.0 }
 

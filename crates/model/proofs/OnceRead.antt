@@ -5,7 +5,7 @@ use mathlib.Core.Path.{◌≡◌, sym, ap, ◌∙◌}
 use mathlib.Core.List.{List}
 use native.Mathlib.Omega.{arith}
 use lib.ListN.{length, get_or, take}
-use Rattle.refusal.specs.declared.Verdict.TheVariants.{Go}
+use Rattle.std.specs.Prelude.{Ok}
 use Rattle.maps.specs.Kinds.{read_maps}
 use Rattle.model.specs.Vat.{all_below}
 use Rattle.model.specs.Examine.{Setting, write_once}
@@ -17,6 +17,7 @@ use Rattle.model.proofs.Scan.{icb-recorded}
 use Rattle.model.proofs.Sectors.{nwa-above}
 use Rattle.model.proofs.Once.{Kept}
 use Rattle.model.proofs.OnceFits.{once_held, held-true, Fits, slots-count, slots_at, blocks_of, fits_read}
+use Rattle.refusal.specs.Verdict.{verdict_of}
 
 -- what holds between calls where the power did not fail: the record's last ICB is the topmost, its NWA is the disc's, and the table's blocks
 -- are the plain store's
@@ -51,7 +52,7 @@ live-block e st σ i v h =
     ap (λ (l : List Slot). get_or l v unused) (sym i.now)
     ∙ slots_at st.disc e.start (entries_held st.held) st.table v (omega (arith, i.few, i.lent)) h
 
-module _ (e : Setting) (once : write_once e ≡ true) (maps-go : (read_maps e.maps).verdict ≡ Go) where
+module _ (e : Setting) (once : write_once e ≡ true) (maps-go : verdict_of (read_maps e.maps) ≡ Ok tt) where
   -- lines 1 to 7 and 11 let a call go on
   pub live-fits : (st : State) (σ : Store) → Live e st σ → Fits e st
   live-fits st σ i =

@@ -10,7 +10,7 @@ use lib.ListN.{length, set, take, length-set}
 use lib.Seq.{take-suc-set, take-set-lt}
 use borrow.Author.Tests.{ltb-true, leb-true, eqb-true, lt-ltb, le-ltb, eq-eqb, ne_eqb, not-true}
 use Rattle.refusal.specs.declared.Refusal.TheVariants.{OtherKind, StaleRecord}
-use Rattle.refusal.specs.declared.Verdict.TheVariants.{Go}
+use Rattle.std.specs.Prelude.{Ok}
 use Rattle.refusal.specs.Tests.{Test, test}
 use Rattle.refusal.proofs.Laws.{All, passed}
 use Rattle.model.specs.declared.Cut.{Cut}
@@ -47,7 +47,7 @@ OnceOk e true st σ = (a : ℕ) × Kept e.start e.span st.disc a σ.copy × (409
 OnceOk e false st σ = Live e st σ
 
 -- what the tests of a call on a write-once disc tell
-pub once-tells : (e : Setting) (d : Disc) (t : List ℕ) (lent : Bool) (r : Record) (own : List Test) → once_verdict e d t lent r own ≡ Go → Examined e d lent × All own
+pub once-tells : (e : Setting) (d : Disc) (t : List ℕ) (lent : Bool) (r : Record) (own : List Test) → once_verdict e d t lent r own ≡ Ok tt → Examined e d lent × All own
 unfolding once_verdict
 once-tells e d t lent r own g =
     let p = then-go (examined e d lent) _ g in
@@ -82,7 +82,7 @@ saved-fresh n v w t most on fresh =
 -- ---- save v, from any disc, table and record
 
 module _ (e : Setting) (st : State) (v : ℕ) (b : List ℕ) (c : Cut)
-    (g : once_verdict e st.disc st.table (save_lent st.table b) st.held (save_tests e st.disc st.held v b) ≡ Go) where
+    (g : once_verdict e st.disc st.table (save_lent st.table b) st.held (save_tests e st.disc st.held v b) ≡ Ok tt) where
   -- what its tests tell
   pub record Facts : Type 0 where
     pub fits : Fits e st
@@ -189,7 +189,7 @@ module _ (e : Setting) (st : State) (v : ℕ) (b : List ℕ) (c : Cut)
 
 module _ (e : Setting) (h : Shape) (st : State) (σ : Store) (i : Live e st σ) where
   -- ---- save v, between calls
-  module _ (v : ℕ) (b : List ℕ) (c : Cut) (g : once_verdict e st.disc st.table (save_lent st.table b) st.held (save_tests e st.disc st.held v b) ≡ Go) where
+  module _ (v : ℕ) (b : List ℕ) (c : Cut) (g : once_verdict e st.disc st.table (save_lent st.table b) st.held (save_tests e st.disc st.held v b) ≡ Ok tt) where
     pub kept-saved : Kept e.start e.span (writes 1 c (record { place = e.start + W st; bytes = b } ∷ []) st.disc) (last_held st.held) σ.copy
     unfolding writes write
     kept-saved =

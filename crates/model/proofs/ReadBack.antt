@@ -9,8 +9,8 @@ use lib.ListN.{length, get_or, take}
 use lib.Seq.{length-take-le}
 use borrow.Author.Tests.{leb-true, ltb-true, eqb-true, lt-ltb, eq-eqb}
 use Rattle.refusal.specs.declared.Refusal.TheVariants.{OtherKind, StaleRecord}
-use Rattle.refusal.specs.declared.Verdict.{Verdict}
-use Rattle.refusal.specs.declared.Verdict.TheVariants.{Go, Stop}
+use Rattle.refusal.specs.Verdict.{Verdict}
+use Rattle.std.specs.Prelude.{Ok, Err}
 use Rattle.refusal.specs.Tests.{test}
 use Rattle.refusal.proofs.Laws.{passed}
 use Rattle.fields.specs.Bytes.{part}
@@ -203,7 +203,7 @@ held_tells e d t (Record.WriteOnce n next last) h =
     (leb-true _ _ b.0, c.0, ltb-true _ _ c.1)
 held_tells e d t (Record.Rewritable n sequence) h = absurd (false≢true h)
 
-commit-tells : (e : Setting) (d : Disc) (t : List ℕ) (held : Record) → once_verdict e d t (lent_table t) held (commit_tests e held) ≡ Go → Committing e d t held
+commit-tells : (e : Setting) (d : Disc) (t : List ℕ) (held : Record) → once_verdict e d t (lent_table t) held (commit_tests e held) ≡ Ok tt → Committing e d t held
 unfolding once_verdict commit_tests room_to_commit lent_table
 commit-tells e d t held g =
     let p = then-go (examined e d (lent_table t)) _ g in
@@ -252,16 +252,16 @@ module _ (e : Setting) (d : Disc) (t : List ℕ) (held : Record) (c : Cut) (m : 
       (commit-stands e.start d c u (next_held held) (last_held held) (shapely-made d m.shape) below_end whole))
 
 -- a plan that answers that it is done
-pub plan-done : (v : Verdict) (ws : List Write) (tb : List ℕ) (q : Record) (c : Cut) (r : Record) → reply_of (unless v (carry ws tb q)) c ≡ Reply.Done r
-    → (v ≡ Go) × (struck c (length ws) ≡ false) × (r ≡ q)
+pub plan-done : (v : Verdict) (ws : List Write) (tb : List ℕ) (q : Record) (c : Cut) (r : Record) → reply_of (unless v (carry ws tb q)) c ≡ Ok (Reply.Done r)
+    → (v ≡ Ok tt) × (struck c (length ws) ≡ false) × (r ≡ q)
 unfolding unless reply_of
-plan-done Go ws tb q c r h =
+plan-done (Ok _) ws tb q c r h =
     by_bool (struck c (length ws))
-    (λ z. let y : Reply.Cut ≡ Reply.Done r = rw z at h in let n : ◌≡◌ {A = ℕ} 0 1 = cc in absurd (omega arith))
-    (λ z. let y : Reply.Done q ≡ Reply.Done r = rw z at h in (refl, z, cc))
-plan-done (Stop why) ws tb q c r h = let n : ◌≡◌ {A = ℕ} 0 1 = cc in absurd (omega arith)
+    (λ z. let y : (Ok Reply.Cut) ≡ (Ok (Reply.Done r)) = rw z at h in let n : ◌≡◌ {A = ℕ} 0 1 = cc in absurd (omega arith))
+    (λ z. let y : (Ok (Reply.Done q)) ≡ (Ok (Reply.Done r)) = rw z at h in (refl, z, cc))
+plan-done (Err why) ws tb q c r h = let n : ◌≡◌ {A = ℕ} 0 1 = cc in absurd (omega arith)
 
-commit-done : (e : Setting) (d : Disc) (t : List ℕ) (held : Record) (c : Cut) (r : Record) → reply_of (commit_plan e d t held) c ≡ Reply.Done r
+commit-done : (e : Setting) (d : Disc) (t : List ℕ) (held : Record) (c : Cut) (r : Record) → reply_of (commit_plan e d t held) c ≡ Ok (Reply.Done r)
     → VatBack (disc_after (commit_plan e d t held) c d) e.start (icb_block held) (take (entries_held held) t) (last_held held)
     × (r ≡ Record.WriteOnce (entries_held held) (icb_block held + 1) (icb_block held))
 unfolding commit_plan unless disc_after
@@ -276,10 +276,10 @@ commit-done e d t held c r h =
 
 -- a call by its plan, accepted
 plan-goes : (v : Verdict) (ws : List Write) (tb : List ℕ) (r : Record) (c : Cut) (st : State) → accepted (carried (unless v (carry ws tb r)) c st).answer ≡ true
-    → (v ≡ Go) × ((carried (unless v (carry ws tb r)) c st).state.disc ≡ writes 1 c ws st.disc)
+    → (v ≡ Ok tt) × ((carried (unless v (carry ws tb r)) c st).state.disc ≡ writes 1 c ws st.disc)
 unfolding carried unless reply_of disc_after answer_of accepted
-plan-goes Go ws tb r c st h = (refl, refl)
-plan-goes (Stop why) ws tb r c st h = absurd (false≢true h)
+plan-goes (Ok _) ws tb r c st h = (refl, refl)
+plan-goes (Err why) ws tb r c st h = absurd (false≢true h)
 
 -- a commit that was accepted is on a write-once disc
 commit-kind : (e : Setting) (st : State) (c : Cut) → accepted (step e st (commit c)).answer ≡ true → write_once e ≡ true
@@ -298,7 +298,7 @@ found-is f k q = rw q (refl, refl)
 
 module _ (e : Setting) (st : State) (σ : Store) (i : Live e st σ) (c : Cut) (a : accepted (step e st (commit c)).answer ≡ true)
     (whole : lays_icb (shape_of e) σ (commit c) ≡ true) where
-  commit-goes : (once_verdict e st.disc st.table (lent_table st.table) st.held (commit_tests e st.held) ≡ Go)
+  commit-goes : (once_verdict e st.disc st.table (lent_table st.table) st.held (commit_tests e st.held) ≡ Ok tt)
       × ((step e st (commit c)).state.disc ≡ writes 1 c (commit_writes e (take (entries_held st.held) st.table) st.held) st.disc)
   unfolding step commit_plan
   commit-goes = plan-goes _ _ _ _ c st a

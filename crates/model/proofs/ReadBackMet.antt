@@ -11,6 +11,8 @@ use Rattle.maps.specs.Written.{kind_in_range, Ranged}
 use Rattle.model.specs.declared.Landing.{Landing}
 use Rattle.model.specs.declared.Record.{Record}
 use Rattle.model.specs.declared.Reply.{Reply}
+use Rattle.std.specs.Prelude.{Result, Ok, Err}
+use Rattle.refusal.specs.declared.Refusal.{Refusal}
 use Rattle.model.specs.Disc.{known, shapely}
 use Rattle.model.specs.Writes.{landing, write, struck, no_cut}
 use Rattle.model.specs.Vat.{none, blocks_in, below_or_none, all_below}
@@ -144,13 +146,13 @@ unfolding calls given
 eighteenth = sym (answer_at twelve cs (commit no_cut) (open_disc ∷ []) before) ∙ ap (λ (l : List Answer). get_or l 17 cut) run.answered
 
 -- an answer that is done is that of a reply that is
-done-reply : (x : Reply) (r : Record) → answer_of x ≡ done r → x ≡ Reply.Done r
+done-reply : (x : Result Reply Refusal) (r : Record) → answer_of x ≡ done r → x ≡ Ok (Reply.Done r)
 unfolding answer_of
-done-reply (Reply.Done q) r h = let e : q ≡ r = cc in ap Reply.Done e
-done-reply Reply.Cut r h = let z : ◌≡◌ {A = ℕ} 0 1 = cc in absurd (omega arith)
-done-reply (Reply.Refused why) r h = let z : ◌≡◌ {A = ℕ} 0 1 = cc in absurd (omega arith)
+done-reply (Ok (Reply.Done q)) r h = let e : q ≡ r = cc in ap (λ (k : Record). Ok (Reply.Done k)) e
+done-reply (Ok Reply.Cut) r h = let z : ◌≡◌ {A = ℕ} 0 1 = cc in absurd (omega arith)
+done-reply (Err why) r h = let z : ◌≡◌ {A = ℕ} 0 1 = cc in absurd (omega arith)
 
-replies : reply_of (commit_plan twelve st.disc st.table st.held) no_cut ≡ Reply.Done (Record.WriteOnce 2 10 9)
+replies : reply_of (commit_plan twelve st.disc st.table st.held) no_cut ≡ Ok (Reply.Done (Record.WriteOnce 2 10 9))
 unfolding step carried
 replies = done-reply _ _ eighteenth
 

@@ -9,8 +9,8 @@ use lib.Dec.{ltb}
 use lib.ListN.{length, get_or, take}
 use borrow.Author.Tests.{lt-ltb, le-ltb, le-leb, eq-eqb}
 use Rattle.refusal.specs.declared.Refusal.TheVariants.{NumberOutside, BelongsToSpare}
-use Rattle.refusal.specs.declared.Verdict.{Verdict}
-use Rattle.refusal.specs.declared.Verdict.TheVariants.{Go, Stop}
+use Rattle.refusal.specs.Verdict.{Verdict, verdict_of}
+use Rattle.std.specs.Prelude.{Ok, Err}
 use Rattle.refusal.specs.Tests.{test, first, need}
 use Rattle.fields.proofs.Laws.{same-equal}
 use Rattle.maps.specs.Kinds.{read_maps}
@@ -107,14 +107,14 @@ held-go e d t (Record.Rewritable a q) n l h c s w f =
     both (eq-eqb _ _ (h.0 ∙ sym c))
     (both (eq-eqb _ _ (h.1 ∙ sym s)) (same-equal _ _ (ap (λ (x : ℕ). take (2 * x) t) h.0 ∙ f ∙ sym w)))
 
-module _ (e : Setting) (g : Geometry) (again : write_once e ≡ false) (γ : Ground e g) (maps-go : (read_maps e.maps).verdict ≡ Go) where
+module _ (e : Setting) (g : Geometry) (again : write_once e ≡ false) (γ : Ground e g) (maps-go : verdict_of (read_maps e.maps) ≡ Ok tt) where
   -- lines 1 to 6 let a call go on
-  pub examined-again : (d : Disc) (lent : Bool) {n : ℕ} {l : List ℕ} {bs : List Slot} → Ready e g d n l bs → lent ≡ true → examined e d lent ≡ Go
+  pub examined-again : (d : Disc) (lent : Bool) {n : ℕ} {l : List ℕ} {bs : List Slot} → Ready e g d n l bs → lent ≡ true → examined e d lent ≡ Ok tt
   examined-again d lent r c =
       examined-go e d lent (record { shape = r.shape; within = r.within; lengths = c; maps = maps-go; places = rw (again, r.geo) γ.flush })
 
   -- lines 8 and 10
-  pub copies-go : (d : Disc) {n : ℕ} {l : List ℕ} {bs : List Slot} → Ready e g d n l bs → first (copy_tests e d) ≡ Go
+  pub copies-go : (d : Disc) {n : ℕ} {l : List ℕ} {bs : List Slot} → Ready e g d n l bs → first (copy_tests e d) ≡ Ok tt
   unfolding copy_tests need table_on
   copies-go d {n} {l} r =
       rw (r.geo, settled-some d g n l r.settled, settled-table d g n l r.settled, settled-agree d g n l r.settled)
@@ -155,11 +155,11 @@ module _ (e : Setting) (g : Geometry) (again : write_once e ≡ false) (γ : Gro
         (λ a.
         let la : ltb b g.span ≡ true = lt-ltb b g.span a in
         by_bool (of_spare g.start (entries l) b)
-        (λ u. shown (Stop BelongsToSpare) (read-tests ∙ rw (la, u)) ∙ sym (rw (ln, la, same-spare i.ready b a u)))
+        (λ u. shown (Err BelongsToSpare) (read-tests ∙ rw (la, u)) ∙ sym (rw (ln, la, same-spare i.ready b a u)))
         (λ u.
         shown (first (mark_tests (mark st.disc at_block))) (read-tests ∙ rw (la, u))
         ∙ sector-shown st.disc at_block out
         ∙ sym (rw (ln, la, same_place i.ready b a u))))
         (λ a.
         let la : ltb b g.span ≡ false = le-ltb b g.span a in
-        shown (Stop NumberOutside) (read-tests ∙ rw la) ∙ sym (rw (ln, la)))
+        shown (Err NumberOutside) (read-tests ∙ rw la) ∙ sym (rw (ln, la)))

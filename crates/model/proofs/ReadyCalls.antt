@@ -10,7 +10,7 @@ use lib.ListN.{length, get_or, set, take, drop, length-set, length-take, length-
 use lib.Seq.{get_or-set_same, get_or-set_other, get_or-take, get_or-drop}
 use borrow.Author.Tests.{ltb-true, eqb-true, not-true}
 use Rattle.refusal.specs.declared.Refusal.TheVariants.{OtherKind, StaleRecord}
-use Rattle.refusal.specs.declared.Verdict.TheVariants.{Go}
+use Rattle.std.specs.Prelude.{Ok}
 use Rattle.refusal.specs.Tests.{Test, test}
 use Rattle.refusal.proofs.Laws.{All, passed}
 use Rattle.fields.specs.Bytes.{part}
@@ -39,7 +39,7 @@ use Rattle.model.proofs.Slots.{length-blocks, block_in, length_cut, cut-other, c
 use Rattle.model.proofs.Steps.{Told, told-plan, Sound, sound-plan, sound-carried}
 
 -- what the tests of a call on a rewritable disc tell
-pub again-tells : (e : Setting) (d : Disc) (t : List ℕ) (lent : Bool) (r : Record) (own : List Test) → rewritable_verdict e d t lent r own ≡ Go → Examined e d lent × All own
+pub again-tells : (e : Setting) (d : Disc) (t : List ℕ) (lent : Bool) (r : Record) (own : List Test) → rewritable_verdict e d t lent r own ≡ Ok tt → Examined e d lent × All own
 unfolding rewritable_verdict copy_tests
 again-tells e d t lent r own g =
     let p = then-go (examined e d lent) _ g in

@@ -5,7 +5,7 @@ use mathlib.Core.Path.{◌≡◌, refl, sym, ◌∙◌, subst}
 use mathlib.Core.List.{List, ◌∷◌, ◌++◌}
 use lib.ListN.{length, get_or, take}
 use Rattle.refusal.specs.declared.Refusal.TheVariants.{OtherKind, StaleRecord}
-use Rattle.refusal.specs.declared.Verdict.TheVariants.{Go}
+use Rattle.std.specs.Prelude.{Ok}
 use Rattle.refusal.specs.Tests.{Test, test}
 use Rattle.refusal.proofs.Laws.{passed}
 use Rattle.maps.specs.Kinds.{read_maps}
@@ -29,16 +29,17 @@ use Rattle.model.proofs.ReadySpare.{sound-spare, told-spare}
 use Rattle.model.proofs.OnceDemand.{accepted-goes}
 use Rattle.model.proofs.ConsequencesLists.{final-append, proper-split}
 use Rattle.model.proofs.Steps.{list-state, Told, told-plan, told-opening, list-told, Sound, sound-plan, list-opens, list-ends}
+use Rattle.refusal.specs.Verdict.{verdict_of}
 
 -- a call for write-once discs never goes on
-other-kind : {P : Type 0} (e : Setting) (d : Disc) (t : List ℕ) (lent : Bool) (r : Record) (own : List Test) → write_once e ≡ false → once_verdict e d t lent r own ≡ Go → P
+other-kind : {P : Type 0} (e : Setting) (d : Disc) (t : List ℕ) (lent : Bool) (r : Record) (own : List Test) → write_once e ≡ false → once_verdict e d t lent r own ≡ Ok tt → P
 unfolding once_verdict
 other-kind e d t lent r own again g =
     let p = then-go (examined e d lent) _ g in
     let q = passed (test (write_once e) OtherKind ∷ test (held_fits e d t r) StaleRecord ∷ own) p.1 in
     absurd (false≢true (sym again ∙ q.0))
 
-module _ (e : Setting) (again : write_once e ≡ false) (maps-go : (read_maps e.maps).verdict ≡ Go) (g : Geometry) (γ : Ground e g)
+module _ (e : Setting) (again : write_once e ≡ false) (maps-go : verdict_of (read_maps e.maps) ≡ Ok tt) (g : Geometry) (γ : Ground e g)
     (tables : (shape_of e).tables ≡ length g.tables) (es : List Entry) where
   abbrev h : Shape
   h = shape_of e

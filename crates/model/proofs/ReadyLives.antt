@@ -9,7 +9,7 @@ use lib.ListN.{length, get_or, set, drop, length-set}
 use lib.Seq.{take_at, get_or-set_same, get_or-set_other}
 use borrow.Author.Tests.{lt-ltb, le-ltb, eq-eqb}
 use Rattle.refusal.specs.declared.Refusal.TheVariants.{NumberOutside, BelongsToSpare}
-use Rattle.refusal.specs.declared.Verdict.TheVariants.{Go}
+use Rattle.std.specs.Prelude.{Ok}
 use Rattle.fields.specs.Bytes.{part}
 use Rattle.maps.specs.Kinds.{absent, read_maps, tables_of}
 use Rattle.model.specs.declared.Record.{Record}
@@ -34,6 +34,7 @@ use Rattle.model.proofs.ReadyLivesMade.{some-free, length-spares, made-maps, mad
 use Rattle.model.proofs.ReadyLivesCalls.{Whole, open-goes, record-again, save-answer, save-live, spare-answer, spare-live, spare-count, reopen-answer, reopen-live}
 use Rattle.model.proofs.Slots.{length-blocks, block_in, length-puts, puts-other, puts-inside}
 use Rattle.model.proofs.OnceOpen.{filled-long}
+use Rattle.refusal.specs.Verdict.{verdict_of}
 
 -- what the plain store shows of a block that holds bytes
 look-holds : (σ : Store) (v : ℕ) (z : List ℕ) → v < length σ.blocks → get_or σ.blocks v unused ≡ holds z → look σ v ≡ bytes z
@@ -65,7 +66,7 @@ packet-seen bs copy p y room v q =
     ∙ ap (λ (z : ℕ). holds (part y z 2048)) zj)
 
 -- ---- a made disc
-module _ (e : Setting) (d : Disc) (spares t : List ℕ) (again : write_once e ≡ false) (go : make_verdict e d spares ≡ Go) (long : 4096 ≤ length t) where
+module _ (e : Setting) (d : Disc) (spares t : List ℕ) (again : write_once e ≡ false) (go : make_verdict e d spares ≡ Ok tt) (long : 4096 ≤ length t) where
   abbrev g : Geometry
   g = geometry e d
 
@@ -75,7 +76,7 @@ module _ (e : Setting) (d : Disc) (spares t : List ℕ) (again : write_once e �
   abbrev l : List ℕ
   l = flat (spare_entries spares)
 
-  maps-go : (read_maps e.maps).verdict ≡ Go
+  maps-go : verdict_of (read_maps e.maps) ≡ Ok tt
   maps-go = made-maps e d spares again go
 
   γ : Ground e g
@@ -88,7 +89,7 @@ module _ (e : Setting) (d : Disc) (spares t : List ℕ) (again : write_once e �
   count-is : length (entries l) ≡ length spares
   count-is = ap length (entries-flat (spare_entries spares)) ∙ length-spares spares
 
-  goes : open_verdict e d' t ≡ Go
+  goes : open_verdict e d' t ≡ Ok tt
   goes = open-goes e g again γ maps-go d' t ready long
 
   handed : record_on e d' ≡ Record.Rewritable (length spares) 0
@@ -311,7 +312,7 @@ twice-taken p first second more multiple =
     ∙ (λ i. inserted (record { original = p; mapped = first_free (r i) }) (without p (u i)) ++ ((w i ++ turned_defective p (u i)) ++ rest (r i)))
     ∙ rw (eq-eqb p p refl)
 
-module _ (e : Setting) (d : Disc) (first second : ℕ) (more t : List ℕ) (again : write_once e ≡ false) (go : make_verdict e d (first ∷ second ∷ more) ≡ Go) (long : 4096 ≤ length t)
+module _ (e : Setting) (d : Disc) (first second : ℕ) (more t : List ℕ) (again : write_once e ≡ false) (go : make_verdict e d (first ∷ second ∷ more) ≡ Ok tt) (long : 4096 ≤ length t)
     (two : 2 ≤ length (tables_of (volume e))) (p : ℕ) (y z : List ℕ) (multiple : p % 32 ≡ 0) (p-in : p < e.span) (p-free : in_spare e (first ∷ second ∷ more) p ≡ false) (y-long : length y ≡ 65536) (z-long : length z ≡ 65536) where
   abbrev spares : List ℕ
   spares = first ∷ second ∷ more

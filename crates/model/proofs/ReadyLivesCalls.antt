@@ -9,8 +9,8 @@ use lib.Dec.{eqb}
 use lib.ListN.{length, get_or, set, take, drop}
 use lib.Seq.{take_at}
 use borrow.Author.Tests.{lt-ltb, le-leb, eq-eqb, ne_eqb, eqb-true}
-use Rattle.refusal.specs.declared.Verdict.{Verdict}
-use Rattle.refusal.specs.declared.Verdict.TheVariants.{Go}
+use Rattle.refusal.specs.Verdict.{Verdict, verdict_of}
+use Rattle.std.specs.Prelude.{Ok}
 use Rattle.refusal.specs.Tests.{Test, first, need}
 use Rattle.maps.specs.Kinds.{read_maps}
 use Rattle.model.specs.declared.Record.{Record}
@@ -22,7 +22,7 @@ use Rattle.model.specs.Once.{filled_from}
 use Rattle.model.specs.Plan.{carry, unless, reply_of, disc_after, table_after}
 use Rattle.model.specs.Rewrite.{no_entry, table_on, copy_tests, current_record, rewritable_verdict, other_mark, block_test, spare_test, save_block_tests, block_lent, save_block_plan, packet_tests, packet_lent, spare_tests, spared_table, spare_plan}
 use Rattle.model.specs.Both.{open_verdict, record_on, passed_on, opened_by, opening}
-use Rattle.model.specs.Calls.{Call, save_block, spare_packet, open_disc, done, opened, State, Result, answer_of, held_after, carried, answer_of_opening, step, accepted, is_cut}
+use Rattle.model.specs.Calls.{Call, save_block, spare_packet, open_disc, done, opened, State, Stepped, answer_of, held_after, carried, answer_of_opening, step, accepted, is_cut}
 use Rattle.model.specs.Store.{Slot, holds, unused, unreadable, blank, slot_at, puts, slots_in, Store, store, Shape, cut_in, writes_in, was_cut, taken, next}
 use Rattle.model.proofs.Basics.{by_bool, both}
 use Rattle.model.proofs.Marks.{mark-goes, other-mark}
@@ -40,22 +40,22 @@ use Rattle.model.proofs.Steps.{Sound}
 -- ---- a call that no test stops, and that is not cut
 
 -- it answers with its record, and leaves its disc, table and record
-carried-out : (v : Verdict) (ws : List Write) (t : List ℕ) (r : Record) (st : State) → v ≡ Go
+carried-out : (v : Verdict) (ws : List Write) (t : List ℕ) (r : Record) (st : State) → v ≡ Ok tt
     → carried (unless v (carry ws t r)) no_cut st
     ≡ record { answer = done r; state = record { disc = writes 1 no_cut ws st.disc; table = t; held = r } }
 unfolding carried unless reply_of disc_after table_after answer_of held_after struck no_cut
 carried-out v ws t r st h = rw h
 
 -- an invariant that a call keeps holds of the plain store as an uncut call leaves it
-sound-done : (Ok : Bool → State → Store → Type 0) (h : Shape) (σ : Store) (c : Call) (r : Result) (held : Record)
-    → r.answer ≡ done held → Sound Ok h σ c r → Ok false r.state (taken h σ c (was_cut h σ c))
+sound-done : (Keeps : Bool → State → Store → Type 0) (h : Shape) (σ : Store) (c : Call) (r : Stepped) (held : Record)
+    → r.answer ≡ done held → Sound Keeps h σ c r → Keeps false r.state (taken h σ c (was_cut h σ c))
 unfolding accepted is_cut next
-sound-done Ok h σ c r held q s = rw q at s
+sound-done Keeps h σ c r held q s = rw q at s
 
-sound-opened : (Ok : Bool → State → Store → Type 0) (h : Shape) (σ : Store) (c : Call) (r : Result) (held : Record) (n : ℕ)
-    → r.answer ≡ opened held n → Sound Ok h σ c r → Ok false r.state (taken h σ c (was_cut h σ c))
+sound-opened : (Keeps : Bool → State → Store → Type 0) (h : Shape) (σ : Store) (c : Call) (r : Stepped) (held : Record) (n : ℕ)
+    → r.answer ≡ opened held n → Sound Keeps h σ c r → Keeps false r.state (taken h σ c (was_cut h σ c))
 unfolding accepted is_cut next
-sound-opened Ok h σ c r held n q s = rw q at s
+sound-opened Keeps h σ c r held n q s = rw q at s
 
 -- a sector that is a block of bytes is recorded
 unread-differs : (b : Bool) (x : List ℕ) → cond b blank unreadable ≡ holds x → ⊥
@@ -87,9 +87,9 @@ live_same e g st st' n l σ σ' i n' l' j same-held same-table =
     rw (q.1, w) j
 
 -- ---- the calls
-module _ (e : Setting) (g : Geometry) (again : write_once e ≡ false) (γ : Ground e g) (maps-go : (read_maps e.maps).verdict ≡ Go) where
+module _ (e : Setting) (g : Geometry) (again : write_once e ≡ false) (γ : Ground e g) (maps-go : verdict_of (read_maps e.maps) ≡ Ok tt) where
   -- opening goes on
-  pub open-goes : (d : Disc) (t : List ℕ) {n : ℕ} {l : List ℕ} {bs : List Slot} → Ready e g d n l bs → 4096 ≤ length t → open_verdict e d t ≡ Go
+  pub open-goes : (d : Disc) (t : List ℕ) {n : ℕ} {l : List ℕ} {bs : List Slot} → Ready e g d n l bs → 4096 ≤ length t → open_verdict e d t ≡ Ok tt
   unfolding open_verdict lent_table
   open-goes d t r long =
       go-then _ (examined-again e g again γ maps-go d _ r (le-leb _ _ long)) ∙ rw again (copies-go e g again γ maps-go d r)
@@ -143,7 +143,7 @@ module _ (e : Setting) (g : Geometry) (again : write_once e ≡ false) (γ : Gro
           let z : start + k + 1 + j ≡ start + (k + 1 + j) = omega arith in
           rw z (each-recorded (k + 1 + j) (omega arith))))
 
-      save-goes : rewritable_verdict e st.disc st.table (block_lent st.table x) st.held (save_block_tests e st.disc b) ≡ Go
+      save-goes : rewritable_verdict e st.disc st.table (block_lent st.table x) st.held (save_block_tests e st.disc b) ≡ Ok tt
       unfolding save_block_tests block_test spare_test block_lent lent_table need
       save-goes =
           own-tests st _ (save_block_tests e st.disc b) i (both (le-leb _ _ i.lent) (eq-eqb _ _ long))
@@ -152,15 +152,15 @@ module _ (e : Setting) (g : Geometry) (again : write_once e ≡ false) (γ : Gro
       -- it answers with the record as it was
       pub save-answer : (step e st (save_block b x no_cut)).answer ≡ done (Record.Rewritable (length (entries l)) n)
       unfolding step save_block_plan
-      save-answer = ap (λ (r : Result). r.answer) (carried-out _ _ _ _ st save-goes) ∙ ap done (held-is st.held i.held)
+      save-answer = ap (λ (r : Stepped). r.answer) (carried-out _ _ _ _ st save-goes) ∙ ap done (held-is st.held i.held)
 
       save-held : (step e st (save_block b x no_cut)).state.held ≡ st.held
       unfolding step save_block_plan
-      save-held = ap (λ (r : Result). r.state.held) (carried-out _ _ _ _ st save-goes)
+      save-held = ap (λ (r : Stepped). r.state.held) (carried-out _ _ _ _ st save-goes)
 
       save-table : (step e st (save_block b x no_cut)).state.table ≡ st.table
       unfolding step save_block_plan
-      save-table = ap (λ (r : Result). r.state.table) (carried-out _ _ _ _ st save-goes)
+      save-table = ap (λ (r : Stepped). r.state.table) (carried-out _ _ _ _ st save-goes)
 
       save-any : (n' : ℕ) × (l' : List ℕ) × LiveAgain e g (step e st (save_block b x no_cut)).state n' l' (store (set σ.blocks b (holds x)) σ.copy) × Keeps (entries l) l'
       unfolding AgainOk taken was_cut cut_in writes_in struck no_cut
@@ -173,7 +173,7 @@ module _ (e : Setting) (g : Geometry) (again : write_once e ≡ false) (γ : Gro
     -- ---- spare p
     module _ (p : ℕ) (y : List ℕ) (multiple : p % 32 ≡ 0) (below : p < g.span) (own-place : of_spare g.start (entries l) p ≡ false) (long : length y ≡ 65536) (copies : h.tables ≡ length g.tables) (two : 2 ≤ length g.tables)
         (some : no_entry (free_of (entries l)) ≡ false) (more : n ≢ 4294967295) where
-      spare-goes : rewritable_verdict e st.disc st.table (packet_lent st.table y) st.held (spare_tests e st.disc p) ≡ Go
+      spare-goes : rewritable_verdict e st.disc st.table (packet_lent st.table y) st.held (spare_tests e st.disc p) ≡ Ok tt
       unfolding spare_tests packet_tests spare_test packet_lent lent_table need
       spare-goes =
           own-tests st _ (spare_tests e st.disc p) i (both (le-leb _ _ i.lent) (eq-eqb _ _ long))
@@ -183,13 +183,13 @@ module _ (e : Setting) (g : Geometry) (again : write_once e ≡ false) (γ : Gro
       pub spare-answer : (step e st (spare_packet p y no_cut)).answer ≡ done (Record.Rewritable (length (entries l)) (n + 1))
       unfolding step spare_plan
       spare-answer =
-          ap (λ (r : Result). r.answer) (carried-out _ _ _ _ st spare-goes)
+          ap (λ (r : Stepped). r.answer) (carried-out _ _ _ _ st spare-goes)
           ∙ ap₂ (λ (a s : ℕ). done (Record.Rewritable a (s + 1))) (ready-count i.ready) (ready-sequence i.ready)
 
       spare-held : (step e st (spare_packet p y no_cut)).state.held ≡ Record.Rewritable (length (entries l)) (n + 1)
       unfolding step spare_plan
       spare-held =
-          ap (λ (r : Result). r.state.held) (carried-out _ _ _ _ st spare-goes)
+          ap (λ (r : Stepped). r.state.held) (carried-out _ _ _ _ st spare-goes)
           ∙ ap₂ (λ (a s : ℕ). Record.Rewritable a (s + 1)) (ready-count i.ready) (ready-sequence i.ready)
 
       spare-any : (n' : ℕ) × (l' : List ℕ) × LiveAgain e g (step e st (spare_packet p y no_cut)).state n' l' (store (puts σ.blocks p (slots_in 32 y 0)) σ.copy) × Keeps (entries l) l'
@@ -201,7 +201,7 @@ module _ (e : Setting) (g : Geometry) (again : write_once e ≡ false) (γ : Gro
       spare-table : (step e st (spare_packet p y no_cut)).state.table ≡ filled_from (flat (resorted (entries l) p)) st.table
       unfolding step spare_plan spared_table
       spare-table =
-          ap (λ (r : Result). r.state.table) (carried-out _ _ _ _ st spare-goes)
+          ap (λ (r : Stepped). r.state.table) (carried-out _ _ _ _ st spare-goes)
           ∙ ap (λ (es : List Entry). filled_from (flat (resorted es p)) st.table) (ready-entries i.ready)
 
       -- as many as before

@@ -9,15 +9,15 @@ use lib.Dec.{leb, eqb}
 use lib.ListN.{length, get_or, take, drop, replicate, length-append, length-take, length-replicate}
 use borrow.Author.Tests.{leb-true}
 use Rattle.refusal.specs.declared.Refusal.TheVariants.{Misaligned}
-use Rattle.refusal.specs.declared.Verdict.{Verdict}
-use Rattle.refusal.specs.declared.Verdict.TheVariants.{Go, Stop}
+use Rattle.refusal.specs.Verdict.{Verdict, verdict_of, answered}
+use Rattle.std.specs.Prelude.{Ok, Err}
 use Rattle.refusal.specs.Tests.{test, first}
 use Rattle.refusal.proofs.Laws.{passed}
 use Rattle.fields.specs.Bytes.{part}
 use Rattle.fields.specs.Number.{field, words}
 use Rattle.fields.proofs.Laws.{length_part}
 use Rattle.maps.specs.Walk.{Walked, short, maps, walk}
-use Rattle.maps.specs.Kinds.{sparable_name, type_two, tables_in_range, is_write_once, is_rewritable, used, volume_of, volume_in, no_volume, volume_with, tables_in, tables_of, kind_tests, judged, answered, read_maps}
+use Rattle.maps.specs.Kinds.{sparable_name, type_two, tables_in_range, is_write_once, is_rewritable, used, volume_of, volume_in, no_volume, volume_with, tables_in, tables_of, kind_tests, judged, read_maps, volume_read}
 use Rattle.model.specs.declared.Landing.{Landing}
 use Rattle.model.specs.Disc.{Disc, sector, mark, recorded}
 use Rattle.model.specs.Writes.{Write, landing, landed, writes, upward, no_cut}
@@ -56,19 +56,19 @@ some_of (a ∷ []) h k =
     used-some (get_or a 42 0) (words a 48 4) (leb-true 1 (get_or a 42 0) (and-true (leb 1 (get_or a 42 0)) _ q.1).0)
 some_of (a ∷ b ∷ l) h k = absurd (false≢true (sym k))
 
-some_in_law : (w : Walked) → judged w ≡ Go → is_once (volume_in w).kind ≡ false → 1 ≤ length (tables_of (volume_in w))
+some_in_law : (w : Walked) → judged w ≡ Ok tt → is_once (volume_in w).kind ≡ false → 1 ≤ length (tables_of (volume_in w))
 unfolding judged volume_in kind_tests
 some_in_law short h k = let z : ◌≡◌ {A = ℕ} 0 1 = cc in absurd (omega arith)
 some_in_law (maps ms) h k = some_of ms (passed (kind_tests ms) h).0 k
 
-some-answered : (v : Verdict) (w : Walked) → v ≡ judged w → (answered v (volume_in w)).verdict ≡ Go → is_once (answered v (volume_in w)).volume.kind ≡ false
-    → 1 ≤ length (tables_of (answered v (volume_in w)).volume)
-unfolding answered
-some-answered Go w q h k = some_in_law w (sym q) k
-some-answered (Stop why) w q h k = let z : ◌≡◌ {A = ℕ} 0 1 = cc in absurd (omega arith)
+some-answered : (v : Verdict) (w : Walked) → v ≡ judged w → verdict_of (answered v (volume_in w)) ≡ Ok tt → is_once (volume_read (answered v (volume_in w))).kind ≡ false
+    → 1 ≤ length (tables_of (volume_read (answered v (volume_in w))))
+unfolding volume_read
+some-answered (Ok _) w q h k = some_in_law w (sym q) k
+some-answered (Err why) w q h k = let z : ◌≡◌ {A = ℕ} 0 1 = cc in absurd (omega arith)
 
 -- a map list that is read as rewritable names a table
-pub maps-some : (s : List ℕ) → (read_maps s).verdict ≡ Go → is_once (read_maps s).volume.kind ≡ false → 1 ≤ length (tables_of (read_maps s).volume)
+pub maps-some : (s : List ℕ) → verdict_of (read_maps s) ≡ Ok tt → is_once (volume_read (read_maps s)).kind ≡ false → 1 ≤ length (tables_of (volume_read (read_maps s)))
 unfolding read_maps
 maps-some s h k = some-answered (judged (walk s)) (walk s) refl h k
 
@@ -139,7 +139,7 @@ first-in : (l : List ℕ) → 1 ≤ length l → (t : ℕ) × In t l
 first-in [] h = absurd (omega arith)
 first-in (t ∷ l) h = (t, inl refl)
 
-module _ (e : Setting) (d : Disc) (spares : List ℕ) (again : write_once e ≡ false) (go : make_verdict e d spares ≡ Go) where
+module _ (e : Setting) (d : Disc) (spares : List ℕ) (again : write_once e ≡ false) (go : make_verdict e d spares ≡ Ok tt) where
   abbrev g : Geometry
   g = geometry e d
 
@@ -175,11 +175,11 @@ module _ (e : Setting) (d : Disc) (spares : List ℕ) (again : write_once e ≡ 
   unfolding make_verdict make_tests
   told =
       let p = then-go (examined e d true) _ go in
-      let q : first (test (entries_fit g es) Misaligned ∷ []) ≡ Go = rw again at p.1 in
+      let q : first (test (entries_fit g es) Misaligned ∷ []) ≡ (Ok tt) = rw again at p.1 in
       record { examines = examined-tells e d true p.0; fits = (passed (test (entries_fit g es) Misaligned ∷ []) q).0 }
 
   -- the map list is read
-  pub made-maps : (read_maps e.maps).verdict ≡ Go
+  pub made-maps : verdict_of (read_maps e.maps) ≡ Ok tt
   made-maps = told.examines.maps
 
   -- partition, tables and spares lie in packets of the disc

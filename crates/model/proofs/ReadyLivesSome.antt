@@ -7,16 +7,16 @@ use mathlib.Core.List.{[], ◌∷◌}
 use native.Mathlib.Omega.{arith}
 use lib.ListN.{length}
 use borrow.Author.Tests.{le-leb}
-use Rattle.refusal.specs.declared.Verdict.TheVariants.{Go}
+use Rattle.std.specs.Prelude.{Ok}
 use Rattle.refusal.specs.Tests.{need}
 use Rattle.fields.specs.Bytes.{part, same}
 use Rattle.fields.specs.Number.{value, field, words, digits, quads}
 use Rattle.fields.specs.Regid.{has_regid, identifier, regid}
 use Rattle.maps.specs.declared.Volume.{Volume}
-use Rattle.maps.specs.declared.MapsRead.{MapsRead}
 use Rattle.maps.specs.declared.Kind.TheVariants.{Rewritable}
 use Rattle.maps.specs.Walk.{before, first_length, first_whole, walk_up_to, walk}
-use Rattle.maps.specs.Kinds.{sparable_name, type_two, tables_in_range, is_write_once, is_rewritable, used, volume_with, volume_of, absent, tables_apart, tables_in, tables_of, kind_tests, judged, answered, volume_in, read_maps}
+use Rattle.maps.specs.Kinds.{sparable_name, type_two, tables_in_range, is_write_once, is_rewritable, used, volume_with, volume_of, absent, tables_apart, tables_in, tables_of, kind_tests, judged, volume_in, read_maps, volume_read}
+use Rattle.refusal.specs.Verdict.{verdict_of}
 use Rattle.maps.specs.Written.{type_two_map, maps_of}
 use Rattle.model.specs.Disc.{Disc, inside}
 use Rattle.model.specs.Vat.{none}
@@ -30,17 +30,16 @@ use Rattle.model.proofs.Verdicts.{examined-go, go-then}
 abbrev given : Volume
 given = volume_with (Rewritable 0 2 72) (0 ∷ 32 ∷ 0 ∷ 0 ∷ [])
 
-read_as : read_maps small_volume.maps ≡ answered Go given
-unfolding small_volume maps_of type_two_map regid identifier sparable_name digits quads used read_maps answered judged walk walk_up_to first_whole first_length before kind_tests need is_write_once is_rewritable type_two has_regid part same field value tables_in_range volume_of volume_with tables_of tables_in tables_apart absent words volume_in
+read_as : read_maps small_volume.maps ≡ Ok given
+unfolding small_volume maps_of type_two_map regid identifier sparable_name digits quads used read_maps judged walk walk_up_to first_whole first_length before kind_tests need is_write_once is_rewritable type_two has_regid part same field value tables_in_range volume_of volume_with tables_of tables_in tables_apart absent words volume_in
 read_as = refl
 
-maps-read : (read_maps small_volume.maps).verdict ≡ Go
-unfolding answered
-maps-read = ap (λ (r : MapsRead). r.verdict) read_as
+maps-read : verdict_of (read_maps small_volume.maps) ≡ Ok tt
+maps-read = ap verdict_of read_as
 
 volume-read : volume small_volume ≡ given
-unfolding volume answered
-volume-read = ap (λ (r : MapsRead). r.volume) read_as
+unfolding volume volume_read
+volume-read = ap volume_read read_as
 
 not-once : write_once small_volume ≡ false
 unfolding write_once is_once volume_with

@@ -7,7 +7,7 @@ use native.Mathlib.Omega.{arith}
 use lib.ListN.{length, get_or, drop, get_or-eq_default}
 use lib.Seq.{take_at}
 use borrow.Author.Tests.{leb-true, le-leb, not-true}
-use Rattle.refusal.specs.declared.Verdict.TheVariants.{Go}
+use Rattle.std.specs.Prelude.{Ok}
 use Rattle.refusal.specs.Tests.{first}
 use Rattle.refusal.proofs.Laws.{passed}
 use Rattle.fields.proofs.Laws.{AllBytes, bytes-part}
@@ -19,7 +19,7 @@ use Rattle.model.specs.Examine.{Setting, write_once, geometry, examined, lent_ta
 use Rattle.model.specs.Once.{filled_from}
 use Rattle.model.specs.Rewrite.{is_none, table_on, entries_on, copy_tests, current_record, place_of, of_spare_on}
 use Rattle.model.specs.Both.{open_verdict, record_on, numbers_on, opened_by, filled_by, opening, opened_table}
-use Rattle.model.specs.Calls.{open_disc, State, Result, step, answer_of_opening, held_after_opening, accepted, is_cut, is_opened}
+use Rattle.model.specs.Calls.{open_disc, State, Stepped, step, answer_of_opening, held_after_opening, accepted, is_cut, is_opened}
 use Rattle.model.specs.Store.{unused, reserved, slot_at, place_slot, place_slots, blocks_on, start, Store, Shape, cut_in, writes_in, was_cut, taken, next}
 use Rattle.model.specs.Demand.{after_opening, Below}
 use Rattle.model.proofs.Basics.{by-lt}
@@ -29,6 +29,7 @@ use Rattle.model.proofs.SparingLaws.{flat-current, sequence-below, Settled, curr
 use Rattle.model.proofs.OnceOpen.{filled-long}
 use Rattle.model.proofs.Ready.{Ready, Holds, LiveAgain, ready-table, ready-count, ready-sequence, table-length, examined-again, copies-go}
 use Rattle.model.proofs.Steps.{Sound}
+use Rattle.refusal.specs.Verdict.{verdict_of}
 
 -- what a table keeps of the entries es that were there before: its defective spares begin with theirs, and its mapped starts are theirs
 pub record Keeps (es : List Entry) (l : List ℕ) : Type 0 where
@@ -58,9 +59,9 @@ live-opened e g d t n l σ r long =
       lent = omega (arith, filled-long (table_on e d) t);
     }
 
-module _ (e : Setting) (g : Geometry) (again : write_once e ≡ false) (γ : Ground e g) (maps-go : (read_maps e.maps).verdict ≡ Go) where
+module _ (e : Setting) (g : Geometry) (again : write_once e ≡ false) (γ : Ground e g) (maps-go : verdict_of (read_maps e.maps) ≡ Ok tt) where
   -- every opening is accepted, and changes no block
-  pub record ReopenedAgain (h : Shape) (es : List Entry) (σ : Store) (r : Result) : Type 1 where
+  pub record ReopenedAgain (h : Shape) (es : List Entry) (σ : Store) (r : Stepped) : Type 1 where
     pub sound : Sound (AgainOk e g es) h σ open_disc r
     pub accepts : is_opened r.answer ≡ true
 
@@ -95,7 +96,7 @@ pub all-bytes : (s : List ℕ) → Below 256 s → AllBytes s
 unfolding Below
 all-bytes s h i = by-lt i (length s) (h i) (λ q. rw (get_or-eq_default s 0 q) (omega arith))
 
-module _ (e : Setting) (again : write_once e ≡ false) (d : Disc) (t : List ℕ) (low : Below 256 d.bytes) (go : open_verdict e d t ≡ Go) where
+module _ (e : Setting) (again : write_once e ≡ false) (d : Disc) (t : List ℕ) (low : Below 256 d.bytes) (go : open_verdict e d t ≡ Ok tt) where
   record FirstAgain : Type 0 where
     examines : Examined e d (lent_table t)
     some : is_none (counting d (geometry e d)) ≡ false
@@ -105,7 +106,7 @@ module _ (e : Setting) (again : write_once e ≡ false) (d : Disc) (t : List ℕ
   unfolding open_verdict copy_tests table_on
   first-tells =
       let p = then-go (examined e d (lent_table t)) _ go in
-      let q : first (copy_tests e d) ≡ Go = rw again at p.1 in
+      let q : first (copy_tests e d) ≡ (Ok tt) = rw again at p.1 in
       let w = passed (copy_tests e d) q in
       record { examines = examined-tells e d (lent_table t) p.0; some = not-true _ w.0; agreed = w.1.0 }
 

@@ -9,7 +9,7 @@ use lib.Dec.{ltb}
 use lib.ListN.{length}
 use borrow.Author.Tests.{ltb-true}
 use Rattle.refusal.specs.declared.Refusal.TheVariants.{NumberOutside}
-use Rattle.refusal.specs.declared.Verdict.TheVariants.{Go}
+use Rattle.std.specs.Prelude.{Ok}
 use Rattle.refusal.specs.Tests.{need}
 use Rattle.fields.specs.Bytes.{part, splice, same, join}
 use Rattle.fields.specs.Number.{value, digits, field, words, quads}
@@ -17,11 +17,11 @@ use Rattle.fields.specs.Regid.{identifier, regid, has_regid}
 use Rattle.tag.specs.Checksum.{total, checksum_of}
 use Rattle.tag.specs.Crc.{bit_step, bits_of, bits_from, byte_step, crc_from}
 use Rattle.maps.specs.Walk.{before as before_rest, first_length, first_whole, walk_up_to, walk}
-use Rattle.maps.specs.Kinds.{virtual_name, type_one, type_two, is_write_once, volume_with, volume_of, tables_apart, tables_in, tables_of, kind_tests, judged, answered, volume_in, read_maps}
+use Rattle.maps.specs.Kinds.{virtual_name, type_one, type_two, is_write_once, volume_with, volume_of, tables_apart, tables_in, tables_of, kind_tests, judged, volume_in, read_maps, volume_read}
+use Rattle.refusal.specs.Verdict.{verdict_of}
 use Rattle.maps.specs.Written.{type_one_map, type_two_map, maps_of}
 use Rattle.model.specs.declared.Effect.{Effect}
 use Rattle.model.specs.declared.Record.{Record}
-use Rattle.model.specs.declared.Opened.{Opened}
 use Rattle.model.specs.Disc.{sector, mark, recorded, nwa, known, shapely, inside}
 use Rattle.model.specs.Writes.{on_effect, landing, landed, write, writes, struck, no_cut}
 use Rattle.model.specs.Vat.{vat_name, none, file_fits, count_of, entries_of, previous_of, below_or_none, all_below, tag_fits, form, file_length, attributes, allocation, entry_fits, allocation_fits, file_of, table_fits, passes, vat_icb, vat_file, scan}
@@ -60,12 +60,12 @@ bytes_below (x ∷ l) q (suc i) h = bytes_below l (and-true (ltb x 256) (bytes_o
 -- block 0, and passes over no sector; every byte is one
 pub record Computed : Type 0 where
   pub once : write_once twelve ≡ true
-  pub maps : (read_maps twelve.maps).verdict ≡ Go
-  pub opens : opening twelve fresh lent ≡ Opened.Open (Record.WriteOnce 0 1 0) 0
+  pub maps : verdict_of (read_maps twelve.maps) ≡ Ok tt
+  pub opens : opening twelve fresh lent ≡ Ok (record { handed = Record.WriteOnce 0 1 0; passed = 0 })
   pub whole : bytes_only fresh.bytes ≡ true
 
 pub computed : Computed
-unfolding bytes_only twelve blank fresh lent write_once is_once volume before_rest first_length first_whole walk_up_to walk virtual_name type_one type_two is_write_once volume_with volume_of tables_apart tables_in tables_of kind_tests judged answered volume_in read_maps type_one_map type_two_map maps_of need part splice same join value digits field words quads identifier regid has_regid total checksum_of bit_step bits_of bits_from byte_step crc_from sector mark recorded nwa known shapely inside landing landed write writes no_cut vat_name none file_fits count_of entries_of previous_of below_or_none all_below tag_fits form file_length attributes allocation entry_fits allocation_fits file_of table_fits passes vat_icb vat_file scan file_bytes data_sectors written_file filled written_allocation written_form written_entry tag_with written_tag written_icb shape_tests place_tests examined lent_table next_on is_found found_at newest newest_file open_once_tests found_record passed_over open_verdict record_on passed_on opened_by opening make_tests make_verdict make_writes made_by made
+unfolding bytes_only twelve blank fresh lent write_once is_once volume before_rest first_length first_whole walk_up_to walk virtual_name type_one type_two is_write_once volume_with volume_of tables_apart tables_in tables_of kind_tests judged volume_in read_maps type_one_map type_two_map maps_of need part splice same join value digits field words quads identifier regid has_regid total checksum_of bit_step bits_of bits_from byte_step crc_from sector mark recorded nwa known shapely inside landing landed write writes no_cut vat_name none file_fits count_of entries_of previous_of below_or_none all_below tag_fits form file_length attributes allocation entry_fits allocation_fits file_of table_fits passes vat_icb vat_file scan file_bytes data_sectors written_file filled written_allocation written_form written_entry tag_with written_tag written_icb shape_tests place_tests examined lent_table next_on is_found found_at newest newest_file open_once_tests found_record passed_over open_verdict record_on passed_on opened_by opening make_tests make_verdict make_writes made_by made volume_read
 computed = record { once = refl; maps = refl; opens = refl; whole = refl }
 
 -- ---- what the calls answer
@@ -74,7 +74,7 @@ pub accepts : is_opened (answer_of_opening (opening twelve fresh lent)) ≡ true
 unfolding is_opened answer_of_opening
 accepts = ap (λ x. is_opened (answer_of_opening x)) computed.opens
 
-goes : open_verdict twelve fresh lent ≡ Go
+goes : open_verdict twelve fresh lent ≡ Ok tt
 goes = accepted-goes twelve fresh lent accepts
 
 -- a list with no element

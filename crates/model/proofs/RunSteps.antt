@@ -12,14 +12,13 @@ use lib.ListN.{length, take, set, get_or}
 use lib.Seq.{length-take-le}
 use borrow.Author.Tests.{le-leb, lt-ltb, eq-eqb}
 use Rattle.refusal.specs.declared.Refusal.{Refusal}
-use Rattle.refusal.specs.declared.Verdict.{Verdict}
-use Rattle.refusal.specs.declared.Verdict.TheVariants.{Go, Stop}
+use Rattle.refusal.specs.Verdict.{Verdict, verdict_of}
+use Rattle.std.specs.Prelude.{Ok, Err}
 use Rattle.refusal.specs.Tests.{Test, first, need}
 use Rattle.maps.specs.Kinds.{read_maps}
 use Rattle.model.specs.declared.Cut.{Cut}
 use Rattle.model.specs.declared.Landing.{Landing}
 use Rattle.model.specs.declared.Record.{Record}
-use Rattle.model.specs.declared.Opened.{Opened}
 use Rattle.model.specs.Writes.{landing, landed, write, writes, upward, struck, no_cut}
 use Rattle.model.specs.Vat.{none, passes, tag_fits, vat_file, count_of, all_below}
 use Rattle.model.specs.VatWritten.{data_sectors, written_icb}
@@ -43,14 +42,14 @@ use Rattle.model.proofs.OnceCommit.{commit-one, sound-commit, whole-left}
 -- between calls: the record is N, NWA w and the last ICB a, and the plain store is σ
 pub record Between (e : Setting) (st : State) (σ : Store) (n w a : ℕ) : Type 0 where
   pub once : write_once e ≡ true
-  pub maps : (read_maps e.maps).verdict ≡ Go
+  pub maps : verdict_of (read_maps e.maps) ≡ Ok tt
   pub live : Live e st σ
   pub held : st.held ≡ Record.WriteOnce n w a
 
 -- after a cut: the VAT of the ICB at a is found, and NWA is w
 pub record AfterCut (e : Setting) (st : State) (σ : Store) (w a : ℕ) : Type 0 where
   pub once : write_once e ≡ true
-  pub maps : (read_maps e.maps).verdict ≡ Go
+  pub maps : verdict_of (read_maps e.maps) ≡ Ok tt
   pub kept : Kept e.start e.span st.disc a σ.copy
   pub long : 4096 ≤ length st.table
   pub top : next_on e st.disc ≡ w
@@ -139,7 +138,7 @@ module _ {e : Setting} {st : State} {σ : Store} {n w a : ℕ} (t : Between e st
   standing = record { once = t.once; maps = t.maps; kept = last-kept; long = t.live.lent; top = sym top }
 
   -- a call of one write that is carried out
-  module _ (call : Call) (c : Cut) (b table : List ℕ) (r : Record) (is : step e st call ≡ carried (one_plan Go (e.start + w) b table r) c st) where
+  module _ (call : Call) (c : Cut) (b table : List ℕ) (r : Record) (is : step e st call ≡ carried (one_plan (Ok tt) (e.start + w) b table r) c st) where
     one-done : struck c 1 ≡ false → step e st call ≡ record { answer = done r; state = record { disc = writes 1 c (record { place = e.start + w; bytes = b } ∷ []) st.disc; table = table; held = r } }
     unfolding unless carried reply_of disc_after table_after answer_of held_after
     one-done q = is ∙ rw q
@@ -160,11 +159,11 @@ module _ {e : Setting} {st : State} {σ : Store} {n w a : ℕ} (t : Between e st
       ∙ ap (λ x. carried (one_plan x (e.start + w) b (set st.table v w) (Record.WriteOnce (count_after n v) (w + 1) a)) c st) q
 
   -- a save that is carried out
-  pub saved : (v : ℕ) (b : List ℕ) (c : Cut) → length b ≡ 2048 → first (save_tests e st.disc (Record.WriteOnce n w a) v b) ≡ Go → struck c 1 ≡ false
+  pub saved : (v : ℕ) (b : List ℕ) (c : Cut) → length b ≡ 2048 → first (save_tests e st.disc (Record.WriteOnce n w a) v b) ≡ Ok tt → struck c 1 ≡ false
       → Goes e st (save_virtual v b c) (done (Record.WriteOnce (count_after n v) (w + 1) a)) (λ x. Between e x (store (put σ.blocks v (holds b)) σ.copy) (count_after n v) (w + 1) a)
   unfolding OnceOk is_cut accepted next was_cut cut_in writes_in taken
   saved v b c long go q =
-      let is = one-done (save_virtual v b c) c b _ _ (save-step v b c long Go go) q in
+      let is = one-done (save_virtual v b c) c b _ _ (save-step v b c long (Ok tt) go) q in
       let says = ap (λ x. x.answer) is in
       record {
         says = says;
@@ -172,11 +171,11 @@ module _ {e : Setting} {st : State} {σ : Store} {n w a : ℕ} (t : Between e st
       }
 
   -- a save that is turned down
-  pub save-refused : (v : ℕ) (b : List ℕ) (c : Cut) (why : Refusal) → length b ≡ 2048 → first (save_tests e st.disc (Record.WriteOnce n w a) v b) ≡ Stop why
+  pub save-refused : (v : ℕ) (b : List ℕ) (c : Cut) (why : Refusal) → length b ≡ 2048 → first (save_tests e st.disc (Record.WriteOnce n w a) v b) ≡ Err why
       → Goes e st (save_virtual v b c) (refused why) (λ x. Between e x σ n w a)
   unfolding unless carried reply_of disc_after table_after answer_of held_after
   save-refused v b c why long stop =
-      let is = save-step v b c long (Stop why) stop in
+      let is = save-step v b c long (Err why) stop in
       record { says = ap (λ x. x.answer) is; leaves = subst (λ x. Between e x σ n w a) (sym (ap (λ x. x.state) is)) t }
 
   -- NWA after a write there, however it landed
@@ -185,7 +184,7 @@ module _ {e : Setting} {st : State} {σ : Store} {n w a : ℕ} (t : Between e st
   top-after l b h = next-landed l e.start e.span w b st.disc (sym top) h (on h)
 
   -- what a cut of one write leaves, where the write does not make a new VAT
-  cut_short : (call : Call) (c : Cut) (b table : List ℕ) (r : Record) → step e st call ≡ carried (one_plan Go (e.start + w) b table r) c st → struck c 1 ≡ true
+  cut_short : (call : Call) (c : Cut) (b table : List ℕ) (r : Record) → step e st call ≡ carried (one_plan (Ok tt) (e.start + w) b table r) c st → struck c 1 ≡ true
       → w < e.span → length b ≡ 2048 → (landing 1 c ≡ Landing.Done → passes st.disc e.start w b ≡ false)
       → Goes e st call cut (λ x. AfterCut e x σ (next_after w (landing 1 c)) a)
   cut_short call c b table r is q h long plain =
@@ -204,15 +203,15 @@ module _ {e : Setting} {st : State} {σ : Store} {n w a : ℕ} (t : Between e st
       }
 
   -- a save that is cut
-  pub save-cut : (v : ℕ) (b : List ℕ) (c : Cut) → length b ≡ 2048 → first (save_tests e st.disc (Record.WriteOnce n w a) v b) ≡ Go → struck c 1 ≡ true
+  pub save-cut : (v : ℕ) (b : List ℕ) (c : Cut) → length b ≡ 2048 → first (save_tests e st.disc (Record.WriteOnce n w a) v b) ≡ Ok tt → struck c 1 ≡ true
       → w < e.span → tag_fits w b ≡ false
       → Goes e st (save_virtual v b c) cut (λ x. AfterCut e x σ (next_after w (landing 1 c)) a)
   unfolding passes
   save-cut v b c long go q h plain =
-      cut_short (save_virtual v b c) c b _ _ (save-step v b c long Go go) q h long (λ _. and-false-left _ plain)
+      cut_short (save_virtual v b c) c b _ _ (save-step v b c long (Ok tt) go) q h long (λ _. and-false-left _ plain)
 
   -- what a free is planned to do
-  free_step : (v : ℕ) → first (entry_tests st.table (Record.WriteOnce n w a) v) ≡ Go
+  free_step : (v : ℕ) → first (entry_tests st.table (Record.WriteOnce n w a) v) ≡ Ok tt
       → step e st (free_virtual v) ≡ record { answer = done (Record.WriteOnce n w a); state = record { disc = st.disc; table = set st.table v none; held = Record.WriteOnce n w a } }
   unfolding step free_plan lent_table unless carried reply_of disc_after table_after answer_of held_after writes struck no_cut
   free_step v go =
@@ -264,7 +263,7 @@ module _ {e : Setting} {st : State} {σ : Store} {n w a : ℕ} (t : Between e st
     no-data : data_sectors (length entries) ≡ 0
     no-data = ap data_sectors count ∙ embedded
 
-    there-is-room : first (commit_tests e (Record.WriteOnce n w a)) ≡ Go
+    there-is-room : first (commit_tests e (Record.WriteOnce n w a)) ≡ Ok tt
     unfolding commit_tests room_to_commit next_held entries_held need
     there-is-room = rw (embedded, le-leb (w + 0 + 1) e.span (omega arith))
 
@@ -277,7 +276,7 @@ module _ {e : Setting} {st : State} {σ : Store} {n w a : ℕ} (t : Between e st
     its-block = omega arith
 
     -- what it is planned to do
-    commit-step : (c : Cut) → step e st (commit c) ≡ carried (one_plan Go (e.start + w) icb st.table (Record.WriteOnce n (w + 1) w)) c st
+    commit-step : (c : Cut) → step e st (commit c) ≡ carried (one_plan (Ok tt) (e.start + w) icb st.table (Record.WriteOnce n (w + 1) w)) c st
     unfolding step commit_plan lent_table entries_held
     commit-step c =
         ap (λ x. carried (unless x (carry (commit_writes e (take (entries_held st.held) st.table) st.held) st.table (Record.WriteOnce (entries_held st.held) (icb_block st.held + 1) (icb_block st.held)))) c st)
@@ -334,7 +333,7 @@ module _ {e : Setting} {st : State} {σ : Store} {w a : ℕ} (f : AfterCut e st 
   counted = sym (length-entries (vat_file st.disc e.start a)) ∙ sym (length-slots st.disc e.start _) ∙ ap length f.kept.same
 
   -- what opening finds
-  open_is : opening e st.disc st.table ≡ Opened.Open (Record.WriteOnce (length σ.copy) w a) (w - 1 - a)
+  open_is : opening e st.disc st.table ≡ Ok (record { handed = Record.WriteOnce (length σ.copy) w a; passed = w - 1 - a })
   unfolding opening opened_by record_on passed_on found_record passed_over newest_file found_at
   open_is = rw (open-goes e f.once f.maps st.disc st.table a f.kept f.long, f.once, kept-newest e f.once f.maps st.disc a f.kept, counted, f.top)
 

@@ -10,9 +10,9 @@ use lib.ListN.{length, get_or}
 use borrow.Author.Tests.{lt-ltb, le-ltb, le-leb, eq-eqb}
 use Rattle.refusal.specs.declared.Refusal.{Refusal}
 use Rattle.refusal.specs.declared.Refusal.TheVariants.{BelongsToSpare, LentLength}
-use Rattle.refusal.specs.declared.Verdict.{Verdict}
-use Rattle.refusal.specs.declared.Verdict.TheVariants.{Go, Stop}
-use Rattle.refusal.specs.Number.{number_of, verdict_number}
+use Rattle.refusal.specs.Verdict.{Verdict, verdict_of}
+use Rattle.std.specs.Prelude.{Ok, Err}
+use Rattle.refusal.specs.Number.{number_of, answer_number}
 use Rattle.refusal.specs.Tests.{Test, test, first, need}
 use Rattle.refusal.proofs.Laws.{first-append}
 use Rattle.maps.specs.Kinds.{absent, read_maps}
@@ -164,7 +164,7 @@ same-throughout e d t cs again f v =
 
 -- a verdict of another number
 abbrev Not30 : Verdict → Type 0
-Not30 v = verdict_number v ≢ 30
+Not30 v = answer_number v ≢ 30
 
 -- tests that hold, or give another number, do not give 30
 abbrev Others : List Test → Type 0
@@ -179,12 +179,12 @@ not-thirty (test false why ∷ l) (inl q, h) = differ q refl
 not-thirty (test false why ∷ l) (inr q, h) = q
 
 -- what a call's plan answers where it is refused is its verdict
-refused-by : (v : Verdict) (ws : List Write) (t : List ℕ) (r : Record) (c : Cut) (st : State) {why : Refusal} → (carried (unless v (carry ws t r)) c st).answer ≡ refused why → v ≡ Stop why
+refused-by : (v : Verdict) (ws : List Write) (t : List ℕ) (r : Record) (c : Cut) (st : State) {why : Refusal} → (carried (unless v (carry ws t r)) c st).answer ≡ refused why → v ≡ Err why
 unfolding carried unless reply_of answer_of
-refused-by Go ws t r c st h = by_bool (struck c (length ws))
+refused-by (Ok _) ws t r c st h = by_bool (struck c (length ws))
     (λ q. absurd (let k = rw q at h in let z : ◌≡◌ {A = ℕ} 0 1 = cc in omega arith))
     (λ q. absurd (let k = rw q at h in let z : ◌≡◌ {A = ℕ} 0 1 = cc in omega arith))
-refused-by (Stop why) ws t r c st h = cc
+refused-by (Err why) ws t r c st h = cc
 
 -- a block that is none of a spare shows another number
 slot-other : (d : Disc) (p : ℕ) → seen_as (slot_at d p) ≢ turned BelongsToSpare
@@ -196,10 +196,10 @@ slot-other d p q = by_bool (recorded d p)
     (λ b. absurd (let k = rw (a, b) at q in let z : ◌≡◌ {A = ℕ} 0 1 = cc in omega arith)))
 
 -- ---- between calls
-module _ (e : Setting) (g : Geometry) (again : write_once e ≡ false) (γ : Ground e g) (maps-go : (read_maps e.maps).verdict ≡ Go)
+module _ (e : Setting) (g : Geometry) (again : write_once e ≡ false) (γ : Ground e g) (maps-go : verdict_of (read_maps e.maps) ≡ Ok tt)
     (st : State) (n : ℕ) (l : List ℕ) (σ : Store) (i : LiveAgain e g st n l σ) where
   -- a lent slice of another length gives 3
-  lent-short : examined e st.disc false ≡ Stop LentLength
+  lent-short : examined e st.disc false ≡ Err LentLength
   unfolding examined shape_tests need
   lent-short = rw (i.ready.shape, i.ready.within)
 
@@ -259,21 +259,21 @@ module _ (e : Setting) (g : Geometry) (again : write_once e ≡ false) (γ : Gro
     other_block x c q =
         call-other _ (save_block_tests e st.disc v)
         (not-thirty (save_block_tests e st.disc v) (inr (omega arith), (inl passes, (inr (omega arith), (inr (omega arith), tt)))))
-        (ap verdict_number (refused-by _ _ _ _ c st q))
+        (ap answer_number (refused-by _ _ _ _ c st q))
 
     other-packet : (x : List ℕ) (c : Cut) → (step e st (save_packet v x c)).answer ≢ refused BelongsToSpare
     unfolding step save_packet_plan packet_tests spare_test
     other-packet x c q =
         call-other _ (packet_tests e st.disc v)
         (not-thirty (packet_tests e st.disc v) (inr (omega arith), (inl passes, tt)))
-        (ap verdict_number (refused-by _ _ _ _ c st q))
+        (ap answer_number (refused-by _ _ _ _ c st q))
 
     other-spare : (x : List ℕ) (c : Cut) → (step e st (spare_packet v x c)).answer ≢ refused BelongsToSpare
     unfolding step spare_plan spare_tests packet_tests spare_test
     other-spare x c q =
         call-other _ (spare_tests e st.disc v)
         (not-thirty (spare_tests e st.disc v) (inr (omega arith), (inl passes, (inr (omega arith), (inr (omega arith), (inr (omega arith), tt))))))
-        (ap verdict_number (refused-by _ _ _ _ c st q))
+        (ap answer_number (refused-by _ _ _ _ c st q))
 
 -- what holds between calls after a list that does not end in a cut
 live-left : (e : Setting) (g : Geometry) (es : List Entry) (down : Bool) (st : State) (σ : Store) → down ≡ false → AgainOk e g es down st σ → (n : ℕ) × (l : List ℕ) × LiveAgain e g st n l σ

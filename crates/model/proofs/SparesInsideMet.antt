@@ -6,18 +6,19 @@ use mathlib.Core.Path.{◌≡◌, refl, ap, ◌∙◌}
 use mathlib.Core.List.{List, [], ◌∷◌, ◌++◌}
 use native.Mathlib.Omega.{arith}
 use lib.ListN.{length, get_or, replicate}
-use Rattle.refusal.specs.declared.Verdict.TheVariants.{Go}
+use Rattle.std.specs.Prelude.{Ok, Result}
 use Rattle.refusal.specs.Tests.{need}
 use Rattle.fields.specs.Bytes.{part, splice, same, join}
 use Rattle.fields.specs.Number.{value, field, words, digits, quads}
 use Rattle.fields.specs.Regid.{has_regid, identifier, regid}
 use Rattle.fields.proofs.Laws.{AllBytes, bytes-append, bytes-part, bytes-splice, digits-below}
 use Rattle.maps.specs.Walk.{before, first_length, first_whole, walk_up_to, walk}
-use Rattle.maps.specs.Kinds.{sparable_name, type_two, tables_in_range, is_write_once, is_rewritable, used, volume_with, volume_of, absent, tables_apart, tables_in, tables_of, kind_tests, judged, answered, volume_in, read_maps}
+use Rattle.maps.specs.Kinds.{sparable_name, type_two, tables_in_range, is_write_once, is_rewritable, used, volume_with, volume_of, absent, tables_apart, tables_in, tables_of, kind_tests, judged, volume_in, read_maps, volume_read}
 use Rattle.maps.specs.Written.{type_two_map, maps_of}
 use Rattle.model.specs.declared.Cut.{Cut}
 use Rattle.model.specs.declared.Landing.{Landing}
 use Rattle.model.specs.declared.Opened.{Opened}
+use Rattle.refusal.specs.declared.Refusal.{Refusal}
 use Rattle.model.specs.Disc.{Disc, shapely, sector, mark, recorded, recorded_run, first_mark, mark_tests}
 use Rattle.model.specs.Writes.{Write, landing, landed, write, writes, upward, no_cut}
 use Rattle.model.specs.Vat.{none}
@@ -115,7 +116,7 @@ table-low n l =
     table-parts : ℕ → List ℕ → List (List ℕ)
     table-parts n l = replicate 16 0 ∷ regid sparing_name ∷ digits 2 (length l / 2) ∷ replicate 2 0 ∷ digits 4 n ∷ quads l ∷ []
 
-made-low : (e : Setting) (d : Disc) (spares : List ℕ) → write_once e ≡ false → make_verdict e d spares ≡ Go → Below 256 d.bytes → Below 256 (made e d spares).bytes
+made-low : (e : Setting) (d : Disc) (spares : List ℕ) → write_once e ≡ false → make_verdict e d spares ≡ Ok tt → Below 256 d.bytes → Below 256 (made e d spares).bytes
 unfolding Below made made_by make_writes
 made-low e d spares again go low i h =
     let zs : List ℕ = replicate (2048 * e.span) 0 in
@@ -161,7 +162,7 @@ module _ (d : Disc) (t : List ℕ) (low : Below 256 d.bytes) (shape : shapely d 
   follows cs proper =
       record {
         low = made-low small_volume d small_spares makes.kind makes.either low;
-        opens = ap (λ (x : Opened). is_opened (answer_of_opening x)) opens.answer;
+        opens = ap (λ (x : Result Opened Refusal). is_opened (answer_of_opening x)) opens.answer;
         proper = proper;
       }
 
@@ -207,7 +208,7 @@ spent-outside (suc (suc (suc zero))) h = refl
 spent-outside (suc (suc (suc (suc i)))) h = absurd (omega arith)
 
 pub inside-tried : InsideTried
-unfolding one_table one_spare marked_disc gives need save_block_tests packet_tests spare_tests read_rewritable_tests block_test spare_test of_spare_on of_spare copy_tests held_current place_of block_sector locate start_at spot_of packet_of other_mark mark_tests recorded_run first_mark recorded mark is_none no_entry free_of table_on entries_on sequence_on count_on counts counting_of counting sequence_in sequence_at table_at highest with_sequence current_sequence current first_table current_table agree sector volume is_once size_in write_once geometry maps_of type_two_map sparable_name used read_maps answered judged walk walk_up_to first_whole first_length before kind_tests is_write_once is_rewritable type_two tables_in_range volume_of volume_with tables_of tables_in tables_apart volume_in written_table filled join regid identifier sparing_name older_name digits quads part same value field words entries count_in table_in has_regid none_defective named copy_fits original_fits originals_fit may_follow ascending apart apart_from whole_packet absent mapped_of mapped_fit original_clear originals_clear entries_fit none defective is_free is_defective is_used
+unfolding one_table one_spare marked_disc gives need save_block_tests packet_tests spare_tests read_rewritable_tests block_test spare_test of_spare_on of_spare copy_tests held_current place_of block_sector locate start_at spot_of packet_of other_mark mark_tests recorded_run first_mark recorded mark is_none no_entry free_of table_on entries_on sequence_on count_on counts counting_of counting sequence_in sequence_at table_at highest with_sequence current_sequence current first_table current_table agree sector volume is_once size_in write_once geometry maps_of type_two_map sparable_name used read_maps judged walk walk_up_to first_whole first_length before kind_tests is_write_once is_rewritable type_two tables_in_range volume_of volume_with tables_of tables_in tables_apart volume_in written_table filled join regid identifier sparing_name older_name digits quads part same value field words entries count_in table_in has_regid none_defective named copy_fits original_fits originals_fit may_follow ascending apart apart_from whole_packet absent mapped_of mapped_fit original_clear originals_clear entries_fit none defective is_free is_defective is_used volume_read
 inside-tried =
     record {
       newer = copies-tried.0;

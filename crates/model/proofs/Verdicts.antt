@@ -6,8 +6,8 @@ use mathlib.Core.List.{List, [], ◌∷◌}
 use native.Mathlib.Omega.{arith}
 use Rattle.refusal.specs.declared.Refusal.{Refusal}
 use Rattle.refusal.specs.declared.Refusal.TheVariants.{OtherKind, StaleRecord}
-use Rattle.refusal.specs.declared.Verdict.{Verdict}
-use Rattle.refusal.specs.declared.Verdict.TheVariants.{Go, Stop}
+use Rattle.refusal.specs.Verdict.{Verdict, verdict_of}
+use Rattle.std.specs.Prelude.{Ok, Err, Result}
 use Rattle.refusal.specs.Tests.{Test, test, first, need, and_then}
 use Rattle.refusal.proofs.Laws.{passed, asked-after}
 use Rattle.maps.specs.Kinds.{read_maps}
@@ -20,17 +20,17 @@ use Rattle.model.specs.declared.Opened.{Opened}
 use Rattle.model.specs.Both.{open_verdict, record_on, passed_on, opened_by, opening}
 
 -- by cases of a verdict
-pub by-verdict {ℓ} : {P : Type ℓ} (v : Verdict) → (v ≡ Go → P) → ((why : Refusal) → v ≡ Stop why → P) → P
-by-verdict Go f g = f refl
-by-verdict (Stop why) f g = g why refl
+pub by-verdict {ℓ} : {P : Type ℓ} (v : Verdict) → (v ≡ Ok tt → P) → ((why : Refusal) → v ≡ Err why → P) → P
+by-verdict (Ok _) f g = f refl
+by-verdict (Err why) f g = g why refl
 
 -- two verdicts, one after the other, that let a call go on
-pub then-go : (a b : Verdict) → and_then a b ≡ Go → (a ≡ Go) × (b ≡ Go)
-then-go Go b e = (refl, e)
-then-go (Stop why) b e = let z : ◌≡◌ {A = ℕ} 0 1 = cc in absurd (omega arith)
+pub then-go : (a b : Verdict) → and_then a b ≡ Ok tt → (a ≡ Ok tt) × (b ≡ Ok tt)
+then-go (Ok _) b e = (refl, e)
+then-go (Err why) b e = let z : ◌≡◌ {A = ℕ} 0 1 = cc in absurd (omega arith)
 
 -- where the first lets it go on, the second decides
-pub go-then : {a : Verdict} (b : Verdict) → a ≡ Go → and_then a b ≡ b
+pub go-then : {a : Verdict} (b : Verdict) → a ≡ Ok tt → and_then a b ≡ b
 go-then b e = rw e
 
 -- a list of tests whose first holds is decided by the rest
@@ -39,7 +39,7 @@ unfolding need
 next-test why l e = rw e
 
 -- and stops where it does not hold
-pub stop-test : {b : Bool} (why : Refusal) (l : List Test) → b ≡ false → first (test b why ∷ l) ≡ Stop why
+pub stop-test : {b : Bool} (why : Refusal) (l : List Test) → b ≡ false → first (test b why ∷ l) ≡ Err why
 unfolding need
 stop-test why l e = rw e
 
@@ -48,34 +48,34 @@ pub record Examined (e : Setting) (d : Disc) (lent : Bool) : Type 0 where
   pub shape : shapely d ≡ true
   pub within : inside d e.start e.span ≡ true
   pub lengths : lent ≡ true
-  pub maps : (read_maps e.maps).verdict ≡ Go
+  pub maps : verdict_of (read_maps e.maps) ≡ Ok tt
   pub places : cond (write_once e) true (aligned (geometry e d)) ≡ true
 
-pub examined-tells : (e : Setting) (d : Disc) (lent : Bool) → examined e d lent ≡ Go → Examined e d lent
+pub examined-tells : (e : Setting) (d : Disc) (lent : Bool) → examined e d lent ≡ Ok tt → Examined e d lent
 unfolding examined shape_tests place_tests
 examined-tells e d lent h =
     let p = then-go (first (shape_tests e d lent)) _ h in
-    let q = then-go (read_maps e.maps).verdict _ p.1 in
+    let q = then-go (verdict_of (read_maps e.maps)) _ p.1 in
     let t = passed (shape_tests e d lent) p.0 in
     let u = passed (place_tests e d) q.1 in
     record { shape = t.0; within = t.1.0; lengths = t.1.1.0; maps = q.0; places = u.0 }
 
-pub examined-go : (e : Setting) (d : Disc) (lent : Bool) → Examined e d lent → examined e d lent ≡ Go
+pub examined-go : (e : Setting) (d : Disc) (lent : Bool) → Examined e d lent → examined e d lent ≡ Ok tt
 unfolding examined shape_tests place_tests need
 examined-go e d lent x = rw (x.shape, x.within, x.lengths, x.maps, x.places)
 
 -- on a write-once disc
-pub examined-once : (e : Setting) → write_once e ≡ true → (read_maps e.maps).verdict ≡ Go
-    → (d : Disc) (lent : Bool) → shapely d ≡ true → inside d e.start e.span ≡ true → lent ≡ true → examined e d lent ≡ Go
+pub examined-once : (e : Setting) → write_once e ≡ true → verdict_of (read_maps e.maps) ≡ Ok tt
+    → (d : Disc) (lent : Bool) → shapely d ≡ true → inside d e.start e.span ≡ true → lent ≡ true → examined e d lent ≡ Ok tt
 examined-once e once maps-go d lent a b c =
     examined-go e d lent (record { shape = a; within = b; lengths = c; maps = maps-go; places = rw once })
 
 -- a plan that a verdict stops is a refusal
-pub unless-stop : {v : Verdict} {why : Refusal} (p : Plan) → v ≡ Stop why → unless v p ≡ refuse why
+pub unless-stop : {v : Verdict} {why : Refusal} (p : Plan) → v ≡ Err why → unless v p ≡ refuse why
 unfolding unless
 unless-stop p e = rw e
 
-pub unless-go : {v : Verdict} (p : Plan) → v ≡ Go → unless v p ≡ p
+pub unless-go : {v : Verdict} (p : Plan) → v ≡ Ok tt → unless v p ≡ p
 unfolding unless
 unless-go p e = rw e
 
@@ -88,29 +88,31 @@ module _ (e : Setting) (d : Disc) (t : List ℕ) (lent : Bool) (held : Record) w
   once-own own = asked-after (examined e d lent) (test (write_once e) OtherKind ∷ test (held_fits e d t held) StaleRecord ∷ []) own
 
   -- what stops the common tests stops the call
-  pub once-stops : (own : List Test) {why : Refusal} → once_verdict e d t lent held [] ≡ Stop why → once_verdict e d t lent held own ≡ Stop why
+  pub once-stops : (own : List Test) {why : Refusal} → once_verdict e d t lent held [] ≡ Err why → once_verdict e d t lent held own ≡ Err why
   once-stops own h = once-own own ∙ ap (λ (v : Verdict). and_then v (first own)) h
 
   -- where they let it go on, its own decide
-  pub once-goes : (own : List Test) → once_verdict e d t lent held [] ≡ Go → once_verdict e d t lent held own ≡ first own
+  pub once-goes : (own : List Test) → once_verdict e d t lent held [] ≡ Ok tt → once_verdict e d t lent held own ≡ first own
   once-goes own h = once-own own ∙ ap (λ (v : Verdict). and_then v (first own)) h
 
 -- ---- an opening
 
 -- one that goes on has examined the map list
-pub open-maps : (e : Setting) (d : Disc) (t : List ℕ) → open_verdict e d t ≡ Go → (read_maps e.maps).verdict ≡ Go
+pub open-maps : (e : Setting) (d : Disc) (t : List ℕ) → open_verdict e d t ≡ Ok tt → verdict_of (read_maps e.maps) ≡ Ok tt
 unfolding open_verdict
 open-maps e d t g = (examined-tells e d _ (then-go (examined e d _) _ g).0).maps
 
 -- one that answers the record r and that it passed over n sectors
 pub record OpenedTells (e : Setting) (d : Disc) (t : List ℕ) (r : Record) (n : ℕ) : Type 0 where
-  pub goes : open_verdict e d t ≡ Go
+  pub goes : open_verdict e d t ≡ Ok tt
   pub held : record_on e d ≡ r
   pub passed : passed_on e d ≡ n
 
-pub opened-tells : (e : Setting) (d : Disc) (t : List ℕ) (r : Record) (n : ℕ) → opening e d t ≡ Opened.Open r n → OpenedTells e d t r n
+pub opened-tells : (e : Setting) (d : Disc) (t : List ℕ) (r : Record) (n : ℕ) → opening e d t ≡ Ok (record { handed = r; passed = n }) → OpenedTells e d t r n
 unfolding opening opened_by
 opened-tells e d t r n q =
     by-verdict (open_verdict e d t)
-    (λ g. let w : Opened.Open (record_on e d) (passed_on e d) ≡ Opened.Open r n = rw g at q in record { goes = g; held = cc; passed = cc })
-    (λ why g. let w : Opened.Refused why ≡ Opened.Open r n = rw g at q in let z : ◌≡◌ {A = ℕ} 0 1 = cc in absurd (omega arith))
+    (λ g. let w : ◌≡◌ {A = Result Opened Refusal} (Ok (record { handed = record_on e d; passed = passed_on e d })) (Ok (record { handed = r; passed = n })) = rw g at q in
+    let o : ◌≡◌ {A = Opened} (record { handed = record_on e d; passed = passed_on e d }) (record { handed = r; passed = n }) = cc in
+    record { goes = g; held = ap (λ (x : Opened). x.handed) o; passed = ap (λ (x : Opened). x.passed) o })
+    (λ why g. let w : ◌≡◌ {A = Result Opened Refusal} (Err why) (Ok (record { handed = r; passed = n })) = rw g at q in let z : ◌≡◌ {A = ℕ} 0 1 = cc in absurd (omega arith))

@@ -6,12 +6,13 @@ use mathlib.Core.List.{List, []}
 use native.Mathlib.Omega.{arith}
 use lib.ListN.{length, get_or, take}
 use borrow.Author.Tests.{eq-eqb, ne_eqb}
-use Rattle.refusal.specs.declared.Verdict.{Verdict}
-use Rattle.refusal.specs.declared.Verdict.TheVariants.{Go}
+use Rattle.refusal.specs.Verdict.{Verdict, verdict_of}
+use Rattle.std.specs.Prelude.{Ok, Err, Result}
 use Rattle.maps.specs.Kinds.{read_maps}
 use Rattle.model.specs.declared.Cut.{Cut}
 use Rattle.model.specs.declared.Record.{Record}
 use Rattle.model.specs.declared.Reply.{Reply}
+use Rattle.refusal.specs.declared.Refusal.{Refusal}
 use Rattle.model.specs.declared.Opened.{Opened}
 use Rattle.model.specs.Disc.{Disc}
 use Rattle.model.specs.Writes.{Write, writes, struck, no_cut}
@@ -21,7 +22,7 @@ use Rattle.model.specs.Examine.{Setting, write_once}
 use Rattle.model.specs.Once.{next_on, next_held, last_held, found_at, newest, passed_over, save_plan, free_plan, commit_plan}
 use Rattle.model.specs.Rewrite.{save_block_plan, save_packet_plan, spare_plan}
 use Rattle.model.specs.Both.{open_verdict, passed_on, opening}
-use Rattle.model.specs.Calls.{Call, save_virtual, free_virtual, commit, save_block, save_packet, spare_packet, open_disc, opened, State, Result, carried, answer_of, answer_of_opening, step, answers, final, accepted, Proper}
+use Rattle.model.specs.Calls.{Call, save_virtual, free_virtual, commit, save_block, save_packet, spare_packet, open_disc, opened, State, Stepped, carried, answer_of, answer_of_opening, step, answers, final, accepted, Proper}
 use Rattle.model.specs.Store.{Slot, Store, Shape, start, shape_of, cut_in, writes_in, was_cut}
 use Rattle.model.specs.Demand.{after_opening}
 use Rattle.model.specs.Consequences.{lays_icb}
@@ -39,7 +40,7 @@ use Rattle.model.proofs.OnceRises.{Rising, rising-one, rising-commit, rises}
 use Rattle.model.proofs.ConsequencesLists.{answer-place}
 use Rattle.model.proofs.Steps.{list-holds}
 
-module _ (e : Setting) (one : write_once e ≡ true) (maps-go : (read_maps e.maps).verdict ≡ Go) where
+module _ (e : Setting) (one : write_once e ≡ true) (maps-go : verdict_of (read_maps e.maps) ≡ Ok tt) where
   abbrev h : Shape
   h = shape_of e
 
@@ -63,12 +64,12 @@ module _ (e : Setting) (one : write_once e ≡ true) (maps-go : (read_maps e.map
   moved_up σ c k d' a κ' q m = rw q (omega (arith, m, passed-kept e one maps-go d' a κ'))
 
   -- what a call leaves
-  abbrev Leaves : Store → Count → Call → Result → Type 0
+  abbrev Leaves : Store → Count → Call → Stepped → Type 0
   Leaves σ k c r = Exact r.state.disc (counting h σ k c (accepted r.answer))
 
   -- a call by its verdict: a refusal changes nothing
   by-plan : (σ : Store) (k : Count) (c : Call) (x : Cut) (st : State) (v : Verdict) (ws : List Write) (t : List ℕ) (r : Record) → Exact st.disc k
-      → (v ≡ Go → Exact (writes 1 x ws st.disc) (counting h σ k c true)) → Leaves σ k c (carried (unless v (carry ws t r)) x st)
+      → (v ≡ Ok tt → Exact (writes 1 x ws st.disc) (counting h σ k c true)) → Leaves σ k c (carried (unless v (carry ws t r)) x st)
   unfolding unless carried reply_of disc_after answer_of accepted counting
   by-plan σ k c x st v ws t r f g =
       by-verdict v
@@ -140,7 +141,7 @@ module _ (e : Setting) (one : write_once e ≡ true) (maps-go : (read_maps e.map
   exact-first d t p m = omega (arith, m)
 
   -- the count before each call of a list
-  exact-list : (d : Disc) (t : List ℕ) → open_verdict e d t ≡ Go → (cs : List Call) → Proper false cs (answers e (after_opening e d t) cs)
+  exact-list : (d : Disc) (t : List ℕ) → open_verdict e d t ≡ Ok tt → (cs : List Call) → Proper false cs (answers e (after_opening e d t) cs)
       → (p : ℕ) → passed_over e d ≡ p → (i : ℕ) → Exact (final e (after_opening e d t) (take i cs)).disc (counted_after e d t p (take i cs))
   unfolding OnceOk
   exact-list d t g cs q p m i =
@@ -150,13 +151,13 @@ module _ (e : Setting) (one : write_once e ≡ true) (maps-go : (read_maps e.map
 -- ---- the bound
 
 -- only an opening answers that it opened, and how many sectors it passed over
-reply-opens : (y : Reply) (r : Record) (n : ℕ) → answer_of y ≡ opened r n → ⊥
+reply-opens : (y : Result Reply Refusal) (r : Record) (n : ℕ) → answer_of y ≡ opened r n → ⊥
 unfolding answer_of
-reply-opens (Reply.Done r') r n q = let z : ◌≡◌ {A = ℕ} 0 1 = cc in omega arith
-reply-opens Reply.Cut r n q = let z : ◌≡◌ {A = ℕ} 0 1 = cc in omega arith
-reply-opens (Reply.Refused why) r n q = let z : ◌≡◌ {A = ℕ} 0 1 = cc in omega arith
+reply-opens (Ok (Reply.Done r')) r n q = let z : ◌≡◌ {A = ℕ} 0 1 = cc in omega arith
+reply-opens (Ok Reply.Cut) r n q = let z : ◌≡◌ {A = ℕ} 0 1 = cc in omega arith
+reply-opens (Err why) r n q = let z : ◌≡◌ {A = ℕ} 0 1 = cc in omega arith
 
-pub opens-only : (e : Setting) (st : State) (c : Call) (r : Record) (n : ℕ) → (step e st c).answer ≡ opened r n → opening e st.disc st.table ≡ Opened.Open r n
+pub opens-only : (e : Setting) (st : State) (c : Call) (r : Record) (n : ℕ) → (step e st c).answer ≡ opened r n → opening e st.disc st.table ≡ Ok (record { handed = r; passed = n })
 unfolding step carried answer_of_opening
 opens-only e st (save_virtual v b c) r n q = absurd (reply-opens _ r n q)
 opens-only e st (free_virtual v) r n q = absurd (reply-opens _ r n q)
@@ -166,9 +167,12 @@ opens-only e st (save_packet b x c) r n q = absurd (reply-opens _ r n q)
 opens-only e st (spare_packet b x c) r n q = absurd (reply-opens _ r n q)
 opens-only e st open_disc r n q = by_answer (opening e st.disc st.table) q
   where
-    by_answer : (o : Opened) → answer_of_opening o ≡ opened r n → o ≡ Opened.Open r n
-    by_answer (Opened.Open r' n') w = cc
-    by_answer (Opened.Refused why) w = let z : ◌≡◌ {A = ℕ} 0 1 = cc in absurd (omega arith)
+    by_answer : (o : Result Opened Refusal) → answer_of_opening o ≡ opened r n → o ≡ Ok (record { handed = r; passed = n })
+    by_answer (Ok o) w =
+        let a : o.handed ≡ r = cc in
+        let b : o.passed ≡ n = cc in
+        λ i. Ok (record { handed = a i; passed = b i })
+    by_answer (Err why) w = let z : ◌≡◌ {A = ℕ} 0 1 = cc in absurd (omega arith)
 
 -- of a write-once disc
 passed-once : (e : Setting) (d : Disc) (p : ℕ) → write_once e ≡ true → passed_on e d ≡ p → passed_over e d ≡ p

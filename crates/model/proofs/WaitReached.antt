@@ -11,7 +11,7 @@ use Rattle.fields.specs.Bytes.{part}
 use Rattle.fields.specs.Number.{value, field}
 use Rattle.model.specs.declared.Effect.{Effect}
 use Rattle.model.specs.declared.Record.{Record}
-use Rattle.model.specs.declared.Opened.{Opened}
+use Rattle.std.specs.Prelude.{Ok}
 use Rattle.model.specs.Writes.{on_effect, landing, struck, no_cut}
 use Rattle.model.specs.Vat.{tag_fits, passes}
 use Rattle.model.specs.VatWritten.{file_bytes, data_sectors}
@@ -72,7 +72,7 @@ unfolding counted counting begun_in became_old old_in lays_icb next taken was_cu
 played k = record { first = refl; second = refl; third = refl }
 
 -- the first opening of the list
-torn-opens : opening twelve (final twelve before (take 2 waits)).disc (final twelve before (take 2 waits)).table ≡ Opened.Open (Record.WriteOnce 0 3 0) 2
+torn-opens : opening twelve (final twelve before (take 2 waits)).disc (final twelve before (take 2 waits)).table ≡ Ok (record { handed = Record.WriteOnce 0 3 0; passed = 2 })
 unfolding waits waited
 torn-opens =
     opens-only twelve (final twelve before (take 2 waits)) (get_or waits 2 open_disc) _ _

@@ -1,13 +1,12 @@
 -- Opening, reading and making: the calls of both kinds (document 01, "Calls and their sector writes").
-use Rattle.std.specs.Prelude.{ℕ, ◌*◌, Bool, true, cond, ◌&&◌, List, [], ◌∷◌, ◌++◌, length, replicate, eqb}
+use Rattle.std.specs.Prelude.{ℕ, ◌*◌, Bool, true, cond, ◌&&◌, List, [], ◌∷◌, ◌++◌, length, replicate, eqb, Ok, Err, Result}
 use Rattle.refusal.specs.declared.Refusal.TheVariants.{Misaligned, StaleRecord, NotBlank}
-use Rattle.refusal.specs.declared.Verdict.{Verdict}
-use Rattle.refusal.specs.declared.Verdict.TheVariants.{Go, Stop}
+use Rattle.refusal.specs.Verdict.{Verdict}
 use Rattle.refusal.specs.Tests.{Test, test, first, and_then}
 use Rattle.address.specs.Translation.{entry_sector_at}
 use Rattle.model.specs.declared.Record.{Record}
 use Rattle.model.specs.declared.Opened.{Opened}
-use Rattle.model.specs.declared.Given.{Given}
+use Rattle.refusal.specs.declared.Refusal.{Refusal}
 use Rattle.model.specs.Disc.{Disc, sector, mark, mark_tests}
 use Rattle.model.specs.Writes.{Write, writes, upward, no_cut}
 use Rattle.model.specs.Vat.{none, entries_of}
@@ -37,17 +36,17 @@ unfoldable pub passed_on : Setting → Disc → ℕ
 passed_on e d = cond (write_once e) (passed_over e d) 0
 
 -- the answer of a verdict
-unfoldable pub opened_by : Verdict → Record → ℕ → Opened
-opened_by Go held passed = Opened.Open held passed
-opened_by (Stop why) held passed = Opened.Refused why
+unfoldable pub opened_by : Verdict → Record → ℕ → Result Opened Refusal
+opened_by (Ok _) held passed = Ok (record { handed = held; passed = passed })
+opened_by (Err why) held passed = Err why
 
 -- the lent table after a verdict
 unfoldable pub filled_by : Verdict → List ℕ → List ℕ → List ℕ
-filled_by Go l t = filled_from l t
-filled_by (Stop why) l t = t
+filled_by (Ok _) l t = filled_from l t
+filled_by (Err why) l t = t
 
 -- what opening answers
-unfoldable pub opening : Setting → Disc → List ℕ → Opened
+unfoldable pub opening : Setting → Disc → List ℕ → Result Opened Refusal
 opening e d t = opened_by (open_verdict e d t) (record_on e d) (passed_on e d)
 
 -- the lent table after it
@@ -89,19 +88,14 @@ read_verdict e d t held v out =
     and_then (examined e d (read_lent t out))
     (first (cond (write_once e) (read_once_tests e d t held v) (read_rewritable_tests e d t held v)))
 
--- the answer of a verdict
-unfoldable pub given_by : Verdict → Given
-given_by Go = Given.Block
-given_by (Stop why) = Given.Refused why
-
 -- the lent bytes after a verdict
 unfoldable pub block_by : Verdict → List ℕ → List ℕ → List ℕ
-block_by Go b out = b
-block_by (Stop why) b out = out
+block_by (Ok _) b out = b
+block_by (Err why) b out = out
 
 -- what reading answers
-unfoldable pub reading : Setting → Disc → List ℕ → Record → ℕ → List ℕ → Given
-reading e d t held v out = given_by (read_verdict e d t held v out)
+unfoldable pub reading : Setting → Disc → List ℕ → Record → ℕ → List ℕ → Verdict
+reading e d t held v out = read_verdict e d t held v out
 
 -- the lent bytes after it
 unfoldable pub read_bytes : Setting → Disc → List ℕ → Record → ℕ → List ℕ → List ℕ
@@ -136,8 +130,8 @@ make_writes e d spares =
 
 -- the disc after a verdict: the writes in turn, with no cut, or as it came
 unfoldable pub made_by : Verdict → List Write → Disc → Disc
-made_by Go ws d = writes 1 no_cut ws d
-made_by (Stop why) ws d = d
+made_by (Ok _) ws d = writes 1 no_cut ws d
+made_by (Err why) ws d = d
 
 -- the disc after making; it hands back no record
 unfoldable pub made : Setting → Disc → List ℕ → Disc

@@ -1,6 +1,6 @@
 -- Lists of calls (document 01, "The plain store", second paragraph): each call gets disc, marks and lent table as the last one left them, and
 -- the record last handed back, which a refusal leaves in force. Map list, S and L are the same throughout.
-use Rattle.std.specs.Prelude.{ℕ, ◌≡◌, Bool, true, false, List, [], ◌∷◌}
+use Rattle.std.specs.Prelude.{ℕ, ◌≡◌, Bool, true, false, List, [], ◌∷◌, Result, Ok, Err}
 use Rattle.refusal.specs.declared.Refusal.{Refusal}
 use Rattle.model.specs.declared.Cut.{Cut}
 use Rattle.model.specs.declared.Record.{Record}
@@ -38,24 +38,24 @@ pub record State : Type 0 where
   pub held : Record
 
 -- a call's answer, and what it hands on
-pub record Result : Type 0 where
+pub record Stepped : Type 0 where
   pub answer : Answer
   pub state : State
 
 -- the answer that a reply is
-unfoldable pub answer_of : Reply → Answer
-answer_of (Reply.Done r) = done r
-answer_of Reply.Cut = cut
-answer_of (Reply.Refused why) = refused why
+unfoldable pub answer_of : Result Reply Refusal → Answer
+answer_of (Ok (Reply.Done r)) = done r
+answer_of (Ok Reply.Cut) = cut
+answer_of (Err why) = refused why
 
 -- the record in force after a reply
-unfoldable pub held_after : Reply → Record → Record
-held_after (Reply.Done r) held = r
-held_after Reply.Cut held = held
-held_after (Reply.Refused why) held = held
+unfoldable pub held_after : Result Reply Refusal → Record → Record
+held_after (Ok (Reply.Done r)) held = r
+held_after (Ok Reply.Cut) held = held
+held_after (Err why) held = held
 
 -- a writing call, by its plan
-unfoldable pub carried : Plan → Cut → State → Result
+unfoldable pub carried : Plan → Cut → State → Stepped
 carried p c st =
     record {
       answer = answer_of (reply_of p c);
@@ -67,17 +67,17 @@ carried p c st =
     }
 
 -- the answer that an opening is
-unfoldable pub answer_of_opening : Opened → Answer
-answer_of_opening (Opened.Open r n) = opened r n
-answer_of_opening (Opened.Refused why) = refused why
+unfoldable pub answer_of_opening : Result Opened Refusal → Answer
+answer_of_opening (Ok o) = opened o.handed o.passed
+answer_of_opening (Err why) = refused why
 
 -- the record in force after an opening
-unfoldable pub held_after_opening : Opened → Record → Record
-held_after_opening (Opened.Open r n) held = r
-held_after_opening (Opened.Refused why) held = held
+unfoldable pub held_after_opening : Result Opened Refusal → Record → Record
+held_after_opening (Ok o) held = o.handed
+held_after_opening (Err why) held = held
 
 -- one call
-unfoldable pub step : Setting → State → Call → Result
+unfoldable pub step : Setting → State → Call → Stepped
 step e st (save_virtual v b c) = carried (save_plan e st.disc st.table st.held v b) c st
 step e st (free_virtual v) = carried (free_plan e st.disc st.table st.held v) no_cut st
 step e st (commit c) = carried (commit_plan e st.disc st.table st.held) c st

@@ -1,8 +1,7 @@
 -- Demand 3 of the buyer: one claim over whole lists of calls (document 01, "The plain store", second paragraph). A reader who has read 01
 -- needs besides this file: Calls.antt (what a list of calls is) and Store.antt (the plain store).
-use Rattle.std.specs.Prelude.{ℕ, ◌<◌, ◌≡◌, true, false, List, [], ◌∷◌, length, get_or}
-use Rattle.refusal.specs.declared.Verdict.{Verdict}
-use Rattle.refusal.specs.declared.Verdict.TheVariants.{Go, Stop}
+use Rattle.std.specs.Prelude.{ℕ, ◌<◌, ◌≡◌, true, false, List, [], ◌∷◌, length, get_or, Ok, Err}
+use Rattle.refusal.specs.Verdict.{Verdict}
 use Rattle.model.specs.Disc.{Disc}
 use Rattle.model.specs.Examine.{Setting}
 use Rattle.model.specs.Both.{opening, opened_table, read_verdict, read_bytes, record_on}
@@ -25,8 +24,8 @@ followed h σ (c ∷ cs) (a ∷ al) = followed h (next h σ c (accepted a)) cs a
 
 -- what reading shows
 unfoldable pub seen_by : Verdict → List ℕ → Seen
-seen_by Go b = bytes b
-seen_by (Stop why) b = turned why
+seen_by (Ok _) b = bytes b
+seen_by (Err why) b = turned why
 
 -- reading block v into `out`, lent 2,048 bytes
 unfoldable pub seen : Setting → State → ℕ → List ℕ → Seen

@@ -1,12 +1,12 @@
 -- What every call on a disc examines first: lines 1 to 6 of document 01, "Why a call is turned down".
 use Rattle.std.specs.Prelude.{ℕ, ◌%◌, Bool, true, false, cond, ◌&&◌, List, [], ◌∷◌, length, eqb, leb}
 use Rattle.refusal.specs.declared.Refusal.TheVariants.{DiscShape, SpanOutside, LentLength, Misaligned}
-use Rattle.refusal.specs.declared.Verdict.{Verdict}
+use Rattle.refusal.specs.Verdict.{Verdict, verdict_of}
 use Rattle.refusal.specs.Tests.{Test, test, first, and_then}
 use Rattle.maps.specs.declared.Kind.{Kind}
 use Rattle.maps.specs.declared.Kind.TheVariants.{WriteOnce, Rewritable}
 use Rattle.maps.specs.declared.Volume.{Volume}
-use Rattle.maps.specs.Kinds.{read_maps, tables_of}
+use Rattle.maps.specs.Kinds.{read_maps, tables_of, volume_read}
 use Rattle.model.specs.Disc.{Disc, shapely, inside}
 use Rattle.model.specs.Sparing.{Geometry, outside}
 
@@ -22,7 +22,7 @@ setting m s l = record { maps = m; start = s; span = l }
 
 -- the volume that the map list gives
 unfoldable pub volume : Setting → Volume
-volume e = (read_maps e.maps).volume
+volume e = (volume_read (read_maps e.maps))
 
 -- whether a kind is write-once
 unfoldable pub is_once : Kind → Bool
@@ -74,7 +74,7 @@ place_tests e d = test (cond (write_once e) true (aligned (geometry e d))) Misal
 -- lines 1 to 6: lines 4 and 5, and of 6 what the map list shows, are the verdict of reading it
 unfoldable pub examined : Setting → Disc → Bool → Verdict
 examined e d lent =
-    and_then (first (shape_tests e d lent)) (and_then (read_maps e.maps).verdict (first (place_tests e d)))
+    and_then (first (shape_tests e d lent)) (and_then (verdict_of (read_maps e.maps)) (first (place_tests e d)))
 
 -- the lent table has at least 4,096 entries
 unfoldable pub lent_table : List ℕ → Bool

@@ -1,9 +1,8 @@
 -- The worked examples of document 01 ("Proved examples", a to l), as one statement: each is said of the definitions that the calls are
 -- proved to follow.
-use Rattle.std.specs.Prelude.{ℕ, ◌+◌, ◌<◌, ◌≡◌, List, [], ◌∷◌, replicate, set}
+use Rattle.std.specs.Prelude.{ℕ, ◌+◌, ◌<◌, ◌≡◌, List, [], ◌∷◌, replicate, set, Ok}
 use Rattle.label.specs.PerMille.{per_mille}
-use Rattle.refusal.specs.declared.Verdict.TheVariants.{Go}
-use Rattle.refusal.specs.Number.{verdict_number}
+use Rattle.refusal.specs.Number.{answer_number}
 use Rattle.refusal.specs.Tests.{Test, first}
 use Rattle.model.specs.declared.Record.{Record}
 use Rattle.model.specs.Disc.{Disc}
@@ -17,7 +16,7 @@ use Rattle.model.specs.Both.{entry_sector}
 
 -- the number that some tests give
 unfoldable pub gives : List Test → ℕ
-gives l = verdict_number (first l)
+gives l = answer_number (first l)
 
 -- a sparing entry (original, mapped); 0xffffffff is a free one, 0xfffffff0 a defective one
 abbrev pub entry : ℕ → ℕ → Entry
@@ -56,7 +55,7 @@ pub record Examples : Type 0 where
       × (gives (save_tests (setting maps s 9) disc (Record.WriteOnce 2 8 last) 0 zeros) ≡ 16)
       × (gives (save_tests (setting maps s 9) disc (Record.WriteOnce 2 8 last) 1 zeros) ≡ 16)
       × ((table : List ℕ) (v : ℕ) → v < 2
-      → once_verdict (setting maps s 9) disc table (save_lent table zeros) (Record.WriteOnce 2 7 last) [] ≡ Go
+      → once_verdict (setting maps s 9) disc table (save_lent table zeros) (Record.WriteOnce 2 7 last) [] ≡ Ok tt
       → save_plan (setting maps s 9) disc table (Record.WriteOnce 2 7 last) v zeros
       ≡ carry (record { place = s + 7; bytes = zeros } ∷ []) (set table v 7) (Record.WriteOnce 2 8 last))
   -- "k. Entries (64, 2,048), two free at 2,080 and 2,112; sparing 32 gives (32, 2,080), (64, 2,048), (free, 2,112)."

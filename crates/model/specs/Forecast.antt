@@ -2,12 +2,11 @@
 -- the NWA and N at the end, or the index, from 0, of the first item that would be refused and its number, without changing the disc. For every list
 -- and every set of blocks that none of the saves refuses under 15, carrying it out uncut, from the same disc, table and record, up to a first
 -- refusal, must give exactly that."
-use Rattle.std.specs.Prelude.{ℕ, ◌+◌, ◌<◌, ◌≡◌, Bool, cond, List, [], ◌∷◌, length, replicate, leb}
+use Rattle.std.specs.Prelude.{ℕ, ◌+◌, ◌<◌, ◌≡◌, Bool, cond, List, [], ◌∷◌, length, replicate, leb, Ok, Err, Result}
 use Rattle.refusal.specs.declared.Refusal.{Refusal}
 use Rattle.refusal.specs.declared.Refusal.TheVariants.{StaleRecord, NumberOutside, PassesAsIcb, NoRoom}
-use Rattle.refusal.specs.declared.Verdict.{Verdict}
-use Rattle.refusal.specs.declared.Verdict.TheVariants.{Go, Stop}
-use Rattle.refusal.specs.Number.{verdict_number}
+use Rattle.refusal.specs.Verdict.{Verdict}
+use Rattle.refusal.specs.Number.{answer_number}
 use Rattle.refusal.specs.Tests.{Test, first}
 use Rattle.model.specs.declared.Cut.{Cut}
 use Rattle.model.specs.declared.Record.{Record}
@@ -38,22 +37,22 @@ unfoldable pub item_record : Record → ℕ → Record
 item_record held x = cond (is_commit x) (committed_record held) (saved_record held x)
 
 -- item i is refused, or what the items after it give
-unfoldable pub item_by : Verdict → ℕ → Forecast → Forecast
-item_by Go i rest = rest
-item_by (Stop why) i rest = Forecast.Stops i why
+unfoldable pub item_by : Verdict → ℕ → Result Forecast Refusal → Result Forecast Refusal
+item_by (Ok _) i rest = rest
+item_by (Err why) i rest = Ok (Forecast.Stops i why)
 
 -- the items, the first of which has index i
-unfoldable pub forecast_from : Setting → ℕ → Record → List ℕ → Forecast
-forecast_from e i held [] = Forecast.Ends (next_held held) (entries_held held)
+unfoldable pub forecast_from : Setting → ℕ → Record → List ℕ → Result Forecast Refusal
+forecast_from e i held [] = Ok (Forecast.Ends (next_held held) (entries_held held))
 forecast_from e i held (x ∷ xs) = item_by (first (item_tests e held x)) i (forecast_from e (i + 1) (item_record held x) xs)
 
 -- the call is refused, or gives the forecast
-unfoldable pub forecast_by : Verdict → Forecast → Forecast
-forecast_by Go f = f
-forecast_by (Stop why) f = Forecast.Refused why
+unfoldable pub forecast_by : Verdict → Result Forecast Refusal → Result Forecast Refusal
+forecast_by (Ok _) f = f
+forecast_by (Err why) f = Err why
 
 -- what the call answers: lines 1 to 7 and 11 are its own
-unfoldable pub forecast : Setting → Disc → List ℕ → Record → List ℕ → Forecast
+unfoldable pub forecast : Setting → Disc → List ℕ → Record → List ℕ → Result Forecast Refusal
 forecast e d t held xs = forecast_by (held_verdict e d t held) (forecast_from e 0 held xs)
 
 -- ---- carrying the list out, as a list of calls of demand 3 (Calls.antt)
@@ -68,15 +67,15 @@ item_calls blocks cuts i [] = []
 item_calls blocks cuts i (x ∷ xs) = item_call x (blocks i) (cuts i) ∷ item_calls blocks cuts (i + 1) xs
 
 -- an answer is a refusal, of item i, or what the answers after it tell
-unfoldable pub or_refused : Answer → ℕ → Forecast → Forecast
+unfoldable pub or_refused : Answer → ℕ → Result Forecast Refusal → Result Forecast Refusal
 or_refused (done r) i rest = rest
 or_refused cut i rest = rest
-or_refused (refused why) i rest = Forecast.Stops i why
+or_refused (refused why) i rest = Ok (Forecast.Stops i why)
 or_refused (opened r n) i rest = rest
 
 -- what the answers tell, the first of which is that of item i: the first refusal; or, where there is none, NWA and N of the record at the end
-unfoldable pub told : ℕ → List Answer → Record → Forecast
-told i [] held = Forecast.Ends (next_held held) (entries_held held)
+unfoldable pub told : ℕ → List Answer → Record → Result Forecast Refusal
+told i [] held = Ok (Forecast.Ends (next_held held) (entries_held held))
 told i (a ∷ al) held = or_refused a i (told (i + 1) al held)
 
 -- the answers of the items, carried out from the state st
@@ -84,7 +83,7 @@ abbrev pub item_answers : Setting → State → (ℕ → List ℕ) → (ℕ → 
 item_answers e st blocks cuts xs = answers e st (item_calls blocks cuts 0 xs)
 
 -- and what they tell
-unfoldable pub carried_out : Setting → State → (ℕ → List ℕ) → (ℕ → Cut) → List ℕ → Forecast
+unfoldable pub carried_out : Setting → State → (ℕ → List ℕ) → (ℕ → Cut) → List ℕ → Result Forecast Refusal
 carried_out e st blocks cuts xs = told 0 (item_answers e st blocks cuts xs) (final e st (item_calls blocks cuts 0 xs)).held
 
 -- up to a first refusal no call is cut, and that refusal is not line 15
@@ -98,15 +97,15 @@ Unhindered (opened r n ∷ al) = Unhindered al
 -- ---- the claim
 
 -- the call is not refused
-abbrev pub Accepted : Forecast → Type 0
-Accepted f = (why : Refusal) → f ≡ Forecast.Refused why → ⊥
+abbrev pub Accepted : Result Forecast Refusal → Type 0
+Accepted f = (why : Refusal) → f ≡ Err why → ⊥
 
 -- what is claimed of the answer f to the items xs, where carrying them out is answered al and tells g
-pub record Foretold (xs : List ℕ) (f : Forecast) (al : List Answer) (g : Forecast) : Type 0 where
+pub record Foretold (xs : List ℕ) (f : Result Forecast Refusal) (al : List Answer) (g : Result Forecast Refusal) : Type 0 where
   -- where the call is not refused, it answers exactly that
   pub exactly : Accepted f → Unhindered al → f ≡ g
   -- where it is refused, so is the first item of every list that has one, with the same number
-  pub likewise : (why : Refusal) → f ≡ Forecast.Refused why → 0 < length xs → g ≡ Forecast.Stops 0 why
+  pub likewise : (why : Refusal) → f ≡ Err why → 0 < length xs → g ≡ Ok (Forecast.Stops 0 why)
 
 -- for every disc, table and record, be they of an opening or not, every list, all blocks of 2,048 bytes and all cuts; a cut that strikes no write
 -- of its call is none
@@ -122,9 +121,9 @@ ForecastMet =
     → Unhindered (item_answers e st (λ i. zeros) (λ i. no_cut) xs)
 
 -- ---- the promise of the call that is lent the table t and the items xs, and answers r; it writes nothing and leaves every lent thing as it came
-pub record Forecasts (x : Lent) (t : List ℕ) (held : Record) (xs : List ℕ) (r : Forecast) : Type 0 where
+pub record Forecasts (x : Lent) (t : List ℕ) (held : Record) (xs : List ℕ) (r : Result Forecast Refusal) : Type 0 where
   pub answer : r ≡ forecast x.setting x.disc t held xs
-  pub number : forecast_number r ≡ verdict_number (held_verdict x.setting x.disc t held)
+  pub number : forecast_number r ≡ answer_number (held_verdict x.setting x.disc t held)
   -- and the claim of what it answers
   pub foretells :
       (blocks : ℕ → List ℕ) (cuts : ℕ → Cut) → ((i : ℕ) → length (blocks i) ≡ 2048)
@@ -157,19 +156,19 @@ unfoldable pub many : List ℕ
 many = replicate 11 0
 
 -- what the call answers after the opening
-abbrev pub foreseen : Record → List ℕ → Forecast
+abbrev pub foreseen : Record → List ℕ → Result Forecast Refusal
 foreseen held xs = forecast twelve before.disc before.table held xs
 
 -- what is claimed of them
 pub record Fitting : Type 0 where
   -- all of the first; at the end NWA is 6 and N is 2
-  pub fits : foreseen before.held day ≡ Forecast.Ends 6 2
+  pub fits : foreseen before.held day ≡ Ok (Forecast.Ends 6 2)
   pub answered : item_answers twelve before (λ i. ones) (λ i. no_cut) day ≡ day_given
   -- the second item of the second, under 12
-  pub skips : foreseen before.held gap ≡ Forecast.Stops 1 NumberOutside
+  pub skips : foreseen before.held gap ≡ Ok (Forecast.Stops 1 NumberOutside)
   -- the eleventh of the third, under 16: after it no commit would fit
-  pub fills : foreseen before.held many ≡ Forecast.Stops 10 NoRoom
+  pub fills : foreseen before.held many ≡ Ok (Forecast.Stops 10 NoRoom)
   -- a block that would pass as an ICB at NWA is not foreseen: its save is refused under 15
-  pub unforeseen : carried_out twelve before (λ i. written_icb 1 [] 0) (λ i. no_cut) day ≡ Forecast.Stops 0 PassesAsIcb
+  pub unforeseen : carried_out twelve before (λ i. written_icb 1 [] 0) (λ i. no_cut) day ≡ Ok (Forecast.Stops 0 PassesAsIcb)
   -- and nothing is foreseen from a record that does not go with the disc
-  pub stale : foreseen (Record.WriteOnce 0 2 0) day ≡ Forecast.Refused StaleRecord
+  pub stale : foreseen (Record.WriteOnce 0 2 0) day ≡ Err StaleRecord

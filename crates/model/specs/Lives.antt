@@ -1,10 +1,8 @@
 -- Discs that live: a disc that was made is opened, takes a block and gives it back after another opening. Demand 3 alone would be met by calls
 -- that refuse everything; these claims say that the calls do not ("A call that meets no line here is carried out", document 01, "Why a call is
 -- turned down").
-use Rattle.std.specs.Prelude.{ℕ, ◌≤◌, ◌≡◌, true, false, List, [], ◌∷◌, length}
-use Rattle.refusal.specs.declared.Verdict.TheVariants.{Go}
+use Rattle.std.specs.Prelude.{ℕ, ◌≤◌, ◌≡◌, true, false, List, [], ◌∷◌, length, Ok}
 use Rattle.model.specs.declared.Record.{Record}
-use Rattle.model.specs.declared.Opened.{Opened}
 use Rattle.model.specs.Disc.{Disc}
 use Rattle.model.specs.Writes.{no_cut}
 use Rattle.model.specs.Vat.{passes}
@@ -20,7 +18,7 @@ use Rattle.model.specs.Demand.{after_opening, seen}
 -- empty VAT); the lent table is t
 pub record OpensEmpty (e : Setting) (d : Disc) (t : List ℕ) : Type 0 where
   -- opening is accepted
-  pub accepts : open_verdict e d t ≡ Go
+  pub accepts : open_verdict e d t ≡ Ok tt
   -- its record: N is 0, NWA 1 and the last ICB at 0
   pub held : record_on e d ≡ Record.WriteOnce 0 1 0
   -- the VAT has no entries
@@ -28,7 +26,7 @@ pub record OpensEmpty (e : Setting) (d : Disc) (t : List ℕ) : Type 0 where
   -- no sector is passed over
   pub passed : passed_on e d ≡ 0
   -- so this is the answer
-  pub answer : opening e d t ≡ Opened.Open (Record.WriteOnce 0 1 0) 0
+  pub answer : opening e d t ≡ Ok (record { handed = Record.WriteOnce 0 1 0; passed = 0 })
   -- and the lent table is kept
   pub table : opened_table e d t ≡ t
 
@@ -37,7 +35,7 @@ unfoldable pub OnceMadeOpens : Type 0
 OnceMadeOpens =
     (e : Setting) (d : Disc) (spares t : List ℕ)
     → write_once e ≡ true
-    → make_verdict e d spares ≡ Go
+    → make_verdict e d spares ≡ Ok tt
     → 4096 ≤ length t
     → OpensEmpty e (made e d spares) t
 
@@ -60,7 +58,7 @@ unfoldable pub OnceLives : Type 0
 OnceLives =
     (e : Setting) (d : Disc) (spares t b : List ℕ)
     → write_once e ≡ true
-    → make_verdict e d spares ≡ Go
+    → make_verdict e d spares ≡ Ok tt
     → 3 ≤ e.span
     → 4096 ≤ length t
     → length b ≡ 2048

@@ -1,15 +1,13 @@
 -- What the calls do for a rewritable disc (document 01, "The buyer's note"): a call that always refuses would meet demand 3 (Demand.antt) too. A
 -- disc that was made is opened, empty; then a block can be saved and a packet spared, once and again, and after another opening they read back. So it
 -- is too where spares lie inside the partition (02, slip 8): their blocks give 30, and every other block can be used.
-use Rattle.std.specs.Prelude.{ℕ, ◌+◌, ◌*◌, ◌%◌, ◌≤◌, ◌<◌, ◌≡◌, Bool, true, false, ◌≢◌, List, [], ◌∷◌, length, get_or, replicate}
+use Rattle.std.specs.Prelude.{ℕ, ◌+◌, ◌*◌, ◌%◌, ◌≤◌, ◌<◌, ◌≡◌, Bool, true, false, ◌≢◌, List, [], ◌∷◌, length, get_or, replicate, Ok}
 use Rattle.refusal.specs.declared.Refusal.TheVariants.{NumberOutside, BelongsToSpare}
-use Rattle.refusal.specs.declared.Verdict.TheVariants.{Go}
 use Rattle.fields.specs.Bytes.{part}
 use Rattle.maps.specs.declared.Kind.TheVariants.{Rewritable}
 use Rattle.maps.specs.Kinds.{tables_of}
 use Rattle.maps.specs.Written.{maps_of}
 use Rattle.model.specs.declared.Record.{Record}
-use Rattle.model.specs.declared.Opened.{Opened}
 use Rattle.model.specs.Disc.{Disc, shapely}
 use Rattle.model.specs.Writes.{no_cut}
 use Rattle.model.specs.Sparing.{flat, defective, packet_of, of_spare}
@@ -34,9 +32,9 @@ in_spare e spares v = of_spare e.start (spare_entries spares) v
 -- what opening finds on the disc d, which was made with a list of spares, when it is lent the table t ("Calls and their sector writes")
 pub record OpensFree (e : Setting) (d : Disc) (spares t : List ℕ) : Type 0 where
   -- no line turns it down
-  pub goes : open_verdict e d t ≡ Go
+  pub goes : open_verdict e d t ≡ Ok tt
   -- it answers with as many entries as there are spares, sequence 0, and 0 sectors passed over
-  pub answer : opening e d t ≡ Opened.Open (Record.Rewritable (length spares) 0) 0
+  pub answer : opening e d t ≡ Ok (record { handed = Record.Rewritable (length spares) 0; passed = 0 })
   pub handed : record_on e d ≡ Record.Rewritable (length spares) 0
   -- all entries are free, and the lent table is filled with them from its start
   pub free : table_on e d ≡ flat (spare_entries spares)
@@ -51,7 +49,7 @@ unfoldable pub RewritableMadeOpens : Type 0
 RewritableMadeOpens =
     (e : Setting) (d : Disc) (spares t : List ℕ)
     → write_once e ≡ false
-    → make_verdict e d spares ≡ Go
+    → make_verdict e d spares ≡ Ok tt
     → 4096 ≤ length t
     → OpensFree e (made e d spares) spares t
 
@@ -96,7 +94,7 @@ unfoldable pub RewritableLives : Type 0
 RewritableLives =
     (e : Setting) (d : Disc) (spares t : List ℕ)
     → write_once e ≡ false
-    → make_verdict e d spares ≡ Go
+    → make_verdict e d spares ≡ Ok tt
     → 4096 ≤ length t
     → 2 ≤ length (tables_of (volume e))
     → 1 ≤ length spares
@@ -138,7 +136,7 @@ unfoldable pub RespareLives : Type 0
 RespareLives =
     (e : Setting) (d : Disc) (first second : ℕ) (more t : List ℕ)
     → write_once e ≡ false
-    → make_verdict e d (first ∷ second ∷ more) ≡ Go
+    → make_verdict e d (first ∷ second ∷ more) ≡ Ok tt
     → 4096 ≤ length t
     → 2 ≤ length (tables_of (volume e))
     → (p : ℕ) (y z : List ℕ) → p % 32 ≡ 0 → p < e.span → in_spare e (first ∷ second ∷ more) p ≡ false → length y ≡ 65536 → length z ≡ 65536
@@ -160,9 +158,9 @@ pub record Makes (d : Disc) : Type 0 where
   pub kind : write_once small_volume ≡ false
   pub tables : 2 ≤ length (tables_of (volume small_volume))
   -- it is made with either spare and with both
-  pub inside : make_verdict small_volume d (128 ∷ []) ≡ Go
-  pub outside : make_verdict small_volume d (64 ∷ []) ≡ Go
-  pub either : make_verdict small_volume d small_spares ≡ Go
+  pub inside : make_verdict small_volume d (128 ∷ []) ≡ Ok tt
+  pub outside : make_verdict small_volume d (64 ∷ []) ≡ Ok tt
+  pub either : make_verdict small_volume d small_spares ≡ Ok tt
   -- the blocks of its first packet belong to no spare, and those of its second to that at 128
   pub free : (b : ℕ) → b < 32 → in_spare small_volume small_spares b ≡ false
   pub of_spares : (b : ℕ) → 32 ≤ b → b < 64 → in_spare small_volume small_spares b ≡ true

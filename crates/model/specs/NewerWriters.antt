@@ -1,10 +1,9 @@
 -- Discs from newer writers (02, slip 1), sentence by sentence: what demand 3 does not see of that request, since it speaks of blocks alone. That a
 -- packet can be spared again, and is read as last spared, is `RespareLives` (LivesAgain.antt).
-use Rattle.std.specs.Prelude.{ℕ, ◌+◌, ◌%◌, ◌≤◌, ◌<◌, ◌≡◌, true, false, ◌≢◌, List, [], ◌∷◌, ◌++◌, length, get_or, take, replicate}
+use Rattle.std.specs.Prelude.{ℕ, ◌+◌, ◌%◌, ◌≤◌, ◌<◌, ◌≡◌, true, false, ◌≢◌, List, [], ◌∷◌, ◌++◌, length, get_or, take, replicate, Ok, Result}
 use Rattle.refusal.specs.declared.Refusal.{Refusal}
-use Rattle.refusal.specs.declared.Verdict.{Verdict}
-use Rattle.refusal.specs.declared.Verdict.TheVariants.{Go}
-use Rattle.refusal.specs.Number.{number_of, verdict_number}
+use Rattle.refusal.specs.Verdict.{Verdict}
+use Rattle.refusal.specs.Number.{number_of, answer_number}
 use Rattle.fields.specs.Bytes.{part, splice}
 use Rattle.fields.specs.Number.{field}
 use Rattle.fields.specs.Regid.{has_regid, regid}
@@ -12,11 +11,10 @@ use Rattle.model.specs.declared.Cut.{Cut}
 use Rattle.model.specs.declared.Record.{Record}
 use Rattle.model.specs.declared.Reply.{Reply}
 use Rattle.model.specs.declared.Opened.{Opened}
-use Rattle.model.specs.declared.Given.{Given}
 use Rattle.model.specs.declared.Forecast.{Forecast}
 use Rattle.model.specs.Disc.{Disc}
 use Rattle.model.specs.Vat.{none}
-use Rattle.model.specs.Told.{reply_number, opened_number, given_number, forecast_number}
+use Rattle.model.specs.Told.{reply_number, forecast_number}
 use Rattle.model.specs.Sparing.{sparing_name, older_name, Geometry, Entry, entries, flat, defective, used_of, defective_of, free_of, entries_fit, table_in, none_defective, copy_fits, counts, sequence_in, sequence_at, table_at, current_sequence, current, current_table, agree, mapped_to, in_place, spot_of, of_spare, locate, first_free, rest, inserted, without, turned_defective, resorted, written_table}
 use Rattle.model.specs.Plan.{reply_of, disc_after}
 use Rattle.model.specs.Examine.{Setting, write_once, geometry}
@@ -35,11 +33,11 @@ use Rattle.model.specs.Examples.{entry}
 pub record NoEighteen : Type 0 where
   pub line : (why : Refusal) → number_of why ≢ 18
   pub list : (e : Setting) (st : State) (c : Call) (why : Refusal) → (step e st c).answer ≡ refused why → number_of why ≢ 18
-  pub verdict : (v : Verdict) → verdict_number v ≢ 18
-  pub reply : (r : Reply) → reply_number r ≢ 18
-  pub opened : (o : Opened) → opened_number o ≢ 18
-  pub given : (r : Given) → given_number r ≢ 18
-  pub forecast : (f : Forecast) → forecast_number f ≢ 18
+  pub verdict : (v : Verdict) → answer_number v ≢ 18
+  pub reply : (r : Result Reply Refusal) → reply_number r ≢ 18
+  pub opened : (o : Result Opened Refusal) → answer_number o ≢ 18
+  pub given : (r : Verdict) → answer_number r ≢ 18
+  pub forecast : (f : Result Forecast Refusal) → forecast_number f ≢ 18
 
 -- ---- which copies count
 
@@ -99,13 +97,13 @@ pub record NewerWritten : Type 0 where
   pub spared :
       (e : Setting) (d : Disc) (t : List ℕ) (held : Record) (b : ℕ) (packet : List ℕ) (c : Cut) (r : Record)
       → Below 256 d.bytes
-      → reply_of (spare_plan e d t held b packet) c ≡ Reply.Done r
+      → reply_of (spare_plan e d t held b packet) c ≡ Ok (Reply.Done r)
       → (i : ℕ) → i < length (geometry e d).tables
       → Stands (disc_after (spare_plan e d t held b packet) c d) (get_or (geometry e d).tables i 0) (written_table (sequence_on e d + 1) (spared_table e d b))
   -- and after making
   pub made :
       (e : Setting) (d : Disc) (spares : List ℕ)
-      → write_once e ≡ false → make_verdict e d spares ≡ Go
+      → write_once e ≡ false → make_verdict e d spares ≡ Ok tt
       → (i : ℕ) → i < length (geometry e d).tables
       → Stands (made e d spares) (get_or (geometry e d).tables i 0) (written_table 0 (flat (spare_entries spares)))
 

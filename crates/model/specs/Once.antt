@@ -1,7 +1,7 @@
 -- The calls on a write-once disc (document 01, "Calls and their sector writes"), each as its tests in checking order and its plan.
 use Rattle.std.specs.Prelude.{ℕ, ◌+◌, ◌-◌, Bool, true, false, cond, not, ◌&&◌, List, [], ◌∷◌, ◌++◌, length, set, take, drop, eqb, leb, ltb}
 use Rattle.refusal.specs.declared.Refusal.TheVariants.{OtherKind, NoTable, TooManyEntries, StaleRecord, NumberOutside, PassesAsIcb, NoRoom}
-use Rattle.refusal.specs.declared.Verdict.{Verdict}
+use Rattle.refusal.specs.Verdict.{Verdict}
 use Rattle.refusal.specs.Tests.{Test, test, first, and_then}
 use Rattle.address.specs.Translation.{sector_at, entry_tests as tests_of_entry}
 use Rattle.model.specs.declared.Record.{Record}

@@ -1,10 +1,9 @@
 -- A call as a plan (document 01, "Calls and their sector writes"): a refusal; or the sector writes in their order, the lent table after them
 -- and the record handed back. A cut call leaves the lent table as it came and hands back no record.
-use Rattle.std.specs.Prelude.{ℕ, ◌≡◌, cond, List, length}
+use Rattle.std.specs.Prelude.{ℕ, ◌≡◌, cond, List, length, Ok, Err, Result}
 use Rattle.refusal.specs.declared.Refusal.{Refusal}
-use Rattle.refusal.specs.declared.Verdict.{Verdict}
+use Rattle.refusal.specs.Verdict.{Verdict}
 use Rattle.refusal.specs.Number.{number_of}
-use Rattle.refusal.specs.declared.Verdict.TheVariants.{Go, Stop}
 use Rattle.model.specs.declared.Cut.{Cut}
 use Rattle.model.specs.declared.Record.{Record}
 use Rattle.model.specs.declared.Reply.{Reply}
@@ -19,13 +18,13 @@ pub data Plan : Type 0 where
 
 -- what is planned where no test stops it
 unfoldable pub unless : Verdict → Plan → Plan
-unless Go p = p
-unless (Stop why) p = refuse why
+unless (Ok _) p = p
+unless (Err why) p = refuse why
 
 -- the reply
-unfoldable pub reply_of : Plan → Cut → Reply
-reply_of (refuse why) c = Reply.Refused why
-reply_of (carry ws t r) c = cond (struck c (length ws)) Reply.Cut (Reply.Done r)
+unfoldable pub reply_of : Plan → Cut → Result Reply Refusal
+reply_of (refuse why) c = Err why
+reply_of (carry ws t r) c = cond (struck c (length ws)) (Ok Reply.Cut) (Ok (Reply.Done r))
 
 -- the disc after it
 unfoldable pub disc_after : Plan → Cut → Disc → Disc
@@ -43,7 +42,7 @@ plan_number (refuse why) c = number_of why
 plan_number (carry ws t r) c = cond (struck c (length ws)) 255 0
 
 -- a call's reply r, with its number, disc d and table t are those of the plan p under the cut c, from the disc d₀ and the table t₀
-pub record Meets (p : Plan) (c : Cut) (d₀ : Disc) (t₀ : List ℕ) (r : Reply) (d : Disc) (t : List ℕ) : Type 0 where
+pub record Meets (p : Plan) (c : Cut) (d₀ : Disc) (t₀ : List ℕ) (r : Result Reply Refusal) (d : Disc) (t : List ℕ) : Type 0 where
   pub reply : r ≡ reply_of p c
   pub number : reply_number r ≡ plan_number p c
   pub disc : d ≡ disc_after p c d₀

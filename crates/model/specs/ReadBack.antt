@@ -3,8 +3,7 @@
 -- from. A sparing table follows UDF 1.50, as 02, slip 1, quotes it, in its identifier and in the mark of a defective spare; all else follows CD
 -- UDF 1.82 in 01's form, and the suffix of the identifier is zeros. A reader who has read 01 needs besides this file: Vat.antt and Sparing.antt (as
 -- they are read), VatWritten.antt (a VAT as it is written) and Written.antt of maps (a map list as it is written).
-use Rattle.std.specs.Prelude.{ℕ, ◌+◌, ◌-◌, ◌*◌, ◌^◌, ◌≤◌, ◌<◌, ◌≡◌, true, false, List, [], ◌∷◌, ◌++◌, length, get_or, take, replicate}
-use Rattle.refusal.specs.declared.Verdict.TheVariants.{Go}
+use Rattle.std.specs.Prelude.{ℕ, ◌+◌, ◌-◌, ◌*◌, ◌^◌, ◌≤◌, ◌<◌, ◌≡◌, true, false, List, [], ◌∷◌, ◌++◌, length, get_or, take, replicate, Ok}
 use Rattle.fields.specs.Bytes.{part}
 use Rattle.fields.specs.Number.{field}
 use Rattle.fields.specs.Regid.{has_regid}
@@ -132,7 +131,7 @@ pub record ReadBack : Type 0 where
   -- first N entries of the lent table, which names the last ICB of the record that was handed to it; the record handed back says where it is
   pub committed :
       (e : Setting) (d : Disc) (t : List ℕ) (held : Record) (c : Cut) (r : Record)
-      → reply_of (commit_plan e d t held) c ≡ Reply.Done r
+      → reply_of (commit_plan e d t held) c ≡ Ok (Reply.Done r)
       → VatBack (disc_after (commit_plan e d t held) c d) e.start (icb_block held) (take (entries_held held) t) (last_held held)
       × (r ≡ Record.WriteOnce (entries_held held) (icb_block held + 1) (icb_block held))
   -- and in every list of calls of which demand 3 is claimed, each commit whose ICB is whole, cut or not, names the last ICB before it
@@ -151,7 +150,7 @@ pub record ReadBack : Type 0 where
   -- 32 and named once, is read as that volume; the list tells no span, and places that the kind does not use are 0
   pub maps :
       (v : Volume) → Ranged v → kind_in_range v.kind ≡ true → tables_apart (tables_of v) ≡ true
-      → read_maps (maps_of v.kind v.tables) ≡ record { verdict = Go; volume = volume_with v.kind (places_of v.kind v.tables) }
+      → read_maps (maps_of v.kind v.tables) ≡ Ok (volume_with v.kind (places_of v.kind v.tables))
 
 -- ---- there is something of each kind
 
@@ -208,7 +207,7 @@ pub record ReadBackMet : Type 0 where
       reply_of
       (commit_plan twelve (final twelve before (take 17 calls)).disc (final twelve before (take 17 calls)).table (final twelve before (take 17 calls)).held)
       no_cut
-      ≡ Reply.Done (Record.WriteOnce 2 10 9)
+      ≡ Ok (Reply.Done (Record.WriteOnce 2 10 9))
   pub chained :
       Follows twelve fresh lent (take 17 calls ++ (commit no_cut ∷ []))
       × (accepted (answer_after twelve fresh lent (take 17 calls) (commit no_cut)) ≡ true)

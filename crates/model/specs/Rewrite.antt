@@ -1,14 +1,15 @@
 -- The calls on a rewritable disc (document 01, "Calls and their sector writes"; 02, slips 1, 5 and 8), each as its tests in checking order and its
 -- plan.
-use Rattle.std.specs.Prelude.{ℕ, ◌+◌, ◌-◌, ◌*◌, ◌%◌, Bool, true, false, cond, not, ◌&&◌, List, [], ◌∷◌, ◌++◌, length, take, eqb, leb, ltb}
+use Rattle.std.specs.Prelude.{ℕ, ◌+◌, ◌-◌, ◌*◌, ◌%◌, Bool, true, false, cond, not, ◌&&◌, List, [], ◌∷◌, ◌++◌, length, take, eqb, leb, ltb, Result}
 use Rattle.refusal.specs.declared.Refusal.TheVariants.{OtherKind, NoTable, CopiesDiffer, StaleRecord, NumberOutside, BelongsToSpare, OneTable, NoSpare, LastSequence}
-use Rattle.refusal.specs.declared.Verdict.{Verdict}
+use Rattle.refusal.specs.Verdict.{Verdict, answered}
 use Rattle.refusal.specs.Tests.{Test, test, first, and_then}
 use Rattle.fields.specs.Bytes.{same, splice}
 use Rattle.address.specs.declared.LogicalAddress.{LogicalAddress}
 use Rattle.address.specs.declared.Span.{Span}
-use Rattle.address.specs.declared.ToPhysical.{ToPhysical}
-use Rattle.address.specs.Translation.{block_tests, unless_physical}
+use Rattle.address.specs.declared.PhysicalAddress.{PhysicalAddress}
+use Rattle.refusal.specs.declared.Refusal.{Refusal}
+use Rattle.address.specs.Translation.{block_tests}
 use Rattle.model.specs.declared.Record.{Record}
 use Rattle.model.specs.Disc.{Disc, recorded_run, first_mark, mark_tests, joined}
 use Rattle.model.specs.Writes.{Write, upward}
@@ -83,8 +84,8 @@ unfoldable pub packet_verdict : Span → List Entry → LogicalAddress → Verdi
 packet_verdict s es b = first (block_tests s b ++ (test (not (of_spare s.start es b.0)) BelongsToSpare ∷ []))
 
 -- that translation: the first sector of the packet of b
-unfoldable pub packet_physical : Span → List Entry → LogicalAddress → ToPhysical
-packet_physical s es b = unless_physical (packet_verdict s es b) (record { 0 = locate s.start es (packet_of b.0) })
+unfoldable pub packet_physical : Span → List Entry → LogicalAddress → Result PhysicalAddress Refusal
+packet_physical s es b = answered (packet_verdict s es b) (record { 0 = locate s.start es (packet_of b.0) })
 
 -- ---- save b: the packet read, one block replaced, 32 sectors rewritten upward
 

@@ -1,12 +1,10 @@
 -- Spares inside the partition (02, slip 8), sentence by sentence: what demand 3 does not see of that request, since it compares what is read. That such a
 -- disc is made, opened, saved and spared on is `RewritableLives` and `RespareLives` (LivesAgain.antt).
-use Rattle.std.specs.Prelude.{ℕ, ◌+◌, ◌*◌, ◌%◌, ◌≤◌, ◌<◌, ◌≡◌, Bool, true, false, ◌&&◌, ◌≢◌, ◌⊎◌, List, [], ◌∷◌, length, get_or, replicate, leb}
+use Rattle.std.specs.Prelude.{ℕ, ◌+◌, ◌*◌, ◌%◌, ◌≤◌, ◌<◌, ◌≡◌, Bool, true, false, ◌&&◌, ◌≢◌, ◌⊎◌, List, [], ◌∷◌, length, get_or, replicate, leb, Ok, Err}
 use Rattle.refusal.specs.declared.Refusal.TheVariants.{NumberOutside, BelongsToSpare}
-use Rattle.refusal.specs.declared.Verdict.TheVariants.{Go, Stop}
 use Rattle.refusal.specs.Tests.{first}
 use Rattle.address.specs.declared.LogicalAddress.{LogicalAddress}
 use Rattle.address.specs.declared.Span.{Span}
-use Rattle.address.specs.declared.ToPhysical.{ToPhysical}
 use Rattle.maps.specs.declared.Kind.TheVariants.{Rewritable}
 use Rattle.maps.specs.Written.{maps_of}
 use Rattle.model.specs.declared.Cut.{Cut}
@@ -54,7 +52,7 @@ pub record CopyRule : Type 0 where
   -- the packets of tables are outside it on every disc that lines 1 to 6 let pass
   pub tables :
       (e : Setting) (d : Disc) (lent : Bool) (i : ℕ)
-      → write_once e ≡ false → examined e d lent ≡ Go
+      → write_once e ≡ false → examined e d lent ≡ Ok tt
       → i < length (geometry e d).tables
       → (get_or (geometry e d).tables i 0 + 32 ≤ e.start) ⊎ (e.start + e.span ≤ get_or (geometry e d).tables i 0)
 
@@ -65,28 +63,28 @@ pub record CopyRule : Type 0 where
 pub record ThirtyAfterTwelve : Type 0 where
   pub block :
       (e : Setting) (d : Disc) (b : ℕ)
-      → (e.span ≤ b → first (save_block_tests e d b) ≡ Stop NumberOutside)
-      × (b < e.span → of_spare_on e d b ≡ true → first (save_block_tests e d b) ≡ Stop BelongsToSpare)
+      → (e.span ≤ b → first (save_block_tests e d b) ≡ Err NumberOutside)
+      × (b < e.span → of_spare_on e d b ≡ true → first (save_block_tests e d b) ≡ Err BelongsToSpare)
   pub packet :
       (e : Setting) (d : Disc) (b : ℕ) → b % 32 ≡ 0
-      → (e.span ≤ b → first (packet_tests e d b) ≡ Stop NumberOutside)
-      × (b < e.span → of_spare_on e d b ≡ true → first (packet_tests e d b) ≡ Stop BelongsToSpare)
+      → (e.span ≤ b → first (packet_tests e d b) ≡ Err NumberOutside)
+      × (b < e.span → of_spare_on e d b ≡ true → first (packet_tests e d b) ≡ Err BelongsToSpare)
   pub spare :
       (e : Setting) (d : Disc) (b : ℕ) → b % 32 ≡ 0
-      → (e.span ≤ b → first (spare_tests e d b) ≡ Stop NumberOutside)
-      × (b < e.span → of_spare_on e d b ≡ true → first (spare_tests e d b) ≡ Stop BelongsToSpare)
+      → (e.span ≤ b → first (spare_tests e d b) ≡ Err NumberOutside)
+      × (b < e.span → of_spare_on e d b ≡ true → first (spare_tests e d b) ≡ Err BelongsToSpare)
   -- reading has lines 8, 10 and 11 before them
   pub reading :
       (e : Setting) (d : Disc) (t : List ℕ) (held : Record) (b : ℕ)
-      → first (copy_tests e d) ≡ Go → held_current e d t held ≡ true
-      → (e.span ≤ b → first (read_rewritable_tests e d t held b) ≡ Stop NumberOutside)
-      × (b < e.span → of_spare_on e d b ≡ true → first (read_rewritable_tests e d t held b) ≡ Stop BelongsToSpare)
+      → first (copy_tests e d) ≡ Ok tt → held_current e d t held ≡ true
+      → (e.span ≤ b → first (read_rewritable_tests e d t held b) ≡ Err NumberOutside)
+      × (b < e.span → of_spare_on e d b ≡ true → first (read_rewritable_tests e d t held b) ≡ Err BelongsToSpare)
   -- a translation that is lent the sparing entries
   pub translation :
       (s : Span) (es : List Entry) (b : LogicalAddress)
-      → (s.length ≤ b.0 → packet_physical s es b ≡ ToPhysical.Refused NumberOutside)
-      × (b.0 < s.length → of_spare s.start es b.0 ≡ true → packet_physical s es b ≡ ToPhysical.Refused BelongsToSpare)
-      × (b.0 < s.length → of_spare s.start es b.0 ≡ false → packet_physical s es b ≡ ToPhysical.At (record { 0 = locate s.start es (packet_of b.0) }))
+      → (s.length ≤ b.0 → packet_physical s es b ≡ Err NumberOutside)
+      × (b.0 < s.length → of_spare s.start es b.0 ≡ true → packet_physical s es b ≡ Err BelongsToSpare)
+      × (b.0 < s.length → of_spare s.start es b.0 ≡ false → packet_physical s es b ≡ Ok (record { 0 = locate s.start es (packet_of b.0) }))
 
 -- ---- "so two addresses still never share a sector"
 

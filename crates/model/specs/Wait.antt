@@ -1,10 +1,9 @@
 -- Opening after a fault (02, slip 12): "The number of sectors passed over must be at most the sector writes begun since the last whole VAT ICB,
 -- counted over the calls of a list as in demand 3 from a clean opening (one that passed over none). It is zero exactly when the partition's last
 -- sector not blank is a VAT ICB." On write-once discs; on rewritable ones no sector is passed over.
-use Rattle.std.specs.Prelude.{ℕ, ◌+◌, ◌-◌, ◌≤◌, ◌<◌, ◌≡◌, Bool, true, false, cond, List, [], ◌∷◌, length, get_or, take, eqb}
+use Rattle.std.specs.Prelude.{ℕ, ◌+◌, ◌-◌, ◌≤◌, ◌<◌, ◌≡◌, Bool, true, false, cond, List, [], ◌∷◌, length, get_or, take, eqb, Ok}
 use Rattle.model.specs.declared.Effect.{Effect}
 use Rattle.model.specs.declared.Record.{Record}
-use Rattle.model.specs.declared.Opened.{Opened}
 use Rattle.model.specs.Disc.{Disc}
 use Rattle.model.specs.Vat.{vat_icb}
 use Rattle.model.specs.Examine.{Setting, write_once}
@@ -89,7 +88,7 @@ pub record LastSector (e : Setting) (d : Disc) (n : ℕ) : Type 0 where
 unfoldable pub NoneExactly : Type 0
 NoneExactly =
     (e : Setting) (d : Disc) (t : List ℕ) → write_once e ≡ true
-    → (r : Record) (n : ℕ) → opening e d t ≡ Opened.Open r n → LastSector e d n
+    → (r : Record) (n : ℕ) → opening e d t ≡ Ok (record { handed = r; passed = n }) → LastSector e d n
 
 -- ---- a list that reaches the bound, on the disc of Run.antt, which is opened clean
 

@@ -37,7 +37,7 @@ pub const DONE: u32 = 0;
 pub const CUT: u32 = 255;
 
 // What becomes of the sector write at which the power fails.
-#[derive(Clone, Copy)]
+#[derive(Clone, Copy, PartialEq, Eq)]
 pub enum Effect {
     Old,
     Unreadable,
@@ -45,14 +45,14 @@ pub enum Effect {
 }
 
 // A power failure at a sector write of a call, counted from 1; 0, or past the last write, is none.
-#[derive(Clone, Copy)]
+#[derive(Clone, Copy, PartialEq, Eq)]
 pub struct Cut {
     pub at: u32,
     pub effect: Effect,
 }
 
 // What becomes of one sector write of a call.
-#[derive(Clone, Copy)]
+#[derive(Clone, Copy, PartialEq, Eq)]
 pub enum Landing {
     Done,
     Old,
@@ -63,41 +63,32 @@ pub enum Landing {
 // What goes with the lent table from one call to the next: on a write-once disc the number of entries N,
 // the next writable block NWA and the last ICB; on a rewritable one the number of entries R and the
 // sequence.
-#[derive(Clone, Copy)]
+#[derive(Clone, Copy, PartialEq, Eq)]
 pub enum Record {
     WriteOnce { entries: u32, next: u32, last: u32 },
     Rewritable { entries: u32, sequence: u32 },
 }
 
-// What a writing call answers.
-#[derive(Clone, Copy)]
+// What a writing call that is not turned down comes to.
+#[derive(Clone, Copy, PartialEq, Eq)]
 pub enum Reply {
     Done(Record),
     Cut,
-    Refused(Refusal),
 }
 
-// What opening answers: the record, and how many sectors it passed over.
-#[derive(Clone, Copy)]
-pub enum Opened {
-    Open { handed: Record, passed: u32 },
-    Refused(Refusal),
+// What an opening hands on, and a list of calls at its end: the record in force, and how many sectors the last opening passed over.
+#[derive(Clone, Copy, PartialEq, Eq)]
+pub struct Opened {
+    pub handed: Record,
+    pub passed: u32,
 }
 
-// What reading answers: the block is in the lent bytes, or why not.
-#[derive(Clone, Copy)]
-pub enum Given {
-    Block,
-    Refused(Refusal),
-}
-
-// What the forecast of a list of saves and commits answers (02, slip 9): NWA and N at its end; or the index from 0 of
-// the first item that would be refused, and why; or why the forecast is turned down.
-#[derive(Clone, Copy)]
+// What the forecast of a list of saves and commits comes to (02, slip 9): NWA and N at its end; or the index from 0 of
+// the first item that would be refused, and why.
+#[derive(Clone, Copy, PartialEq, Eq)]
 pub enum Forecast {
     Ends { next: u32, entries: u32 },
     Stops { index: u32, why: Refusal },
-    Refused(Refusal),
 }
 
 // Whether the packet at m is a whole packet of the disc.

@@ -13,31 +13,20 @@ ghost use Rattle.model.specs.VatWritten.{data_sectors, written_data};
 
 use address::{LogicalAddress, PhysicalAddress};
 use model::{Cut, Record, Reply, SECTOR};
-use refusal::{Refusal, Verdict};
+use refusal::Refusal;
+use vat_file_written::Vat;
 
 // Writes the VAT's data sectors upward from sector `first`, the call's first writes.
 // Inside the layers: lines 1 to 16 have been tested, so the sectors are the disc's.
-fn write_vat_data(
-    disc: &mut [u8],
-    marks: &mut [u8],
-    first: PhysicalAddress,
-    table: &[u32],
-    n: u32,
-    last: LogicalAddress,
-    cut: Cut,
-)
-    requires n_bound { (n ≤ 4096) × (n ≤ length table.now) }
-    requires n_in_bounds { (first.0 + data_sectors n ≤ length marks.old) × (length marks.old ≤ 1048576) }
+fn write_vat_data(disc: &mut [u8], marks: &mut [u8], first: PhysicalAddress, vat: &Vat, cut: Cut)
+    requires n_in_bounds { (first.0 + data_sectors (length vat.now.entries.now) ≤ length marks.old) × (length marks.old ≤ 1048576) }
     requires disc_len { length disc.old ≡ 2048 * length marks.old }
-    ensures { disc_of disc.new marks.new ≡ writes 1 cut (upward (data_sectors n) first.0 (written_data (take n table.now) last.0) 0) (disc_of disc.old marks.old) }
+    ensures { disc_of disc.new marks.new ≡ writes 1 cut (upward (data_sectors (length vat.now.entries.now)) first.0 (written_data vat.now.entries.now vat.now.previous.0) 0) (disc_of disc.old marks.old) }
 {
-    let count = vat_file_written::data_sectors(n);
-    let mut i: u32 = 0;
-    while i < count {
+    for i in 0..vat_file_written::data_sectors(vat.count()) {
         let mut data = [0u8; SECTOR];
-        vat_file_written::write_data(&mut data, table, n, last, i);
+        vat.write_data(&mut data, i);
         disc_writes::write_sector(disc, marks, address::up_from(first, i), &data, i + 1, cut);
-        i += 1;
     }
 }
 
@@ -52,13 +41,15 @@ fn write_vat(disc: &mut [u8], marks: &mut [u8], s: u32, table: &[u32], held: Rec
     let n = examine::entries_held(held);
     let next = examine::next_held(held);
     let last = examine::last_held(held);
-    let first = address::sector_of(s, next);
-    write_vat_data(disc, marks, first, table, n, last, cut);
+    let vat = Vat {
+        entries: &table[..n as usize],
+        previous: last,
+    };
+    write_vat_data(disc, marks, address::sector_of(s, next), &vat, cut);
     let count = vat_file_written::data_sectors(n);
-    let block = next.0 + count;
-    let k = LogicalAddress(block);
+    let k = LogicalAddress(next.0 + count);
     let mut icb = [0u8; SECTOR];
-    vat_icb_written::write_icb(&mut icb, k, table, n, last);
+    vat_icb_written::write_icb(&mut icb, k, &vat);
     let at = address::sector_of(s, k);
     disc_writes::write_sector(disc, marks, at, &icb, count + 1, cut);
 }
@@ -73,24 +64,20 @@ pub fn commit(
     table: &[u32],
     held: Record,
     cut: Cut,
-) -> Reply
+) -> Result<Reply, Refusal>
     ensures { Commits (lent disc.old marks.old maps.now s l)
         table.now held cut result (disc_of disc.new marks.new) }
 {
     let lent = examine::is_lent(table);
-    let seen = examine::judge_once(disc, marks, maps, s, l, table, lent, held);
-    let verdict = seen.verdict;
-    if let Verdict::Stop(why) = verdict {
-        return Reply::Refused(why);
-    }
-    let span = seen.volume.span;
+    let volume = examine::judge_once(disc, marks, maps, s, l, table, lent, held)?;
+    let span = volume.span;
     if !room::has_commit_room(span.length, held) {
-        return Reply::Refused(Refusal::NoRoom);
+        return Err(Refusal::NoRoom);
     }
     write_vat(disc, marks, span.start, table, held, cut);
     let n = examine::entries_held(held);
     if disc_writes::is_struck(cut, vat_file_written::data_sectors(n) + 1) {
-        return Reply::Cut;
+        return Ok(Reply::Cut);
     }
-    Reply::Done(room::committed(held))
+    Ok(Reply::Done(room::committed(held)))
 }

@@ -1,17 +1,17 @@
 -- Laws of the forecast: the lines of an item and the record after it, the items one by one, and how the call ends. Assumes nothing.
 use Prim.Native.Nat.{ℕ, ◌+◌, ◌≤◌, ◌<◌}
-use mathlib.Core.Bool.{Bool, true, false, not}
+use mathlib.Core.Bool.{Bool, true, false}
 use mathlib.Core.Path.{◌≡◌, refl, sym, ap, ◌∙◌}
 use mathlib.Core.List.{List, [], ◌∷◌}
 use native.Mathlib.Omega.{arith}
 use native.Mathlib.Numerals.{add-one}
-use borrow.Author.Tests.{leb-true, not-true, not-false}
+use borrow.Author.Tests.{leb-true}
 use lib.ListN.{length, get_or, drop, drop_of_length-le}
 use lib.Seq.{drop-cons}
 use Rattle.refusal.specs.declared.Refusal.{Refusal}
 use Rattle.refusal.specs.declared.Refusal.TheVariants.{NumberOutside, NoRoom}
-use Rattle.refusal.specs.declared.Verdict.{Verdict}
-use Rattle.refusal.specs.declared.Verdict.TheVariants.{Go, Stop}
+use Rattle.refusal.specs.Verdict.{Verdict}
+use Rattle.std.specs.Prelude.{Ok, Err, Result}
 use Rattle.refusal.specs.Tests.{first}
 use Rattle.refusal.proofs.Laws.{goes, stops, passed}
 use Rattle.model.specs.declared.Record.{Record}
@@ -39,26 +39,25 @@ module _ (e : Setting) (held : Record) (x : ℕ) where
 
   -- a commit; b is whether it has room
   module _ (c : is_commit x ≡ true) {b : Bool} (is : b ≡ room_to_commit e.span held) where
-    pub commit-full : not b ≡ true → Stop NoRoom ≡ first (item_tests e held x)
+    pub commit-full : b ≡ false → Err NoRoom ≡ first (item_tests e held x)
     unfolding commit_tests
-    commit-full h = stops _ (sym is ∙ not-true _ h) ∙ commit-tests c
+    commit-full h = stops _ (sym is ∙ h) ∙ commit-tests c
 
-    pub commit-fits : not b ≡ false → Go ≡ first (item_tests e held x)
+    pub commit-fits : b ≡ true → (Ok tt) ≡ first (item_tests e held x)
     unfolding commit_tests
-    commit-fits h = goes _ (sym is ∙ not-false _ h) refl ∙ commit-tests c
+    commit-fits h = goes _ (sym is ∙ h) refl ∙ commit-tests c
 
   -- a save; a is whether its number fits, and b whether it has room
   module _ (c : is_commit x ≡ false) {a : Bool} (is : a ≡ number_fits held x) where
-    pub save-outside : not a ≡ true → Stop NumberOutside ≡ first (item_tests e held x)
-    save-outside h = stops _ (sym is ∙ not-true _ h) ∙ save-tests c
+    pub save-outside : a ≡ false → Err NumberOutside ≡ first (item_tests e held x)
+    save-outside h = stops _ (sym is ∙ h) ∙ save-tests c
 
-    module _ (in-range : not a ≡ false) {b : Bool} (fits : b ≡ room_to_save e.span held x) where
-      pub save-full : not b ≡ true → Stop NoRoom ≡ first (item_tests e held x)
-      save-full h = goes _ (sym is ∙ not-false _ in-range) (stops _ (sym fits ∙ not-true _ h)) ∙ save-tests c
+    module _ (in-range : a ≡ true) {b : Bool} (fits : b ≡ room_to_save e.span held x) where
+      pub save-full : b ≡ false → Err NoRoom ≡ first (item_tests e held x)
+      save-full h = goes _ (sym is ∙ in-range) (stops _ (sym fits ∙ h)) ∙ save-tests c
 
-      pub save-fits : not b ≡ false → Go ≡ first (item_tests e held x)
-      save-fits h =
-          goes _ (sym is ∙ not-false _ in-range) (goes _ (sym fits ∙ not-false _ h) refl) ∙ save-tests c
+      pub save-fits : b ≡ true → (Ok tt) ≡ first (item_tests e held x)
+      save-fits h = goes _ (sym is ∙ in-range) (goes _ (sym fits ∙ h) refl) ∙ save-tests c
 
 -- the record after it
 pub commit-leaves : (held : Record) (x : ℕ) {r : Record} → is_commit x ≡ true → r ≡ committed_record held → r ≡ item_record held x
@@ -75,7 +74,7 @@ record Rises (e : Setting) (held after : Record) : Type 0 where
   rises : next_held held < next_held after
   within : next_held after ≤ e.span
 
-item-rises : (e : Setting) (held : Record) (x : ℕ) → entries_held held ≤ 4096 → first (item_tests e held x) ≡ Go → Rises e held (item_record held x)
+item-rises : (e : Setting) (held : Record) (x : ℕ) → entries_held held ≤ 4096 → first (item_tests e held x) ≡ Ok tt → Rises e held (item_record held x)
 unfolding item_record entries_held next_held commit_tests room_to_commit icb_block room_to_save
 item-rises e held x few go =
     by_bool (is_commit x)
@@ -103,7 +102,7 @@ module _ (l : ℕ) (held₀ : Record) (xs : List ℕ) (held : Record) (i : ℕ) 
   -- there is an item i, of which w is the verdict
   module _ (h : i < length xs) {w : Verdict} (says : (maps : List ℕ) (s : ℕ) → w ≡ first (item_tests (setting maps s l) held (get_or xs i 0))) where
     -- what the items after it give
-    abbrev after : List ℕ → ℕ → Forecast
+    abbrev after : List ℕ → ℕ → Result Forecast Refusal
     after maps s = forecast_from (setting maps s l) (i + 1) (item_record held (get_or xs i 0)) (drop (i + 1) xs)
 
     by-item : (maps : List ℕ) (s : ℕ) {v : Verdict} → w ≡ v → forecast_from (setting maps s l) 0 held₀ xs ≡ item_by v i (after maps s)
@@ -114,12 +113,12 @@ module _ (l : ℕ) (held₀ : Record) (xs : List ℕ) (held : Record) (i : ℕ) 
         ∙ ap (λ (v : Verdict). item_by v i (after maps s)) (sym (says maps s) ∙ q)
 
     -- it is refused
-    pub foreseen-stop : {why : Refusal} → w ≡ Stop why → (maps : List ℕ) (s : ℕ) → Forecast.Stops i why ≡ forecast_from (setting maps s l) 0 held₀ xs
+    pub foreseen-stop : {why : Refusal} → w ≡ Err why → (maps : List ℕ) (s : ℕ) → (Ok (Forecast.Stops i why)) ≡ forecast_from (setting maps s l) 0 held₀ xs
     unfolding item_by
     foreseen-stop q maps s = sym (by-item maps s q)
 
     -- it is not
-    pub foreseen-next : w ≡ Go → {r : Record} → r ≡ item_record held (get_or xs i 0) → Foreseen l held₀ xs r (i + 1)
+    pub foreseen-next : w ≡ Ok tt → {r : Record} → r ≡ item_record held (get_or xs i 0) → Foreseen l held₀ xs r (i + 1)
     unfolding item_by
     foreseen-next q {r} left =
         let up = item-rises (setting [] 0 l) held (get_or xs i 0) f.few (sym (says [] 0) ∙ q) in
@@ -131,7 +130,7 @@ module _ (l : ℕ) (held₀ : Record) (xs : List ℕ) (held : Record) (i : ℕ) 
         }
 
   -- there is none left
-  pub foreseen-end : length xs ≤ i → {next n : ℕ} → next ≡ next_held held → n ≡ entries_held held → (maps : List ℕ) (s : ℕ) → Forecast.Ends next n ≡ forecast_from (setting maps s l) 0 held₀ xs
+  pub foreseen-end : length xs ≤ i → {next n : ℕ} → next ≡ next_held held → n ≡ entries_held held → (maps : List ℕ) (s : ℕ) → (Ok (Forecast.Ends next n)) ≡ forecast_from (setting maps s l) 0 held₀ xs
   unfolding forecast_from
   foreseen-end h p q maps s =
       rw (p, q) (sym (f.rest maps s ∙ ap (forecast_from (setting maps s l) i held) (drop_of_length-le xs h)))
@@ -145,11 +144,11 @@ module _ (e : Setting) (d : Disc) (t : List ℕ) (held : Record) (xs : List ℕ)
       ap (λ (v : Verdict). forecast_by v (forecast_from e 0 held xs)) (sym (says ∙ ap (λ (b : Bool). once_verdict e d t b held []) is) ∙ q)
 
   -- it is turned down
-  pub forecast-stopped : {why : Refusal} → w ≡ Stop why → Forecast.Refused why ≡ forecast e d t held xs
+  pub forecast-stopped : {why : Refusal} → w ≡ Err why → Err why ≡ forecast e d t held xs
   unfolding forecast_by
   forecast-stopped h = sym (by_call h)
 
   -- it is not; l is what the volume says of L
-  pub forecast-told : {l : ℕ} {r : Forecast} → w ≡ Go → l ≡ e.span → r ≡ forecast_from (setting e.maps e.start l) 0 held xs → r ≡ forecast e d t held xs
+  pub forecast-told : {l : ℕ} {r : Result Forecast Refusal} → w ≡ Ok tt → l ≡ e.span → r ≡ forecast_from (setting e.maps e.start l) 0 held xs → r ≡ forecast e d t held xs
   unfolding forecast_by
   forecast-told h all q = q ∙ ap (λ (n : ℕ). forecast_from (setting e.maps e.start n) 0 held xs) all ∙ sym (by_call h)

@@ -3,7 +3,7 @@
 // the list is. It writes nothing, and has no requires.
 #![tactic(auto)]
 
-ghost use Rattle.std.specs.Prelude.{◌≡◌, List, ℕ, ◌≤◌};
+ghost use Rattle.std.specs.Prelude.{◌≡◌, List, ℕ, ◌≤◌, Ok};
 ghost use Rattle.refusal.specs.Tests.{first};
 ghost use Rattle.model.specs.Disc.{disc as disc_of};
 ghost use Rattle.model.specs.Examine.{setting};
@@ -12,7 +12,7 @@ ghost use Rattle.model.specs.Forecast.{is_commit, item_tests, item_record, forec
 
 use address::VirtualAddress;
 use model::{Forecast, Record};
-use refusal::{Refusal, Verdict};
+use refusal::Refusal;
 
 // An item at or above it stands for a commit; any other is the number of a block to be saved.
 pub const COMMIT: u32 = 0x80000000;
@@ -25,24 +25,24 @@ fn is_commit(x: u32) -> bool
 }
 
 // Line 16 of a commit; lines 12 and 16 of a save. Inside the layers: line 11 has been tested.
-fn judge_item(l: u32, held: Record, x: u32) -> Verdict
+fn judge_item(l: u32, held: Record, x: u32) -> Result<(), Refusal>
     requires { entries_held held ≤ 4096 }
     ensures { (maps : List ℕ) (s : ℕ) → result ≡ first (item_tests (setting maps s l) held x) }
 {
     if is_commit(x) {
         if !room::has_commit_room(l, held) {
-            return Verdict::Stop(Refusal::NoRoom);
+            return Err(Refusal::NoRoom);
         }
-        return Verdict::Go;
+        return Ok(());
     }
     let v = VirtualAddress(x);
     if !room::is_number(held, v) {
-        return Verdict::Stop(Refusal::NumberOutside);
+        return Err(Refusal::NumberOutside);
     }
     if !room::has_room(l, held, v) {
-        return Verdict::Stop(Refusal::NoRoom);
+        return Err(Refusal::NoRoom);
     }
-    Verdict::Go
+    Ok(())
 }
 
 // The record after an item. Inside the layers: lines 2 and 11 have been tested.
@@ -60,20 +60,17 @@ fn after_item(held: Record, x: u32) -> Record
 // index fits. Inside the layers: lines 1 to 7 and 11 have been tested.
 fn forecast_items(l: u32, handed: Record, items: &[u32]) -> Forecast
     requires { (entries_held handed ≤ 4096) × (next_held handed ≤ l) × (l ≤ 1048576) }
-    ensures { (maps : List ℕ) (s : ℕ) → result ≡ forecast_from (setting maps s l) 0 handed items.now }
+    ensures { (maps : List ℕ) (s : ℕ) → Ok result ≡ forecast_from (setting maps s l) 0 handed items.now }
 {
     let mut held = handed;
-    let mut i: usize = 0;
-    while i < items.len() {
-        let x = items[i];
-        if let Verdict::Stop(why) = judge_item(l, held, x) {
+    for (i, x) in items.iter().enumerate() {
+        if let Err(why) = judge_item(l, held, *x) {
             return Forecast::Stops {
                 index: i as u32,
                 why,
             };
         }
-        held = after_item(held, x);
-        i += 1;
+        held = after_item(held, *x);
     }
     Forecast::Ends {
         next: examine::next_held(held).0,
@@ -91,15 +88,10 @@ pub fn forecast(
     table: &[u32],
     held: Record,
     items: &[u32],
-) -> Forecast
+) -> Result<Forecast, Refusal>
     ensures { result ≡ forecastOf (setting maps.now s l) (disc_of disc.now marks.now) table.now held items.now }
 {
     let lent = examine::is_lent(table);
-    let seen = examine::judge_once(disc, marks, maps, s, l, table, lent, held);
-    let verdict = seen.verdict;
-    if let Verdict::Stop(why) = verdict {
-        return Forecast::Refused(why);
-    }
-    let span = seen.volume.span;
-    forecast_items(span.length, held, items)
+    let volume = examine::judge_once(disc, marks, maps, s, l, table, lent, held)?;
+    Ok(forecast_items(volume.span.length, held, items))
 }

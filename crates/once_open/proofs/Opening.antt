@@ -1,7 +1,7 @@
 -- Laws of opening on a write-once disc, one for each way on or out. Assumes nothing.
 use Prim.Native.Nat.{ℕ, ◌+◌, ◌-◌, ◌*◌, ◌≤◌, ◌<◌}
 use mathlib.Core.Bool.{Bool, true}
-use mathlib.Core.Path.{◌≡◌, sym, ap, ap₂, ◌∙◌}
+use mathlib.Core.Path.{◌≡◌, sym, ap, ap₂, subst, ◌∙◌}
 use mathlib.Core.List.{List, [], ◌∷◌}
 use native.Mathlib.Omega.{arith}
 use borrow.Author.Tests.{leb-true, le-leb, lt-leb}
@@ -9,8 +9,8 @@ use lib.Dec.{leb}
 use lib.ListN.{length}
 use Rattle.refusal.specs.declared.Refusal.{Refusal}
 use Rattle.refusal.specs.declared.Refusal.TheVariants.{OtherKind, NoTable, TooManyEntries}
-use Rattle.refusal.specs.declared.Verdict.{Verdict}
-use Rattle.refusal.specs.declared.Verdict.TheVariants.{Go, Stop}
+use Rattle.refusal.specs.Verdict.{Verdict}
+use Rattle.std.specs.Prelude.{Ok, Err, Result, Option, Some, None}
 use Rattle.refusal.specs.Tests.{test, first, and_then}
 use Rattle.address.specs.declared.LogicalAddress.{LogicalAddress}
 use Rattle.maps.specs.declared.Volume.{Volume}
@@ -25,10 +25,8 @@ use Rattle.model.specs.Both.{opened_by, filled_by}
 use Rattle.model.proofs.Scan.{found-newest}
 use Rattle.model.proofs.Sectors.{shapely-made, shapely-most, inside-fits}
 use Rattle.model.proofs.Verdicts.{Examined as Told, stop-test, next-test}
-use Rattle.examine.specs.declared.Examined.{Examined}
 use Rattle.examine.specs.Ground.{examined_of}
-use Rattle.examine.proofs.Laws.{seen-verdict, seen-tells, seen-volume, seen-once, seen-rewritable}
-use Rattle.vat_scan.specs.declared.Scanned.{Scanned}
+use Rattle.examine.proofs.Laws.{seen-stops, seen-goes, seen-tells, seen-volume, seen-once, seen-rewritable}
 use Rattle.vat_scan.specs.Scan.{scan_of}
 use Rattle.vat_scan.proofs.Laws.{scan-none, scan-at, looked-between}
 use Rattle.once_open.specs.Calls.{open_once_verdict, opening_once, opened_once, PassedOver}
@@ -37,46 +35,50 @@ use Rattle.once_open.specs.Calls.{open_once_verdict, opening_once, opened_once, 
 
 module _ (e : Setting) (d : Disc) (t : List ℕ) where
   -- what it promises of an answer r that leaves the table u
-  abbrev Answered : Opened → List ℕ → Type 0
+  abbrev Answered : Result Opened Refusal → List ℕ → Type 0
   Answered r u = (r ≡ opening_once e d t) × ((u ≡ opened_once e d t) × PassedOver e d r)
 
   -- a refusal leaves the lent table as it came
-  open-refused : {why : Refusal} → open_once_verdict e d t ≡ Stop why → Answered (Opened.Refused why) t
+  open-refused : {why : Refusal} → open_once_verdict e d t ≡ Err why → Answered (Err why) t
   unfolding opening_once opened_once opened_by filled_by
   open-refused {why} h =
-      let none : PassedOver e d (Opened.Refused why) = record { counted = λ handed passed q. let z : ◌≡◌ {A = ℕ} 0 1 = cc in absurd (omega arith) } in
+      let none : PassedOver e d (Err why) = record { counted = tt } in
       (sym (ap (λ (v : Verdict). opened_by v (found_record e d) (passed_over e d)) h), (sym (ap (λ (v : Verdict). filled_by v (entries_of (newest_file e d)) t) h), none))
 
+  -- nor does one that is handed on
+  pub open-handed : {r : Result Opened Refusal} {why : Refusal} → r ≡ Err why → Answered (Err why) t → Answered r t
+  open-handed x a = subst (λ (y : Result Opened Refusal). Answered y t) (sym x) a
+
   -- lent says whether the table is long enough, and r is the answer of the examination
-  module _ {lent : Bool} (q : lent ≡ lent_table t) {r : Examined} (f : r ≡ examined_of e d lent) where
+  module _ {lent : Bool} (q : lent ≡ lent_table t) {r : Result Volume Refusal} (f : r ≡ examined_of e d lent) where
     seen : r ≡ examined_of e d (lent_table t)
     unfolding lent_table
     seen = f ∙ ap (examined_of e d) q
 
     -- lines 1 to 6
-    pub open-examined : {why : Refusal} → r.verdict ≡ Stop why → Answered (Opened.Refused why) t
+    pub open-examined : {why : Refusal} → r ≡ Err why → Answered (Err why) t
     unfolding open_once_verdict
     open-examined h =
         open-refused
-        (ap (λ (v : Verdict). and_then v (first (test (write_once e) OtherKind ∷ open_once_tests e d))) (seen-verdict e d (lent_table t) seen ∙ h))
+        (ap (λ (v : Verdict). and_then v (first (test (write_once e) OtherKind ∷ open_once_tests e d))) (seen-stops e d (lent_table t) seen h))
 
-    module _ (h : r.verdict ≡ Go) where
+    module _ {volume : Volume} (h : r ≡ Ok volume) where
       told : Told e d (lent_table t)
       told = seen-tells e d (lent_table t) seen h
 
       after : open_once_verdict e d t ≡ first (test (write_once e) OtherKind ∷ open_once_tests e d)
       unfolding open_once_verdict
-      after = ap (λ (v : Verdict). and_then v (first (test (write_once e) OtherKind ∷ open_once_tests e d))) (seen-verdict e d (lent_table t) seen ∙ h)
+      after = ap (λ (v : Verdict). and_then v (first (test (write_once e) OtherKind ∷ open_once_tests e d))) (seen-goes e d (lent_table t) seen h)
 
       -- line 7
-      pub open-other : {p n size : ℕ} → r.volume.kind ≡ Rewritable p n size → Answered (Opened.Refused OtherKind) t
+      pub open-other : {p n size : ℕ} → volume.kind ≡ Rewritable p n size → Answered (Err OtherKind) t
       open-other is = open-refused (after ∙ stop-test OtherKind (open_once_tests e d) (seen-rewritable e d (lent_table t) seen h is))
 
       -- S and L are the volume's
-      pub open-start : r.volume.span.start ≡ e.start
+      pub open-start : volume.span.start ≡ e.start
       open-start = ap (λ (v : Volume). v.span.start) (seen-volume e d (lent_table t) seen h)
 
-      pub open-length : r.volume.span.length ≡ e.span
+      pub open-length : volume.span.length ≡ e.span
       open-length = ap (λ (v : Volume). v.span.length) (seen-volume e d (lent_table t) seen h)
 
       -- the partition lies on the disc
@@ -95,7 +97,7 @@ module _ (e : Setting) (d : Disc) (t : List ℕ) where
       open-long = leb-true 4096 (length t) told.lengths
 
       -- next is NWA, and found where the scan from there ends
-      module _ {p : ℕ} (is : r.volume.kind ≡ WriteOnce p) {next : ℕ} (top : next ≡ nwa d e.start e.span) {found : Scanned} (ends : found ≡ scan_of (scan d e.start next)) where
+      module _ {p : ℕ} (is : volume.kind ≡ WriteOnce p) {next : ℕ} (top : next ≡ nwa d e.start e.span) {found : Option LogicalAddress} (ends : found ≡ scan_of (scan d e.start next)) where
         own : open_once_verdict e d t ≡ first (open_once_tests e d)
         own = after ∙ next-test OtherKind (open_once_tests e d) (seen-once e d (lent_table t) seen h is)
 
@@ -104,11 +106,11 @@ module _ (e : Setting) (d : Disc) (t : List ℕ) where
         newest-is = sym (ends ∙ ap (λ (n : ℕ). scan_of (scan d e.start n)) top)
 
         -- line 8
-        pub open_none : found ≡ Scanned.Nowhere → Answered (Opened.Refused NoTable) t
+        pub open_none : found ≡ None → Answered (Err NoTable) t
         unfolding open_once_tests is_found
         open_none z = open-refused (own ∙ stop-test NoTable (test (leb (count_of (newest_file e d)) 4096) TooManyEntries ∷ []) (ap is_found (scan-none (newest e d) (newest-is ∙ z))))
 
-        module _ {a : LogicalAddress} (at : found ≡ Scanned.At a) where
+        module _ {a : LogicalAddress} (at : found ≡ Some a) where
           place : newest e d ≡ icb_at a.0
           place = scan-at (newest e d) (newest-is ∙ at)
 
@@ -136,7 +138,7 @@ module _ (e : Setting) (d : Disc) (t : List ℕ) where
             line-nine = own ∙ next-test NoTable (test (leb (count_of (newest_file e d)) 4096) TooManyEntries ∷ []) (ap is_found place)
 
             -- line 9
-            pub open-many : 4096 < n → Answered (Opened.Refused TooManyEntries) t
+            pub open-many : 4096 < n → Answered (Err TooManyEntries) t
             open-many x = open-refused (line-nine ∙ stop-test TooManyEntries [] (ap (λ (m : ℕ). leb m 4096) count ∙ lt-leb n 4096 x))
 
             handed : Record.WriteOnce n next a.0 ≡ found_record e d
@@ -152,21 +154,18 @@ module _ (e : Setting) (d : Disc) (t : List ℕ) where
                 ap (λ (m : ℕ). m - 1 - a.0) top ∙ ap (λ (x : Found). nwa d e.start e.span - 1 - found_at x) (sym place)
 
             -- as many as the scan looked at
-            counted : PassedOver e d (Opened.Open (Record.WriteOnce n next a.0) (next - 1 - a.0))
+            counted : PassedOver e d (Ok (record { handed = Record.WriteOnce n next a.0; passed = next - 1 - a.0 }))
             unfolding newest next_on
             counted = record {
-              counted =
-                  λ handed passed q.
-                  let r : next - 1 - a.0 ≡ passed = cc in
-                  sym r ∙ ap (λ (m : ℕ). m - 1 - a.0) top ∙ sym (looked-between d e.start (nwa d e.start e.span) a.0 place);
+              counted = ap (λ (m : ℕ). m - 1 - a.0) top ∙ sym (looked-between d e.start (nwa d e.start e.span) a.0 place);
             }
 
             -- none of the lines, and the table is filled
-            pub open-opened : n ≤ 4096 → {u : List ℕ} → u ≡ filled_from (entries_of (vat_file d e.start a.0)) t → Answered (Opened.Open (Record.WriteOnce n next a.0) (next - 1 - a.0)) u
+            pub open-opened : n ≤ 4096 → {u : List ℕ} → u ≡ filled_from (entries_of (vat_file d e.start a.0)) t → Answered (Ok (record { handed = Record.WriteOnce n next a.0; passed = next - 1 - a.0 })) u
             unfolding opening_once opened_once opened_by filled_by
             open-opened x g =
                 let all = line-nine ∙ next-test TooManyEntries [] (ap (λ (m : ℕ). leb m 4096) count ∙ le-leb n 4096 x) in (
-                  ap₂ Opened.Open handed over ∙ sym (ap (λ (v : Verdict). opened_by v (found_record e d) (passed_over e d)) all),
+                  ap₂ (λ (h : Record) (n : ℕ). Ok (record { handed = h; passed = n })) handed over ∙ sym (ap (λ (v : Verdict). opened_by v (found_record e d) (passed_over e d)) all),
                   (
                     g
                         ∙ ap (λ (l : List ℕ). filled_from (entries_of l) t) (sym file)

@@ -10,18 +10,17 @@ use lib.ListN.{length, get_or, take}
 use lib.Seq.{length-take-le, get_or-take}
 use Rattle.refusal.specs.declared.Refusal.{Refusal}
 use Rattle.refusal.specs.declared.Refusal.TheVariants.{OtherKind, StaleRecord}
-use Rattle.refusal.specs.declared.Verdict.{Verdict}
-use Rattle.refusal.specs.declared.Verdict.TheVariants.{Go, Stop}
+use Rattle.refusal.specs.Verdict.{Verdict}
+use Rattle.std.specs.Prelude.{Ok, Err}
 use Rattle.refusal.specs.Tests.{test, first}
 use Rattle.refusal.proofs.Laws.{All, passed, stops-all, goes-all}
 use Rattle.model.specs.declared.Record.{Record}
-use Rattle.model.specs.declared.Given.{Given}
 use Rattle.model.specs.Disc.{Disc, sector, mark, mark_tests, nwa}
 use Rattle.model.specs.Vat.{none, below_or_none, all_below}
 use Rattle.model.specs.Examine.{Setting, write_once, examined, lent_table}
 use Rattle.model.specs.Once.{next_on, entries_held, held_fits, once_verdict, entry_tests}
 use Rattle.model.specs.Rewrite.{place_of}
-use Rattle.model.specs.Both.{read_once_tests, read_lent, block_sector, entry_sector, given_by, block_by}
+use Rattle.model.specs.Both.{read_once_tests, read_lent, block_sector, entry_sector, block_by}
 use Rattle.model.proofs.Basics.{and-true, other}
 use Rattle.model.proofs.Sectors.{shapely-made, shapely-most, inside-fits, nwa-most}
 use Rattle.model.proofs.Verdicts.{Examined, examined-tells, then-go, once-stops, once-goes}
@@ -35,7 +34,7 @@ pub record Held (e : Setting) (d : Disc) (t : List ℕ) (lent : Bool) (held : Re
   pub once : write_once e ≡ true
   pub fits : held_fits e d t held ≡ true
 
-pub once-tells : (e : Setting) (d : Disc) (t : List ℕ) (lent : Bool) (held : Record) → once_verdict e d t lent held [] ≡ Go → Held e d t lent held
+pub once-tells : (e : Setting) (d : Disc) (t : List ℕ) (lent : Bool) (held : Record) → once_verdict e d t lent held [] ≡ Ok tt → Held e d t lent held
 unfolding once_verdict
 once-tells e d t lent held h =
     let p = then-go (examined e d lent) _ h in
@@ -75,9 +74,9 @@ module _ (e : Setting) (d : Disc) (t : List ℕ) (held : Record) (v : ℕ) (out 
   own-tests = refl
 
   -- a refusal leaves the lent bytes as they came
-  read-refused : {why : Refusal} → read_once_verdict e d t held v out ≡ Stop why → (Given.Refused why ≡ reading_once e d t held v out) × (out ≡ read_once_bytes e d t held v out)
-  unfolding reading_once read_once_bytes given_by block_by
-  read-refused h = (sym (ap given_by h), sym (ap (λ (w : Verdict). block_by w (sector d (entry_sector e t v)) out) h))
+  read-refused : {why : Refusal} → read_once_verdict e d t held v out ≡ Err why → (Err why ≡ reading_once e d t held v out) × (out ≡ read_once_bytes e d t held v out)
+  unfolding reading_once read_once_bytes block_by
+  read-refused h = (sym h, sym (ap (λ (w : Verdict). block_by w (sector d (entry_sector e t v)) out) h))
 
   -- k says whether the lent slices have their lengths, and w is the verdict of the common tests
   module _ {k : Bool} (q : k ≡ (lent_table t && eqb (length out) 2048)) {w : Verdict} (f : w ≡ once_verdict e d t k held []) where
@@ -86,10 +85,10 @@ module _ (e : Setting) (d : Disc) (t : List ℕ) (held : Record) (v : ℕ) (out 
     common = sym (f ∙ ap (λ (b : Bool). once_verdict e d t b held []) q)
 
     -- lines 1 to 7 and 11
-    pub read-stopped : {why : Refusal} → w ≡ Stop why → (Given.Refused why ≡ reading_once e d t held v out) × (out ≡ read_once_bytes e d t held v out)
+    pub read-stopped : {why : Refusal} → w ≡ Err why → (Err why ≡ reading_once e d t held v out) × (out ≡ read_once_bytes e d t held v out)
     read-stopped h = read-refused (own-tests ∙ once-stops e d t (read_lent t out) held _ (common ∙ h))
 
-    module _ (h : w ≡ Go) where
+    module _ (h : w ≡ Ok tt) where
       told : Held e d t (read_lent t out) held
       told = once-tells e d t (read_lent t out) held (common ∙ h)
 
@@ -119,11 +118,11 @@ module _ (e : Setting) (d : Disc) (t : List ℕ) (held : Record) (v : ℕ) (out 
       -- u is the verdict of lines 12 and 13
       module _ {u : Verdict} (g : u ≡ first (entry_tests t held v)) where
         -- lines 12 and 13
-        pub read-own : {why : Refusal} → u ≡ Stop why → (Given.Refused why ≡ reading_once e d t held v out) × (out ≡ read_once_bytes e d t held v out)
+        pub read-own : {why : Refusal} → u ≡ Err why → (Err why ≡ reading_once e d t held v out) × (out ≡ read_once_bytes e d t held v out)
         read-own x =
             read-refused (own-tests ∙ once-goes e d t (read_lent t out) held _ (common ∙ h) ∙ sym (stops-all (entry_tests t held v) _ (sym g ∙ x)))
 
-        module _ (x : u ≡ Go) where
+        module _ (x : u ≡ Ok tt) where
           entries : All (entry_tests t held v)
           entries = passed (entry_tests t held v) (sym g ∙ x)
 
@@ -157,12 +156,12 @@ module _ (e : Setting) (d : Disc) (t : List ℕ) (held : Record) (v : ℕ) (out 
             marked = last-test ∙ ap (λ (p : ℕ). first (mark_tests (mark d p))) place ∙ sym m
 
             -- lines 25 and 14
-            pub read-unrecorded : {why : Refusal} → y ≡ Stop why → (Given.Refused why ≡ reading_once e d t held v out) × (out ≡ read_once_bytes e d t held v out)
+            pub read-unrecorded : {why : Refusal} → y ≡ Err why → (Err why ≡ reading_once e d t held v out) × (out ≡ read_once_bytes e d t held v out)
             read-unrecorded n = read-refused (marked ∙ n)
 
             -- none of the lines, and the block is given
-            pub read-given : y ≡ Go → {b : List ℕ} → b ≡ sector d (e.start + get_or t v 0) → (Given.Block ≡ reading_once e d t held v out) × (b ≡ read_once_bytes e d t held v out)
-            unfolding reading_once read_once_bytes given_by block_by entry_sector
+            pub read-given : y ≡ Ok tt → {b : List ℕ} → b ≡ sector d (e.start + get_or t v 0) → ((Ok tt) ≡ reading_once e d t held v out) × (b ≡ read_once_bytes e d t held v out)
+            unfolding reading_once read_once_bytes block_by entry_sector
             read-given n is =
                 let all = marked ∙ n in
-                (sym (ap given_by all), is ∙ sym (ap (λ (w : Verdict). block_by w (sector d (e.start + get_or t v 0)) out) all))
+                (sym all, is ∙ sym (ap (λ (w : Verdict). block_by w (sector d (e.start + get_or t v 0)) out) all))

@@ -4,12 +4,12 @@ use mathlib.Core.Bool.{Bool, true, false, not, ◌&&◌}
 use mathlib.Core.Path.{◌≡◌, refl, sym, ap, ◌∙◌}
 use mathlib.Core.List.{List, [], ◌∷◌}
 use native.Mathlib.Omega.{arith}
-use borrow.Author.Tests.{leb-true, eqb-true, not-true, not-false}
+use borrow.Author.Tests.{leb-true, eqb-true}
 use lib.ListN.{length}
 use lib.Dec.{eqb, leb}
 use Rattle.refusal.specs.declared.Refusal.TheVariants.{NumberOutside, PassesAsIcb, NoRoom}
-use Rattle.refusal.specs.declared.Verdict.{Verdict}
-use Rattle.refusal.specs.declared.Verdict.TheVariants.{Go, Stop}
+use Rattle.refusal.specs.Verdict.{Verdict}
+use Rattle.std.specs.Prelude.{Ok, Err}
 use Rattle.refusal.specs.Tests.{first}
 use Rattle.refusal.proofs.Laws.{goes, stops, passed}
 use Rattle.model.specs.declared.Cut.{Cut}
@@ -43,37 +43,37 @@ save-lent t block h =
 
 module _ (e : Setting) (d : Disc) (held : Record) (v : ℕ) (block : List ℕ) {x : Bool} (is : x ≡ number_fits held v) where
   -- line 12
-  pub save-outside : not x ≡ true → Stop NumberOutside ≡ first (save_tests e d held v block)
+  pub save-outside : x ≡ false → Err NumberOutside ≡ first (save_tests e d held v block)
   unfolding save_tests
-  save-outside h = stops _ (sym is ∙ not-true _ h)
+  save-outside h = stops _ (sym is ∙ h)
 
-  module _ (h : not x ≡ false) {k : ℕ} (at : k ≡ next_held held) {b : Bool} (told : b ≡ passes d e.start k block) where
+  module _ (h : x ≡ true) {k : ℕ} (at : k ≡ next_held held) {b : Bool} (told : b ≡ passes d e.start k block) where
     -- line 12 lets it go on
     in-range : number_fits held v ≡ true
-    in-range = sym is ∙ not-false _ h
+    in-range = sym is ∙ h
 
     -- whether it passes at NWA
     at_next : passes d e.start (next_held held) block ≡ b
     at_next = sym (told ∙ ap (λ (m : ℕ). passes d e.start m block) at)
 
     -- it passes as an ICB
-    pub save-passes : b ≡ true → Stop PassesAsIcb ≡ first (save_tests e d held v block)
+    pub save-passes : b ≡ true → Err PassesAsIcb ≡ first (save_tests e d held v block)
     unfolding save_tests
     save-passes g = goes _ in-range (stops _ (ap not (at_next ∙ g)))
 
     module _ (none-such : b ≡ false) {y : Bool} (fits : y ≡ room_to_save e.span held v) where
       -- there is no room
-      pub save-full : not y ≡ true → Stop NoRoom ≡ first (save_tests e d held v block)
+      pub save-full : y ≡ false → Err NoRoom ≡ first (save_tests e d held v block)
       unfolding save_tests
-      save-full g = goes _ in-range (goes _ (ap not (at_next ∙ none-such)) (stops _ (sym fits ∙ not-true _ g)))
+      save-full g = goes _ in-range (goes _ (ap not (at_next ∙ none-such)) (stops _ (sym fits ∙ g)))
 
       -- none of the lines
-      pub save-fits : not y ≡ false → Go ≡ first (save_tests e d held v block)
+      pub save-fits : y ≡ true → (Ok tt) ≡ first (save_tests e d held v block)
       unfolding save_tests
-      save-fits g = goes _ in-range (goes _ (ap not (at_next ∙ none-such)) (goes _ (sym fits ∙ not-false _ g) refl))
+      save-fits g = goes _ in-range (goes _ (ap not (at_next ∙ none-such)) (goes _ (sym fits ∙ g) refl))
 
 -- what they tell: v is below 4,096, and NWA below L
-pub save-tells : (e : Setting) (d : Disc) (held : Record) (v : ℕ) (block : List ℕ) {u : Verdict} → u ≡ first (save_tests e d held v block) → u ≡ Go → (v < 4096) × (next_held held < e.span)
+pub save-tells : (e : Setting) (d : Disc) (held : Record) (v : ℕ) (block : List ℕ) {u : Verdict} → u ≡ first (save_tests e d held v block) → u ≡ Ok tt → (v < 4096) × (next_held held < e.span)
 unfolding save_tests room_to_save
 save-tells e d held v block f g =
     let a = passed (save_tests e d held v block) (sym f ∙ g) in
@@ -101,7 +101,7 @@ pub record Saves (e : Setting) (d : Disc) (t : List ℕ) (held : Record) (v : �
   pub small : next_held held < 1048576
 
 -- from the common tests and its own
-pub saves : (e : Setting) (d : Disc) (t : List ℕ) (held : Record) (v : ℕ) (block : List ℕ) {u : Verdict} → Common e d (save_lent t block) held → u ≡ first (save_tests e d held v block) → u ≡ Go → Saves e d t held v block
+pub saves : (e : Setting) (d : Disc) (t : List ℕ) (held : Record) (v : ℕ) (block : List ℕ) {u : Verdict} → Common e d (save_lent t block) held → u ≡ first (save_tests e d held v block) → u ≡ Ok tt → Saves e d t held v block
 saves e d t held v block h f g =
     let k = save-lent t block h.lengths in
     let m = save-tells e d held v block f g in

@@ -13,7 +13,7 @@ ghost use Rattle.model.specs.Lent.{lent, Saves};
 
 use address::{Span, VirtualAddress};
 use model::{Cut, Record, Reply, SECTOR};
-use refusal::{Refusal, Verdict};
+use refusal::Refusal;
 
 // Lines 12, 15 and 16. Inside the layers: lines 1 to 11 have been tested.
 fn judge_save(
@@ -23,23 +23,23 @@ fn judge_save(
     held: Record,
     v: VirtualAddress,
     block: &[u8],
-) -> Verdict
+) -> Result<(), Refusal>
     requires lent { Lent disc.now marks.now span.start (next_held held) }
     requires block_len { length block.now ≡ 2048 }
     requires held_bound { entries_held held ≤ 4096 }
     ensures { (maps : List ℕ) → result ≡ first (save_tests (setting maps span.start span.length) (disc_of disc.now marks.now) held v.0 block.now) }
 {
     if !room::is_number(held, v) {
-        return Verdict::Stop(Refusal::NumberOutside);
+        return Err(Refusal::NumberOutside);
     }
     let next = examine::next_held(held);
     if vat_read::passes(disc, marks, span.start, next, block) {
-        return Verdict::Stop(Refusal::PassesAsIcb);
+        return Err(Refusal::PassesAsIcb);
     }
     if !room::has_room(span.length, held, v) {
-        return Verdict::Stop(Refusal::NoRoom);
+        return Err(Refusal::NoRoom);
     }
-    Verdict::Go
+    Ok(())
 }
 
 // Saves a block as virtual block v, at NWA.
@@ -54,28 +54,22 @@ pub fn save_virtual(
     v: u32,
     block: &[u8],
     cut: Cut,
-) -> Reply
+) -> Result<Reply, Refusal>
     ensures { Saves (lent disc.old marks.old maps.now s l)
         table.old held v block.now cut
         result (disc_of disc.new marks.new) table.new }
 {
     let lent = examine::are_lent(table, block, SECTOR);
-    let seen = examine::judge_once(disc, marks, maps, s, l, table, lent, held);
-    let verdict = seen.verdict;
-    if let Verdict::Stop(why) = verdict {
-        return Reply::Refused(why);
-    }
-    let span = seen.volume.span;
+    let volume = examine::judge_once(disc, marks, maps, s, l, table, lent, held)?;
+    let span = volume.span;
     let v = VirtualAddress(v);
-    if let Verdict::Stop(why) = judge_save(disc, marks, span, held, v, block) {
-        return Reply::Refused(why);
-    }
+    judge_save(disc, marks, span, held, v, block)?;
     let next = examine::next_held(held);
     let at = address::sector_of(span.start, next);
     disc_writes::write_sector(disc, marks, at, block, 1, cut);
     if disc_writes::is_struck(cut, 1) {
-        return Reply::Cut;
+        return Ok(Reply::Cut);
     }
     table[v.0 as usize] = next.0;
-    Reply::Done(room::saved(held, v))
+    Ok(Reply::Done(room::saved(held, v)))
 }

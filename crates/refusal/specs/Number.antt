@@ -1,8 +1,6 @@
--- The number of each refusal, its line in document 01, "Why a call is turned down", or in document 02; and of a verdict.
-use Rattle.std.specs.Prelude.{ℕ}
+-- The number of each refusal, its line in document 01, "Why a call is turned down", or in document 02; and of an answer.
+use Rattle.std.specs.Prelude.{ℕ, Result, Ok, Err}
 use Rattle.refusal.specs.declared.Refusal.{Refusal}
-use Rattle.refusal.specs.declared.Verdict.{Verdict}
-use Rattle.refusal.specs.declared.Verdict.TheVariants.{Go, Stop}
 use Rattle.refusal.specs.declared.Refusal.TheVariants.{DiscShape, SpanOutside, LentLength, BitmapMalformed, MapCut, NeitherKind, Misaligned, OtherKind, NoTable, TooManyEntries, CopiesDiffer, StaleRecord, NumberOutside, BelongsToSpare, WrongRun, NoRun, UnusedEntry, BlankSector, UnreadableSector, PassesAsIcb, NoRoom, OneTable, NoSpare, LastSequence, NotBlank}
 
 -- the line by which a call is turned down
@@ -33,7 +31,7 @@ number_of NoSpare = 19
 number_of LastSequence = 20
 number_of NotBlank = 21
 
--- the number of a verdict: 0 where nothing stands in the way of the call, else the line of the refusal
-abbrev pub verdict_number : Verdict → ℕ
-verdict_number Go = 0
-verdict_number (Stop why) = number_of why
+-- the number of an answer: 0 where nothing stands in the way of the call, else the line of the refusal
+abbrev pub answer_number : {A : Type 0} → Result A Refusal → ℕ
+answer_number (Ok x) = 0
+answer_number (Err why) = number_of why

@@ -7,7 +7,7 @@ ghost use Rattle.refusal.specs.Number.{number_of};
 
 // A variant for each line, in checking order. That is not the order of the numbers: those of document 02 stand where it
 // places them, 31 after 3, 30, 32 and 33 after 12, and 25 directly before 14. Line 18 never occurs (02, slip 1), and no variant has its number.
-#[derive(Clone, Copy)]
+#[derive(Clone, Copy, PartialEq, Eq)]
 pub enum Refusal {
     // Disc bytes are not 2,048 times the marks, sectors exceed the limit or are none, or a mark exceeds 2.
     DiscShape,
@@ -61,42 +61,37 @@ pub enum Refusal {
     NotBlank,
 }
 
-// What a list of tests comes to: the call goes on, or stops for a reason.
-#[derive(Clone, Copy)]
-pub enum Verdict {
-    Go,
-    Stop(Refusal),
-}
-
 // The number of a refusal's line.
-pub fn number(r: Refusal) -> u32
-    ensures { result ≡ number_of r }
-{
-    match r {
-        Refusal::DiscShape => 1,
-        Refusal::SpanOutside => 2,
-        Refusal::LentLength => 3,
-        Refusal::BitmapMalformed => 31,
-        Refusal::MapCut => 4,
-        Refusal::NeitherKind => 5,
-        Refusal::Misaligned => 6,
-        Refusal::OtherKind => 7,
-        Refusal::NoTable => 8,
-        Refusal::TooManyEntries => 9,
-        Refusal::CopiesDiffer => 10,
-        Refusal::StaleRecord => 11,
-        Refusal::NumberOutside => 12,
-        Refusal::BelongsToSpare => 30,
-        Refusal::WrongRun => 32,
-        Refusal::NoRun => 33,
-        Refusal::UnusedEntry => 13,
-        Refusal::BlankSector => 25,
-        Refusal::UnreadableSector => 14,
-        Refusal::PassesAsIcb => 15,
-        Refusal::NoRoom => 16,
-        Refusal::OneTable => 17,
-        Refusal::NoSpare => 19,
-        Refusal::LastSequence => 20,
-        Refusal::NotBlank => 21,
+impl From<Refusal> for u32 {
+    ghost from_gives = { λ r n. n ≡ number_of r };
+
+    fn from(why: Refusal) -> u32 {
+        match why {
+            Refusal::DiscShape => 1,
+            Refusal::SpanOutside => 2,
+            Refusal::LentLength => 3,
+            Refusal::BitmapMalformed => 31,
+            Refusal::MapCut => 4,
+            Refusal::NeitherKind => 5,
+            Refusal::Misaligned => 6,
+            Refusal::OtherKind => 7,
+            Refusal::NoTable => 8,
+            Refusal::TooManyEntries => 9,
+            Refusal::CopiesDiffer => 10,
+            Refusal::StaleRecord => 11,
+            Refusal::NumberOutside => 12,
+            Refusal::BelongsToSpare => 30,
+            Refusal::WrongRun => 32,
+            Refusal::NoRun => 33,
+            Refusal::UnusedEntry => 13,
+            Refusal::BlankSector => 25,
+            Refusal::UnreadableSector => 14,
+            Refusal::PassesAsIcb => 15,
+            Refusal::NoRoom => 16,
+            Refusal::OneTable => 17,
+            Refusal::NoSpare => 19,
+            Refusal::LastSequence => 20,
+            Refusal::NotBlank => 21,
+        }
     }
 }

@@ -10,8 +10,8 @@ ghost use Rattle.rewrite_open.specs.Calls.{opening_rewritable, opened_rewritable
 
 use address::LogicalAddress;
 use maps::PACKET;
-use model::{Given, Opened, Record, SECTOR};
-use refusal::Verdict;
+use model::{Opened, Record, SECTOR};
+use refusal::Refusal;
 
 // ---- opening
 
@@ -23,27 +23,23 @@ pub fn open_rewritable(
     s: u32,
     l: u32,
     table: &mut [u32],
-) -> Opened
+) -> Result<Opened, Refusal>
     ensures value { result ≡ opening_rewritable (setting maps.now s l) (disc_of disc.now marks.now) table.old }
     ensures table_after { table.new ≡ opened_rewritable (setting maps.now s l) (disc_of disc.now marks.now) table.old }
 {
     let lent = examine::is_lent(table);
-    let looked = sparing_current::look(disc, marks, maps, s, l, lent);
-    let verdict = looked.verdict;
-    if let Verdict::Stop(why) = verdict {
-        return Opened::Refused(why);
-    }
-    let copy = looked.at;
-    let from = SECTOR * copy.0 as usize;
+    let looked = sparing_current::look(disc, marks, maps, s, l, lent)?;
+    let current = looked.current;
+    let from = SECTOR * current.at.0 as usize;
     let to = from + SECTOR;
     sparing_table::fill_table(&disc[from..to], table);
-    Opened::Open {
+    Ok(Opened {
         handed: Record::Rewritable {
-            entries: looked.entries,
-            sequence: looked.sequence,
+            entries: current.entries,
+            sequence: current.sequence,
         },
         passed: 0,
-    }
+    })
 }
 
 // ---- reading
@@ -59,24 +55,17 @@ pub fn read_block(
     held: Record,
     b: u32,
     out: &mut [u8],
-) -> Given
+) -> Result<(), Refusal>
     ensures value { result ≡ reading_block (setting maps.now s l) (disc_of disc.now marks.now) table.now held b out.old }
     ensures out_after { out.new ≡ read_block_bytes (setting maps.now s l) (disc_of disc.now marks.now) table.now held b out.old }
 {
     let b = LogicalAddress(b);
     let lent = examine::are_lent(table, out, SECTOR);
-    let placed = sparing_place::place_block(disc, marks, maps, s, l, table, lent, held, b);
-    let verdict = placed.verdict;
-    if let Verdict::Stop(why) = verdict {
-        return Given::Refused(why);
-    }
-    let first = placed.first;
+    let first = sparing_place::place_block(disc, marks, maps, s, l, table, lent, held, b)?;
     let at = address::up_from(first, b.0 % PACKET);
-    if let Verdict::Stop(why) = disc_read::judge_sector(marks, at) {
-        return Given::Refused(why);
-    }
+    disc_read::judge_sector(marks, at)?;
     let from = SECTOR * at.0 as usize;
     let to = from + SECTOR;
     out.copy_from_slice(&disc[from..to]);
-    Given::Block
+    Ok(())
 }

@@ -1,149 +1,176 @@
 -- Laws of a save of a block and of a packet: its lent lengths, its own lines, and what it may rely on once nothing stops it. Assumes nothing.
-use Prim.Native.Nat.{ℕ, ◌+◌, ◌-◌, ◌*◌, ◌%◌, ◌≤◌}
-use mathlib.Core.Bool.{Bool, true, ◌&&◌}
-use mathlib.Core.Path.{◌≡◌, sym, ap, ◌∙◌}
-use mathlib.Core.List.{List, [], ◌∷◌}
+use Prim.Native.Nat.{ℕ, ◌+◌, ◌-◌, ◌%◌, ◌≤◌}
+use mathlib.Core.Bool.{Bool, true, false, ◌&&◌}
+use mathlib.Core.Path.{◌≡◌, refl, sym, ap, subst, ◌∙◌}
+use mathlib.Core.List.{List}
 use native.Mathlib.Omega.{arith}
 use borrow.Author.Tests.{eqb-true}
 use lib.ListN.{length}
 use lib.Dec.{eqb}
+use Rattle.std.specs.Prelude.{Ok, Err, Result}
 use Rattle.refusal.specs.declared.Refusal.{Refusal}
-use Rattle.refusal.specs.declared.Verdict.{Verdict}
-use Rattle.refusal.specs.declared.Verdict.TheVariants.{Go, Stop}
+use Rattle.refusal.specs.Verdict.{Verdict}
 use Rattle.refusal.specs.Tests.{first}
+use Rattle.address.specs.declared.PhysicalAddress.{PhysicalAddress}
 use Rattle.model.specs.declared.Cut.{Cut}
 use Rattle.model.specs.declared.Record.{Record}
+use Rattle.model.specs.declared.Reply.{Reply}
 use Rattle.model.specs.Disc.{Disc, first_mark, mark_tests}
 use Rattle.model.specs.Writes.{writes, upward, struck}
-use Rattle.model.specs.Sparing.{packet_of}
 use Rattle.model.specs.Examine.{Setting, lent_table}
-use Rattle.model.specs.Rewrite.{rewritable_verdict, place_of, other_mark, block_test, spare_test, save_block_tests, block_lent, packet_writes, replaced, save_block_plan, packet_tests, packet_lent, save_packet_plan}
+use Rattle.model.specs.Rewrite.{rewritable_verdict, place_of, other_mark, save_block_tests, block_lent, packet_writes, replaced, save_block_plan, packet_tests, packet_lent, save_packet_plan}
 use Rattle.model.specs.Plan.{carry}
+use Rattle.model.specs.Lent.{Lent, SavesBlock, SavesPacket}
 use Rattle.model.proofs.Basics.{and-true}
 use Rattle.model.proofs.Marks.{others_below, others-above}
-use Rattle.model.proofs.Verdicts.{unless-go}
+use Rattle.model.proofs.Verdicts.{unless-go, unless-stop}
+use Rattle.model.proofs.Plans.{refused, cut_short, carried}
 use Rattle.model.proofs.SectorsRuns.{length-upward}
 use Rattle.model.proofs.SparingLaws.{packet-own}
+use Rattle.sparing_current.proofs.Laws.{Common}
 use Rattle.sparing_current.proofs.Held.{place-on}
-use Rattle.sparing_place.specs.declared.Placed.{Placed}
-use Rattle.sparing_place.specs.Placed.{PlacesPacket}
-use Rattle.sparing_place.proofs.Laws.{going-all, found, place-stops, place-goes}
+use Rattle.sparing_place.specs.Placed.{Places, PlacesPacket}
+use Rattle.sparing_place.proofs.Laws.{Safe, safe, going-all, placed-stop, place-stops, place-goes, place-tells}
 use Rattle.sparing_place.proofs.Packets.{packet-bytes, packet-tells}
+use Rattle.rewrite_save.specs.Placed.{JudgesBlock}
 
--- ---- the lent lengths
+-- ---- the lines of a save of a block; k is what the test of its lent lengths did
 
--- of a block
-pub block-lent : (t block : List ℕ) {x : Bool} → x ≡ (lent_table t && eqb (length block) 2048) → x ≡ block_lent t block
-unfolding block_lent
-block-lent t block h = h
+module _ (x : Lent) (t : List ℕ) (held : Record) (b : ℕ) (block : List ℕ) {k : Bool} (lent : k ≡ (lent_table t && eqb (length block) 2048)) where
+  abbrev e : Setting
+  e = x.setting
 
--- a block's bytes
-pub block-bytes : (t block : List ℕ) → block_lent t block ≡ true → length block ≡ 2048
-unfolding block_lent
-block-bytes t block h = eqb-true (length block) 2048 (and-true (lent_table t) (eqb (length block) 2048) h).1
+  abbrev d : Disc
+  d = x.disc
 
--- ---- lines 25 and 14 of a block, after what `place_block` said, w; x is what the test of the lent lengths did
+  -- what is asked with that test is asked with those lengths
+  placed : {r : Result PhysicalAddress Refusal} → Places e d t k held b r → Places e d t (block_lent t block) held b r
+  unfolding block_lent
+  placed {r} h = subst (λ (y : Bool). Places e d t y held b r) lent h
 
-module _ (e : Setting) (d : Disc) (t : List ℕ) (held : Record) (b : ℕ) (block : List ℕ) {x : Bool} {w : Verdict} (is : x ≡ block_lent t block) (says : w ≡ rewritable_verdict e d t x held (block_test e b ∷ spare_test e d b ∷ [])) where
-  -- the verdict of the save
-  abbrev verdict : Verdict
-  verdict = rewritable_verdict e d t (block_lent t block) held (save_block_tests e d b)
-
-  -- it stops the save
-  pub block-stops : {why : Refusal} → w ≡ Stop why → Stop why ≡ verdict
+  -- lines 1 to 8, 10 to 12 and 30
+  pub block-stops : {why : Refusal} {r : Result PhysicalAddress Refusal} → Places e d t k held b (Err why) → r ≡ Err why → JudgesBlock x t held b block r
   unfolding save_block_tests
-  block-stops h = sym (place-stops e d t (block_lent t block) held b is says _ h)
+  block-stops h = placed-stop (place-stops e d t (block_lent t block) held b _ (placed h))
 
-  -- it lets it go on, the packet is at p, and y is the verdict on the sectors before the block
-  module _ (go : w ≡ Go) {p : ℕ} (at : p ≡ place_of e d (packet_of b)) {y : Verdict} (below : y ≡ first (mark_tests (first_mark d p (b % 32)))) where
-    -- the lines of all others
-    others : first (mark_tests (other_mark d p (b % 32))) ≡ verdict
-    unfolding save_block_tests
-    others =
-        ap (λ (q : ℕ). first (mark_tests (other_mark d q (b % 32)))) at
-        ∙ sym (place-goes e d t (block_lent t block) held b is says _ go)
+  -- the packet is at p
+  module _ {p : PhysicalAddress} (h : Places e d t k held b (Ok p)) where
+    -- what they tell
+    pub block-safe : Safe e d t (block_lent t block) held b p.0
+    block-safe = place-tells e d t (block_lent t block) held b (placed h)
 
-    -- one before it is not recorded
-    pub block-before : {why : Refusal} → y ≡ Stop why → Stop why ≡ verdict
-    block-before h = sym h ∙ below ∙ sym (others_below d p (b % 32) (sym below ∙ h)) ∙ others
+    -- y is the verdict on the sectors before the block
+    module _ {y : Verdict} (below : y ≡ first (mark_tests (first_mark d p.0 (b % 32)))) where
+      -- the lines of all others
+      others : first (mark_tests (other_mark d p.0 (b % 32))) ≡ rewritable_verdict e d t (block_lent t block) held (save_block_tests e d b)
+      unfolding save_block_tests
+      others =
+          ap (λ (q : ℕ). first (mark_tests (other_mark d q (b % 32)))) h.place
+          ∙ place-goes e d t (block_lent t block) held b (placed h) _
 
-    -- all those are, and z is the verdict on the sectors after it
-    module _ (all : y ≡ Go) {q : ℕ} (behind : q ≡ p + (b % 32 + 1)) {z : Verdict} (above : z ≡ first (mark_tests (first_mark d q (31 - b % 32)))) where
-      pub block-after : z ≡ verdict
-      block-after =
-          let k : q ≡ p + b % 32 + 1 = omega (arith, behind) in
-          above
-          ∙ ap (λ (r : ℕ). first (mark_tests (first_mark d r (31 - b % 32)))) k
-          ∙ sym (others-above d p (b % 32) (sym below ∙ all))
-          ∙ others
+      -- one before it is not recorded
+      pub block-before : {why : Refusal} {r : Result PhysicalAddress Refusal} → y ≡ Err why → r ≡ Err why → JudgesBlock x t held b block r
+      block-before g = placed-stop (sym g ∙ below ∙ sym (others_below d p.0 (b % 32) (sym below ∙ g)) ∙ others)
 
--- ---- what a save of a block may rely on
+      -- all those are, and z is the verdict on the sectors after it
+      module _ (all : y ≡ Ok tt) {q : ℕ} (behind : q ≡ p.0 + (b % 32 + 1)) {z : Verdict} (above : z ≡ first (mark_tests (first_mark d q (31 - b % 32)))) where
+        after : z ≡ rewritable_verdict e d t (block_lent t block) held (save_block_tests e d b)
+        after =
+            let n : q ≡ p.0 + b % 32 + 1 = omega (arith, behind) in
+            above
+            ∙ ap (λ (r : ℕ). first (mark_tests (first_mark d r (31 - b % 32)))) n
+            ∙ sym (others-above d p.0 (b % 32) (sym below ∙ all))
+            ∙ others
 
--- once nothing stops it
-pub record SavesBlock (e : Setting) (d : Disc) (t : List ℕ) (held : Record) (b : ℕ) (block : List ℕ) : Type 0 where
-  pub on : place_of e d (packet_of b) + 32 ≤ length d.marks
-  pub most : length d.marks ≤ 1048576
-  pub shape : length d.bytes ≡ 2048 * length d.marks
-  pub whole : length block ≡ 2048
+        -- one after it is not recorded
+        pub block-after : {why : Refusal} {r : Result PhysicalAddress Refusal} → z ≡ Err why → r ≡ Err why → JudgesBlock x t held b block r
+        block-after g = placed-stop (sym g ∙ after)
 
--- from its verdict
-pub saves-block : (e : Setting) (d : Disc) (t : List ℕ) (held : Record) (b : ℕ) (block : List ℕ) {v : Verdict} → v ≡ rewritable_verdict e d t (block_lent t block) held (save_block_tests e d b) → v ≡ Go → SavesBlock e d t held b block
-unfolding save_block_tests
-saves-block e d t held b block f g =
-    let h = found e d t (block_lent t block) held b _ (sym f ∙ g) in
-    record { on = h.on; most = h.most; shape = h.shape; whole = block-bytes t block h.told.lengths }
+        -- all are
+        pub block-fits : z ≡ Ok tt → JudgesBlock x t held b block (Ok p)
+        block-fits g = record { verdict = sym g ∙ after; place = h.place }
 
--- its plan
-pub block-plan : (e : Setting) (d : Disc) (t : List ℕ) (held : Record) (b : ℕ) (block : List ℕ) {v : Verdict} → v ≡ rewritable_verdict e d t (block_lent t block) held (save_block_tests e d b) → v ≡ Go → save_block_plan e d t held b block ≡ carry (packet_writes (place_of e d (packet_of b)) (replaced d (place_of e d (packet_of b)) (b % 32) block)) t held
-unfolding save_block_plan
-block-plan e d t held b block f g = unless-go _ (sym f ∙ g)
+-- ---- a save of a block
 
 -- a packet is 32 writes
-pub packet-struck : (c : Cut) (p : ℕ) (bytes : List ℕ) {x y : Bool} → x ≡ struck c 32 → x ≡ y → struck c (length (packet_writes p bytes)) ≡ y
+packet-struck : (c : Cut) (p : ℕ) (bytes : List ℕ) {x y : Bool} → x ≡ struck c 32 → x ≡ y → struck c (length (packet_writes p bytes)) ≡ y
 unfolding packet_writes
 packet-struck c p bytes h q = ap (struck c) (length-upward 32 p bytes 0) ∙ sym h ∙ q
 
--- its writes
-pub block_written : (c : Cut) (e : Setting) (d : Disc) (b : ℕ) (block : List ℕ) {p : ℕ} {d' : Disc} → p ≡ place_of e d (packet_of b) → d' ≡ writes 1 c (packet_writes p (replaced d p (b % 32) block)) d → d' ≡ writes 1 c (packet_writes (place_of e d (packet_of b)) (replaced d (place_of e d (packet_of b)) (b % 32) block)) d
-block_written c e d b block q w =
-    w ∙ ap (λ (k : ℕ). writes 1 c (packet_writes k (replaced d k (b % 32) block)) d) q
+module _ (x : Lent) (t : List ℕ) (held : Record) (b : ℕ) (block : List ℕ) (c : Cut) where
+  -- a refusal leaves everything as it came
+  pub block-refused : {why : Refusal} {r : Result Reply Refusal} → JudgesBlock x t held b block (Err why) → r ≡ Err why → SavesBlock x t held b block c r x.disc
+  unfolding save_block_plan
+  block-refused h z = rw z (refused _ _ _ _ (unless-stop _ (sym h.verdict)))
 
--- ---- a save of a packet
+  -- the packet is at p
+  module _ {p : PhysicalAddress} (h : JudgesBlock x t held b block (Ok p)) where
+    -- what the save may rely on
+    pub block-sure : Safe x.setting x.disc t (block_lent t block) held b p.0
+    unfolding save_block_tests
+    block-sure = safe x.setting x.disc t (block_lent t block) held b _ (sym h.verdict) h.place
 
--- it is judged by its lent lengths; x is what the test of them did
-pub packet-judged : (e : Setting) (d : Disc) (t : List ℕ) (held : Record) (b : ℕ) (packet : List ℕ) (r : Placed) {x : Bool} → x ≡ packet_lent t packet
-    → PlacesPacket e d t x held b r → PlacesPacket e d t (packet_lent t packet) held b r
-packet-judged e d t held b packet r q h =
-    record { verdict = h.verdict ∙ ap (λ (y : Bool). rewritable_verdict e d t y held (packet_tests e d b)) q; place = h.place }
+    pub block-whole : length block ≡ 2048
+    unfolding block_lent
+    block-whole = eqb-true (length block) 2048 (and-true (lent_table t) _ block-sure.told.lengths).1
 
--- ---- what it may rely on
+    plan : save_block_plan x.setting x.disc t held b block ≡ carry (packet_writes p.0 (replaced x.disc p.0 (b % 32) block)) t held
+    unfolding save_block_plan
+    plan =
+        unless-go _ (sym h.verdict)
+        ∙ ap (λ (n : ℕ). carry (packet_writes n (replaced x.disc n (b % 32) block)) t held) (sym h.place)
 
--- once nothing stops it
-pub record SavesPacket (e : Setting) (d : Disc) (t : List ℕ) (held : Record) (b : ℕ) (packet : List ℕ) : Type 0 where
-  pub on : place_of e d b + 32 ≤ length d.marks
-  pub most : length d.marks ≤ 1048576
-  pub shape : length d.bytes ≡ 2048 * length d.marks
-  pub whole : length packet ≡ 65536
+    -- its writes are made, and u tells whether the power failed at one
+    module _ {u : Bool} (s : u ≡ struck c 32) {d : Disc} (w : d ≡ writes 1 c (packet_writes p.0 (replaced x.disc p.0 (b % 32) block)) x.disc) where
+      pub block-cut : u ≡ true → SavesBlock x t held b block c (Ok Reply.Cut) d
+      block-cut g = cut_short _ _ _ _ plan (packet-struck c _ _ s g) w
 
--- from its verdict
-pub saves-packet : (e : Setting) (d : Disc) (t : List ℕ) (held : Record) (b : ℕ) (packet : List ℕ) {v : Verdict} → v ≡ rewritable_verdict e d t (packet_lent t packet) held (packet_tests e d b) → v ≡ Go → SavesPacket e d t held b packet
-saves-packet e d t held b packet f g =
-    let a = going-all e d t (packet_lent t packet) held (packet_tests e d b) (sym f ∙ g) in
-    let k = packet-tells e d b a.1 in
-    let q : packet_of b ≡ b = packet-own b k.start in
-    record {
-      on = omega (arith, place-on e d t _ held a.0 b k.low, ap (place_of e d) q);
-      most = a.0.few;
-      shape = a.0.shape;
-      whole = packet-bytes t packet a.0.lengths;
-    }
+      pub block-done : u ≡ false → SavesBlock x t held b block c (Ok (Reply.Done held)) d
+      block-done g = carried _ _ _ _ plan (packet-struck c _ _ s g) w refl refl
 
--- its plan
-pub packet-plan : (e : Setting) (d : Disc) (t : List ℕ) (held : Record) (b : ℕ) (packet : List ℕ) {v : Verdict} → v ≡ rewritable_verdict e d t (packet_lent t packet) held (packet_tests e d b) → v ≡ Go → save_packet_plan e d t held b packet ≡ carry (packet_writes (place_of e d b) packet) t held
-unfolding save_packet_plan
-packet-plan e d t held b packet f g = unless-go _ (sym f ∙ g)
+-- ---- a save of a packet; k is what the test of its lent lengths did
 
--- its writes
-pub packet-written : (c : Cut) (e : Setting) (d : Disc) (b : ℕ) (packet : List ℕ) {p : ℕ} {d' : Disc} → p ≡ place_of e d b → d' ≡ writes 1 c (upward 32 p packet 0) d → d' ≡ writes 1 c (packet_writes (place_of e d b) packet) d
-unfolding packet_writes
-packet-written c e d b packet q w = w ∙ ap (λ (k : ℕ). writes 1 c (upward 32 k packet 0) d) q
+module _ (x : Lent) (t : List ℕ) (held : Record) (b : ℕ) (packet : List ℕ) (c : Cut) {k : Bool} (lent : k ≡ (lent_table t && eqb (length packet) 65536)) where
+  -- what is asked with that test is asked with those lengths
+  placed_packet : {r : Result PhysicalAddress Refusal} → PlacesPacket x.setting x.disc t k held b r → PlacesPacket x.setting x.disc t (packet_lent t packet) held b r
+  unfolding packet_lent
+  placed_packet {r} h = subst (λ (y : Bool). PlacesPacket x.setting x.disc t y held b r) lent h
+
+  -- a refusal leaves everything as it came
+  pub packet-refused : {why : Refusal} {r : Result Reply Refusal} → PlacesPacket x.setting x.disc t k held b (Err why) → r ≡ Err why → SavesPacket x t held b packet c r x.disc
+  unfolding save_packet_plan
+  packet-refused h z = rw z (refused _ _ _ _ (unless-stop _ (sym (placed_packet h).verdict)))
+
+  -- the packet is at p
+  module _ {p : PhysicalAddress} (h : PlacesPacket x.setting x.disc t k held b (Ok p)) where
+    goes_on : Common x.setting x.disc t (packet_lent t packet) held × (first (packet_tests x.setting x.disc b) ≡ Ok tt)
+    goes_on = going-all x.setting x.disc t (packet_lent t packet) held (packet_tests x.setting x.disc b) (sym (placed_packet h).verdict)
+
+    -- what the save may rely on
+    pub packet-told : Common x.setting x.disc t (packet_lent t packet) held
+    packet-told = goes_on.0
+
+    pub packet-whole : length packet ≡ 65536
+    packet-whole = packet-bytes t packet packet-told.lengths
+
+    pub packet-on : p.0 + 32 ≤ length x.disc.marks
+    packet-on =
+        let told = packet-tells x.setting x.disc b goes_on.1 in
+        let own = ap (place_of x.setting x.disc) (packet-own b told.start) in
+        omega (arith, h.place, own, place-on packet-told b told.low)
+
+    plan_is : save_packet_plan x.setting x.disc t held b packet ≡ carry (packet_writes p.0 packet) t held
+    unfolding save_packet_plan
+    plan_is = unless-go _ (sym (placed_packet h).verdict) ∙ ap (λ (n : ℕ). carry (packet_writes n packet) t held) (sym h.place)
+
+    -- its writes are made, and u tells whether the power failed at one
+    module _ {u : Bool} (s : u ≡ struck c 32) {d : Disc} (w : d ≡ writes 1 c (upward 32 p.0 packet 0) x.disc) where
+      written : d ≡ writes 1 c (packet_writes p.0 packet) x.disc
+      unfolding packet_writes
+      written = w
+
+      pub packet-cut : u ≡ true → SavesPacket x t held b packet c (Ok Reply.Cut) d
+      packet-cut g = cut_short _ _ _ _ plan_is (packet-struck c _ _ s g) written
+
+      pub packet-done : u ≡ false → SavesPacket x t held b packet c (Ok (Reply.Done held)) d
+      packet-done g = carried _ _ _ _ plan_is (packet-struck c _ _ s g) written refl refl

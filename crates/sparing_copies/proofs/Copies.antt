@@ -1,16 +1,7 @@
 -- Laws of the copies of a table: what is read of one, and which is the newest. Assumes nothing.
-use Prim.Native.Nat.{ℕ, zero, suc, ◌+◌, ◌-◌, ◌*◌, ◌≤◌, ◌<◌}
-use mathlib.Core.Path.{◌≡◌, refl, sym, ap, ap₂, ◌∙◌}
-use mathlib.Core.List.{List, [], ◌∷◌}
-use mathlib.Core.Bool.{Bool, true, false, not, cond, ◌&&◌, ◌||◌, false≢true}
-use native.Mathlib.Omega.{arith}
-use borrow.Author.Tests.{eq-eqb, ne_eqb, lt-ltb, le-ltb, ltb-true}
-use lib.Dec.{eqb, ltb}
-use lib.ListN.{length, get_or, take, drop}
-use Rattle.refusal.specs.declared.Refusal.{Refusal}
+use Rattle.std.proofs.Common.{◌≡◌, ℕ, zero, suc, ◌+◌, ◌-◌, ◌*◌, ◌≤◌, ◌<◌, Bool, true, false, not, cond, ◌&&◌, ◌||◌, eqb, ltb, List, [], ◌∷◌, Option, Some, None, IfSome, Ok, Err, length, get_or, take, drop, refl, sym, ap, ap₂, ◌∙◌, add-one, arith, length-drop, get_or-drop, drop-cons, drop_of_length-le, eq-eqb, ne_eqb, lt-ltb, le-ltb, ltb-true}
 use Rattle.refusal.specs.declared.Refusal.TheVariants.{NoTable, CopiesDiffer}
-use Rattle.refusal.specs.declared.Verdict.TheVariants.{Go, Stop}
-use Rattle.refusal.proofs.Laws.{goes, stops, stop-go}
+use Rattle.refusal.proofs.Laws.{goes, stops}
 use Rattle.fields.specs.Bytes.{part, same}
 use Rattle.fields.specs.Number.{field, words}
 use Rattle.fields.specs.Regid.{has_regid}
@@ -23,10 +14,8 @@ use Rattle.model.proofs.OnceOpen.{length-words}
 use Rattle.model.proofs.SparingLaws.{fits-size, table-count, counts-fits}
 use Rattle.fields.proofs.Tests.{fails, holds}
 use Rattle.sparing_copies.specs.declared.Newest.{Newest}
-use Rattle.sparing_copies.specs.declared.Current.{Current}
-use Rattle.sparing_copies.specs.Copies.{used_at, newer_of, newest_of, agrees, agreeing, copy_verdict, FoundCurrent}
+use Rattle.sparing_copies.specs.Copies.{used_at, newest_at, newer_of, newest_of, agrees, agreeing, FoundCurrent}
 use Rattle.sparing_copy.proofs.Words.{words-part, same-words}
-use Rattle.sparing_copy.proofs.Places.{table_step, table-end}
 use Rattle.sparing_copy.proofs.Rule.{and-end}
 
 -- ---- what is read of the copy at a sector
@@ -80,14 +69,14 @@ used-read b m t p n a e c h q r =
 -- ---- a copy that counts
 
 -- its sector is not recorded
-pub counts-blank : (b m : List ℕ) (g : Geometry) (t i : ℕ) → i ≡ t → (get_or m i 0 ≡ 1 → ⊥) → false ≡ counts (disc_of b m) g t
+pub counts-blank : (b m : List ℕ) (g : Geometry) (t : ℕ) → (get_or m t 0 ≡ 1 → ⊥) → false ≡ counts (disc_of b m) g t
 unfolding counts recorded mark
-counts-blank b m g t i e n = fails _ (ne_eqb _ _ (λ q. n (ap (λ (k : ℕ). get_or m k 0) e ∙ q)))
+counts-blank b m g t n = fails _ (ne_eqb _ _ n)
 
 -- it is
-pub counts-recorded : (b m : List ℕ) (g : Geometry) (t i : ℕ) (r : Bool) → i ≡ t → get_or m i 0 ≡ 1 → r ≡ copy_fits g (sector (disc_of b m) t) → r ≡ counts (disc_of b m) g t
+pub counts-recorded : (b m : List ℕ) (g : Geometry) (t : ℕ) (r : Bool) → get_or m t 0 ≡ 1 → r ≡ copy_fits g (sector (disc_of b m) t) → r ≡ counts (disc_of b m) g t
 unfolding counts recorded mark
-counts-recorded b m g t i r e q s = holds (eq-eqb _ _ (ap (λ (k : ℕ). get_or m k 0) (sym e) ∙ q)) s
+counts-recorded b m g t r q s = holds (eq-eqb _ _ q) s
 
 -- a copy's bytes past its entries do not matter
 copy-front : (g : Geometry) (b : List ℕ) (w : ℕ) → 56 + 8 * count_in b ≤ w → copy_fits g (part b 0 w) ≡ copy_fits g b
@@ -115,12 +104,12 @@ front_fits d g t p e =
     sym (copy-front g (sector d t) w (omega arith)) ∙ ap (copy_fits g) e ∙ copy-front g (sector d p) w (omega arith)
 
 -- its sector has the bytes of one that counts
-pub counts-alike : (b m : List ℕ) (g : Geometry) (t p i : ℕ) → i ≡ t → used_at (disc_of b m) p t ≡ used_at (disc_of b m) p p → counts (disc_of b m) g p ≡ true → eqb (get_or m i 0) 1 ≡ counts (disc_of b m) g t
+pub counts-alike : (b m : List ℕ) (g : Geometry) (t p : ℕ) → used_at (disc_of b m) p t ≡ used_at (disc_of b m) p p → counts (disc_of b m) g p ≡ true → eqb (get_or m t 0) 1 ≡ counts (disc_of b m) g t
 unfolding counts recorded mark
-counts-alike b m g t p i e q h =
+counts-alike b m g t p q h =
     let d : Disc = disc_of b m in
     let f : copy_fits g (sector d t) ≡ true = front_fits d g t p q ∙ and_second (recorded d p) (copy_fits g (sector d p)) h in
-    ap (λ (k : ℕ). eqb (get_or m k 0) 1) e ∙ and-end (recorded d t) ∙ ap (λ (x : Bool). recorded d t && x) (sym f)
+    and-end (recorded d t) ∙ ap (λ (x : Bool). recorded d t && x) (sym f)
 
 -- its entries lie in its sector
 pub counts-short : (b m : List ℕ) (g : Geometry) (t : ℕ) → counts (disc_of b m) g t ≡ true → g.size ≤ 2048 → (m' : List ℕ) → 56 + 8 * count_in (sector (disc_of b m') t) ≤ 2048
@@ -130,124 +119,143 @@ counts-short b m g t h s m' =
 
 -- ---- the newest copy
 
-module _ (d : Disc) (g : Geometry) (t : ℕ) (n : Newest) where
-  -- the copy at t does not count
-  pub newer-uncounted : (r : Bool) → r ≡ counts d g t → r ≡ false → n ≡ newer_of d g t n
+module _ (d : Disc) (g : Geometry) (t : ℕ) where
+  -- what holds of the newest of the others, and of the copy at t where that counts, holds of the newest
+  newer-elim : (P : Option Newest → Type 0) (n : Option Newest) → P n → (counts d g t ≡ true → P (Some (newest_at d t))) → P (newer_of d g t n)
   unfolding newer_of
-  newer-uncounted r s e = rw (← s, e)
+  newer-elim P None p q = cond-elim P (counts d g t) q (λ _. p)
+  newer-elim P (Some n) p q =
+      cond-elim P (counts d g t) (λ e. cond-elim P (ltb (sequence_at d t) n.sequence) (λ _. p) (λ _. q e)) (λ _. p)
+
+  -- it counts, and there is no other
+  pub newer-alone : counts d g t ≡ true → Some (newest_at d t) ≡ newer_of d g t None
+  unfolding newer_of
+  newer-alone e = rw e
+
+  -- it counts, and is not older
+  pub newer-first : (n : Newest) → counts d g t ≡ true → n.sequence ≤ sequence_at d t → Some (newest_at d t) ≡ newer_of d g t (Some n)
+  unfolding newer_of
+  newer-first n e h = rw (e, le-ltb (sequence_at d t) n.sequence h)
+
+  -- it does not count
+  pub newer-uncounted : (n : Option Newest) → counts d g t ≡ false → n ≡ newer_of d g t n
+  unfolding newer_of
+  newer-uncounted None e = rw e
+  newer-uncounted (Some n) e = rw e
 
   -- it is older, whether it counts or not
-  pub newer-older : sequence_at d t < n.sequence → n ≡ newer_of d g t n
+  pub newer-older : (n : Newest) → sequence_at d t < n.sequence → Some n ≡ newer_of d g t (Some n)
   unfolding newer_of
-  newer-older h = rw (lt-ltb (sequence_at d t) n.sequence h) (go (counts d g t))
+  newer-older n h = rw (lt-ltb (sequence_at d t) n.sequence h) (go (counts d g t))
     where
-      go : (b : Bool) → n ≡ cond b n n
+      go : (b : Bool) → Some n ≡ cond b (Some n) (Some n)
       go true = refl
       go false = refl
 
-  -- it is not
-  pub newer-first : (r : Bool) → r ≡ counts d g t → r ≡ true → n.sequence ≤ sequence_at d t → record { found = true; at = record { 0 = t }; sequence = sequence_at d t } ≡ newer_of d g t n
-  unfolding newer_of
-  newer-first r s e h = rw (← s, e, le-ltb (sequence_at d t) n.sequence h)
-
-module _ (d : Disc) (g : Geometry) (t : List ℕ) (n : ℕ) (h : n ≤ length t) where
+module _ (d : Disc) (g : Geometry) (l : List ℕ) where
   -- none of no copies
-  pub newest-none : (i : ℕ) → i ≡ n → record { found = false; at = record { 0 = 0 }; sequence = 0 } ≡ newest_of d g (drop i (take n t))
+  pub newest-none : (i : ℕ) → length l ≤ i → None ≡ newest_of d g (drop i l)
   unfolding newest_of
-  newest-none i e = sym (ap (newest_of d g) (table-end t n i h (omega arith)))
+  newest-none i h = sym (ap (newest_of d g) (drop_of_length-le l {i = i} h))
 
   -- one copy more, looking down
-  pub newest-next : (i p : ℕ) (m r : Newest) → 0 < i → i ≤ n → m ≡ newest_of d g (drop i (take n t)) → p ≡ get_or t (i - 1) 0 → r ≡ newer_of d g p m → r ≡ newest_of d g (drop (i - 1) (take n t))
+  pub newest-next : (i p : ℕ) (m r : Option Newest) → 0 < i → i ≤ length l → m ≡ newest_of d g (drop i l) → p ≡ get_or l (i - 1) 0 → r ≡ newer_of d g p m → r ≡ newest_of d g (drop (i - 1) l)
   unfolding newest_of
-  newest-next i p m r z l em ep er =
-      let e : i ≡ i - 1 + 1 = omega arith in
+  newest-next i p m r z h em ep er =
+      let e : i ≡ suc (i - 1) = omega arith in
       er
       ∙ ap (λ (k : ℕ). newer_of d g k m) ep
-      ∙ ap (newer_of d g (get_or t (i - 1) 0)) (em ∙ ap (λ (k : ℕ). newest_of d g (drop k (take n t))) e)
-      ∙ sym (ap (newest_of d g) (table_step t n (i - 1) h (omega arith)))
+      ∙ ap (newer_of d g (get_or l (i - 1) 0)) (em ∙ ap (λ (k : ℕ). newest_of d g (drop k l)) e)
+      ∙ sym (ap (newest_of d g) (drop-cons l (i - 1) 0 (omega arith)))
 
--- what the newest of copies l that count tells: whether there is one, the highest sequence, and the first with it
-record Told (d : Disc) (l : List ℕ) (n : Newest) : Type 0 where
-  some : n.found ≡ not (is_none l)
+-- what the newest of copies l that count tells: the highest sequence, and the first with it
+record Tells (d : Disc) (l : List ℕ) (n : Newest) : Type 0 where
+  some : is_none l ≡ false
   highest-is : n.sequence ≡ highest d l
-  first-is : n.found ≡ true → (r : List ℕ) × (with_sequence d n.sequence l ≡ n.at.0 ∷ r)
+  first-is : (r : List ℕ) × (with_sequence d n.sequence l ≡ n.at.0 ∷ r)
 
--- there is one where one has a sequence
-some-newest : (d : Disc) (l : List ℕ) (n : Newest) (k : ℕ) → Told d l n → k < n.sequence → n.found ≡ true
-unfolding is_none highest
-some-newest d [] n k w h = absurd (omega (arith, w.highest-is))
-some-newest d (t ∷ l) n k w h = w.some
+-- where there is none, no copy counts
+abbrev Told : Disc → List ℕ → Option Newest → Type 0
+Told d l None = l ≡ []
+Told d l (Some n) = Tells d l n
+
+-- a copy before none
+alone-told : (d : Disc) (t : ℕ) (l : List ℕ) → l ≡ [] → Tells d (t ∷ l) (newest_at d t)
+unfolding is_none highest with_sequence
+alone-told d t [] w =
+    record {
+      some = refl;
+      highest-is = rw (le-ltb (sequence_at d t) 0 (omega arith));
+      first-is = ([], rw (eq-eqb (sequence_at d t) (sequence_at d t) refl));
+    }
+alone-told d t (k ∷ l) w = cc
 
 -- an older copy before them
-older-told : (d : Disc) (t : ℕ) (l : List ℕ) (n : Newest) → Told d l n → ltb (sequence_at d t) n.sequence ≡ true → Told d (t ∷ l) n
+older-told : (d : Disc) (t : ℕ) (l : List ℕ) (n : Newest) → Tells d l n → ltb (sequence_at d t) n.sequence ≡ true → Tells d (t ∷ l) n
 unfolding is_none highest with_sequence
 older-told d t l n w e =
     let h : sequence_at d t < n.sequence = ltb-true (sequence_at d t) n.sequence e in
     let q : ltb (sequence_at d t) (highest d l) ≡ true = ap (ltb (sequence_at d t)) (sym w.highest-is) ∙ e in
     record {
-      some = some-newest d l n (sequence_at d t) w h;
+      some = refl;
       highest-is = w.highest-is ∙ sym (rw q);
-      first-is = λ f. ((w.first-is f).0, rw (ne_eqb (sequence_at d t) n.sequence (λ k. omega arith)) (w.first-is f).1);
+      first-is = (w.first-is.0, rw (ne_eqb (sequence_at d t) n.sequence (λ k. omega arith)) w.first-is.1);
     }
 
 -- one that is not older
-newer-told : (d : Disc) (t : ℕ) (l : List ℕ) (n : Newest) → Told d l n → ltb (sequence_at d t) n.sequence ≡ false → Told d (t ∷ l) (record { found = true; at = record { 0 = t }; sequence = sequence_at d t })
+newer-told : (d : Disc) (t : ℕ) (l : List ℕ) (n : Newest) → Tells d l n → ltb (sequence_at d t) n.sequence ≡ false → Tells d (t ∷ l) (newest_at d t)
 unfolding is_none highest with_sequence
 newer-told d t l n w e =
     let q : ltb (sequence_at d t) (highest d l) ≡ false = ap (ltb (sequence_at d t)) (sym w.highest-is) ∙ e in
     record {
       some = refl;
       highest-is = sym (rw q);
-      first-is = λ f. (with_sequence d (sequence_at d t) l, rw (eq-eqb (sequence_at d t) (sequence_at d t) refl));
+      first-is = (with_sequence d (sequence_at d t) l, rw (eq-eqb (sequence_at d t) (sequence_at d t) refl));
     }
 
 newest-told : (d : Disc) (g : Geometry) (ts : List ℕ) → Told d (counting_of d g ts) (newest_of d g ts)
-unfolding newest_of newer_of counting_of is_none highest
-newest-told d g [] = record { some = refl; highest-is = refl; first-is = λ q. absurd (false≢true q) }
-newest-told d g (t ∷ ts) = go (counts d g t) (newest-told d g ts)
+unfolding newest_of newer_of counting_of
+newest-told d g [] = refl
+newest-told d g (t ∷ ts) = go (counts d g t) (newest_of d g ts) (newest-told d g ts)
   where
-    go : (b : Bool) → Told d (counting_of d g ts) (newest_of d g ts) → Told d (cond b (t ∷ counting_of d g ts) (counting_of d g ts)) (cond b (cond (ltb (sequence_at d t) (newest_of d g ts).sequence) (newest_of d g ts) (record { found = true; at = record { 0 = t }; sequence = sequence_at d t })) (newest_of d g ts))
-    go true w =
-        cond-elim (λ (r : Newest). Told d (t ∷ counting_of d g ts) r) (ltb (sequence_at d t) (newest_of d g ts).sequence)
-        (older-told d t (counting_of d g ts) (newest_of d g ts) w)
-        (newer-told d t (counting_of d g ts) (newest_of d g ts) w)
-    go false w = w
+    l : List ℕ
+    l = counting_of d g ts
+
+    go : (b : Bool) (n : Option Newest) → Told d (counting_of d g ts) n → Told d (cond b (t ∷ counting_of d g ts) (counting_of d g ts)) (elim n as (λ _. Option Newest) [ None ↦ cond b (Some (newest_at d t)) None | Some m ↦ cond b (cond (ltb (sequence_at d t) m.sequence) (Some m) (Some (newest_at d t))) (Some m) ])
+    go true None w = alone-told d t (counting_of d g ts) w
+    go true (Some n) w =
+        cond-elim (λ (r : Option Newest). Told d (t ∷ counting_of d g ts) r) (ltb (sequence_at d t) n.sequence)
+        (older-told d t (counting_of d g ts) n w)
+        (newer-told d t (counting_of d g ts) n w)
+    go false None w = w
+    go false (Some n) w = w
 
 -- the newest copy is at one of the sectors
-newest-on : (d : Disc) (g : Geometry) (ts : List ℕ) (k : ℕ) → ((i : ℕ) → i < length ts → get_or ts i 0 < k) → (newest_of d g ts).found ≡ true → (newest_of d g ts).at.0 < k
-unfolding newest_of newer_of
-newest-on d g [] k h q = absurd (false≢true q)
-newest-on d g (t ∷ ts) k h q =
-    cond-elim (λ (r : Newest). r.found ≡ true → r.at.0 < k) (counts d g t)
-    (λ _. cond-elim (λ (r : Newest). r.found ≡ true → r.at.0 < k) (ltb (sequence_at d t) (newest_of d g ts).sequence)
-    (λ _. newest-on d g ts k (λ i l. h (suc i) (omega arith)))
-    (λ _ _. h zero (omega arith)))
-    (λ _. newest-on d g ts k (λ i l. h (suc i) (omega arith)))
-    q
+newest-on : (d : Disc) (g : Geometry) (ts : List ℕ) (k : ℕ) → ((i : ℕ) → i < length ts → get_or ts i 0 < k) → IfSome (newest_of d g ts) (λ n. n.at.0 < k)
+unfolding newest_of
+newest-on d g [] k h = tt
+newest-on d g (t ∷ ts) k h =
+    newer-elim d g t (λ r. IfSome r (λ n. n.at.0 < k)) (newest_of d g ts) (newest-on d g ts k (λ i l. h (suc i) (omega arith))) (λ _. h zero (omega arith))
 
 -- it counts
-newest-counts : (d : Disc) (g : Geometry) (ts : List ℕ) → (newest_of d g ts).found ≡ true → counts d g (newest_of d g ts).at.0 ≡ true
-unfolding newest_of newer_of
-newest-counts d g [] q = absurd (false≢true q)
-newest-counts d g (t ∷ ts) q =
-    cond-elim (λ (r : Newest). r.found ≡ true → counts d g r.at.0 ≡ true) (counts d g t)
-    (λ e. cond-elim (λ (r : Newest). r.found ≡ true → counts d g r.at.0 ≡ true) (ltb (sequence_at d t) (newest_of d g ts).sequence)
-    (λ _. newest-counts d g ts)
-    (λ _ _. e))
-    (λ _. newest-counts d g ts)
-    q
+newest-counts : (d : Disc) (g : Geometry) (ts : List ℕ) → IfSome (newest_of d g ts) (λ n. counts d g n.at.0 ≡ true)
+unfolding newest_of
+newest-counts d g [] = tt
+newest-counts d g (t ∷ ts) =
+    newer-elim d g t (λ r. IfSome r (λ n. counts d g n.at.0 ≡ true)) (newest_of d g ts) (newest-counts d g ts) (λ e. e)
 
-module _ (d : Disc) (g : Geometry) (ts : List ℕ) (n : Newest) (is : n ≡ newest_of d g ts) (f : n.found ≡ true) where
-  found : (newest_of d g ts).found ≡ true
-  found = ap (λ (m : Newest). m.found) (sym is) ∙ f
+-- what is below a number at each place is below it from a place on
+pub later-below : (t : List ℕ) (j k : ℕ) → ((i : ℕ) → i < length t → get_or t i 0 < k) → (i : ℕ) → i < length (drop j t) → get_or (drop j t) i 0 < k
+later-below t j k f i l = rw (get_or-drop j t i 0) (f (j + i) (omega (arith, length-drop j t)))
 
+module _ (d : Disc) (g : Geometry) (ts : List ℕ) (n : Option Newest) (is : n ≡ newest_of d g ts) where
   -- the newest of sectors on the disc is on the disc
-  pub found-on : (k : ℕ) → ((i : ℕ) → i < length ts → get_or ts i 0 < k) → n.at.0 < k
-  found-on k h = rw is (newest-on d g ts k h found)
+  pub found-on : (k : ℕ) → ((i : ℕ) → i < length ts → get_or ts i 0 < k) → IfSome n (λ m. m.at.0 < k)
+  found-on k h = rw is (newest-on d g ts k h)
 
   -- and counts
-  pub found-counts : counts d g n.at.0 ≡ true
-  found-counts = rw is (newest-counts d g ts found)
+  pub found-counts : IfSome n (λ m. counts d g m.at.0 ≡ true)
+  found-counts = rw is (newest-counts d g ts)
 
 -- ---- copies of one sequence agree
 
@@ -290,46 +298,40 @@ module _ (d : Disc) (g : Geometry) (p n t : ℕ) where
       go true false e = rw e
       go false c e = refl
 
-module _ (d : Disc) (g : Geometry) (p n : ℕ) (t : List ℕ) (k i : ℕ) (h : k ≤ length t) where
+module _ (d : Disc) (g : Geometry) (p n : ℕ) (t : List ℕ) (i : ℕ) where
   -- no copy is left
-  pub agreeing-end : k ≤ i → true ≡ agreeing d g p n (drop i (take k t))
+  pub agreeing-end : length t ≤ i → true ≡ agreeing d g p n (drop i t)
   unfolding agreeing agree with_sequence counting_of
-  agreeing-end l = sym (ap (agreeing d g p n) (table-end t k i h l))
+  agreeing-end l = sym (ap (agreeing d g p n) (drop_of_length-le t {i = i} l))
 
   -- a copy differs
-  pub agreeing-off : (r : Bool) → i < k → r ≡ agrees d g p n (get_or t i 0) → r ≡ false → false ≡ agreeing d g p n (drop i (take k t))
+  pub agreeing-off : (r : Bool) → i < length t → r ≡ agrees d g p n (get_or t i 0) → r ≡ false → false ≡ agreeing d g p n (drop i t)
   agreeing-off r l s q =
-      sym (ap (agreeing d g p n) (table_step t k i h l) ∙ agreeing-first d g p n (get_or t i 0) (drop (i + 1) (take k t)) ∙ rw (← s, q))
+      sym (ap (agreeing d g p n) (drop-cons t i 0 l) ∙ agreeing-first d g p n (get_or t i 0) (drop (suc i) t) ∙ rw (← s, q))
 
   -- it does not
-  pub agreeing-next : (r : Bool) → i < k → r ≡ agrees d g p n (get_or t i 0) → r ≡ true → agreeing d g p n (drop (i + 1) (take k t)) ≡ agreeing d g p n (drop i (take k t))
+  pub agreeing-next : (r : Bool) → i < length t → r ≡ agrees d g p n (get_or t i 0) → r ≡ true → agreeing d g p n (drop (i + 1) t) ≡ agreeing d g p n (drop i t)
   agreeing-next r l s q =
-      sym (ap (agreeing d g p n) (table_step t k i h l) ∙ agreeing-first d g p n (get_or t i 0) (drop (i + 1) (take k t)) ∙ rw (← s, q))
+      rw add-one (sym (ap (agreeing d g p n) (drop-cons t i 0 l) ∙ agreeing-first d g p n (get_or t i 0) (drop (suc i) t) ∙ rw (← s, q)))
 
 -- ---- the current table
 
-module _ (d : Disc) (g : Geometry) (n : Newest) (is : n ≡ newest_of d g g.tables) where
-  told : Told d (counting d g) n
-  unfolding counting
-  told = rw is (newest-told d g g.tables)
-
-  -- what is turned down has no table
-  turned_down : (r : Current) (why : Refusal) → r.verdict ≡ Stop why → Stop why ≡ copy_verdict d g → FoundCurrent d g r
-  turned_down r why e q =
-      record {
-        verdict = e ∙ q;
-        place = λ k. stop-go e k;
-        counted = λ k. stop-go e k;
-        table = λ k. stop-go e k;
-        sequence = λ k. stop-go e k;
-        count = λ k. stop-go e k;
-      }
-
+module _ (d : Disc) (g : Geometry) where
   -- no copy counts
-  pub none_found : (r : Current) → r.verdict ≡ Stop NoTable → n.found ≡ false → FoundCurrent d g r
-  none_found r e f = turned_down r NoTable e (stops _ (sym told.some ∙ f))
+  pub none_found : None ≡ newest_of d g g.tables → FoundCurrent d g (Err NoTable)
+  unfolding is_none counting
+  none_found is =
+      let told : counting_of d g g.tables ≡ [] = rw (sym is) at (newest-told d g g.tables) in
+      record { verdict = stops _ (rw told); found = tt }
 
-  module _ (f : n.found ≡ true) where
+  module _ (n : Newest) (is : Some n ≡ newest_of d g g.tables) where
+    told : Tells d (counting d g) n
+    unfolding counting
+    told = rw (sym is) at (newest-told d g g.tables)
+
+    some : not (is_none (counting d g)) ≡ true
+    some = ap not told.some
+
     -- the current copies are those of its sequence, of which it is the first
     current-is : with_sequence d n.sequence (counting d g) ≡ current d g
     unfolding current current_sequence
@@ -337,28 +339,29 @@ module _ (d : Disc) (g : Geometry) (n : Newest) (is : n ≡ newest_of d g g.tabl
 
     table_is : table_at d n.at.0 ≡ current_table d g
     unfolding current_table first_table
-    table_is = sym (ap (first_table d) (sym current-is ∙ (told.first-is f).1))
+    table_is = sym (ap (first_table d) (sym current-is ∙ told.first-is.1))
 
     agreed : agreeing d g n.at.0 n.sequence g.tables ≡ agree d (current_table d g) (current d g)
     unfolding agreeing counting
     agreed = ap₂ (agree d) table_is current-is
 
     -- the current copies differ
-    pub differ-found : (r : Current) (b : Bool) → r.verdict ≡ Stop CopiesDiffer → b ≡ agreeing d g n.at.0 n.sequence g.tables → b ≡ false → FoundCurrent d g r
-    differ-found r b e s q =
-        turned_down r CopiesDiffer e (goes NoTable (sym told.some ∙ f) (stops _ (sym agreed ∙ sym s ∙ q)))
+    pub differ-found : agreeing d g n.at.0 n.sequence g.tables ≡ false → FoundCurrent d g (Err CopiesDiffer)
+    differ-found q = record { verdict = goes NoTable some (stops _ (sym agreed ∙ q)); found = tt }
 
     -- they agree
-    pub current-found : (r : Current) (b : Bool) → r.verdict ≡ Go → b ≡ agreeing d g n.at.0 n.sequence g.tables → b ≡ true → n.at.0 < g.sectors → r.at.0 ≡ n.at.0 → r.sequence ≡ n.sequence → r.entries ≡ count_in (sector d n.at.0) → FoundCurrent d g r
+    pub current-found : (k : ℕ) → agreeing d g n.at.0 n.sequence g.tables ≡ true → n.at.0 < g.sectors → k ≡ count_in (sector d n.at.0) → FoundCurrent d g (Ok (record { at = n.at; sequence = n.sequence; entries = k }))
     unfolding current_sequence table_at
-    current-found r b e w q h a s c =
+    current-found k q h c =
         record {
-          verdict = e ∙ goes NoTable (sym told.some ∙ f) (goes CopiesDiffer (sym agreed ∙ sym w ∙ q) refl);
-          place = λ _. rw a h;
-          counted = λ _. ap (counts d g) a ∙ found-counts d g g.tables n is f;
-          table = λ _. ap (table_at d) a ∙ table_is;
-          sequence = λ _. s ∙ told.highest-is;
-          count = λ _. c ∙ sym (table-count (sector d n.at.0)) ∙ as_many;
+          verdict = goes NoTable some (goes CopiesDiffer (sym agreed ∙ q) refl);
+          found = record {
+            place = h;
+            counted = found-counts d g g.tables (Some n) is;
+            table = table_is;
+            sequence = told.highest-is;
+            count = c ∙ sym (table-count (sector d n.at.0)) ∙ as_many;
+          };
         }
       where
         as_many : length (entries (table_at d n.at.0)) ≡ length (entries (current_table d g))

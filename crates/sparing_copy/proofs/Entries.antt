@@ -1,5 +1,6 @@
 -- Laws of the entries of a table by their number: those of a list of numbers, of a sector and of a list of spares. Assumes nothing.
-use Rattle.std.proofs.Common.{◌≡◌, ℕ, zero, suc, ◌+◌, ◌*◌, ◌<◌, ◌≤◌, true, not, List, [], ◌∷◌, length, get_or, drop, sym, refl, ap, ◌∙◌, ap₂, add-one, arith, drop_of_length-le, drop-cons, ne_eqb}
+use Rattle.std.proofs.Common.{◌≡◌, ℕ, zero, suc, ◌+◌, ◌-◌, ◌*◌, ◌<◌, ◌≤◌, true, not, List, [], ◌∷◌, length, get_or, take, drop, sym, refl, ap, ◌∙◌, ap₂, add-one, arith, drop_of_length-le, drop-cons, ne_eqb}
+use Rattle.std.proofs.lemmas.Grind.{common_steps}
 use lib.Seq.{drop-nil}
 use Rattle.fields.specs.Number.{field, words}
 use Rattle.fields.proofs.Laws.{AllBytes, field_below}
@@ -105,3 +106,15 @@ spare-step s i h = spare-next s i h ∙ ap (λ (k : ℕ). record { original = no
 -- none past the last
 pub spare-end : (s : List ℕ) (i : ℕ) → length s ≤ i → drop i (spare_entries s) ≡ []
 spare-end s i h = drop_of_length-le (spare_entries s) {i = i} (omega (arith, length-spares s))
+
+spare-drop : (s : List ℕ) (i : ℕ) → spare_entries (drop i s) ≡ drop i (spare_entries s)
+unfolding spare_entries
+spare-drop s zero = refl
+spare-drop [] (suc i) = refl
+spare-drop (m ∷ s) (suc i) = spare-drop s i
+
+-- those of the spares from one on
+pub spare-tail : (s : List ℕ) (i : ℕ) → spare_entries (take (length s - i) (drop i s)) ≡ drop i (spare_entries s)
+spare-tail s i =
+    let e : take (length s - i) (drop i s) ≡ drop i s = grind (arith, common_steps) in
+    ap spare_entries e ∙ spare-drop s i

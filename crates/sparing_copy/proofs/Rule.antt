@@ -1,5 +1,5 @@
 -- Laws of the copy rule, an entry at a time (document 01, "The sparing table"). Assumes nothing.
-use Rattle.std.proofs.Common.{◌≡◌, ℕ, zero, suc, ◌+◌, ◌*◌, ◌%◌, ◌<◌, ◌≤◌, Bool, true, false, not, ◌&&◌, eqb, ltb, leb, List, [], ◌∷◌, length, drop, sym, refl, ap, ◌∙◌, ap₂, arith, drop-drop, le-ltb, eq-eqb, ne_eqb, le-leb}
+use Rattle.std.proofs.Common.{◌≡◌, ℕ, zero, suc, ◌+◌, ◌*◌, ◌<◌, ◌≤◌, Bool, true, false, not, ◌&&◌, eqb, leb, List, [], ◌∷◌, length, drop, sym, refl, ap, ◌∙◌, arith, drop-drop, eq-eqb, ne_eqb, le-leb}
 use borrow.Author.Tests.{lt-leb, not-true}
 use Rattle.fields.specs.Number.{field}
 use Rattle.fields.specs.Regid.{has_regid}
@@ -8,8 +8,7 @@ use Rattle.fields.proofs.Tests.{fails, holds}
 use Rattle.model.specs.Vat.{none}
 use Rattle.model.specs.Sparing.{Geometry, Entry, defective, is_free, is_defective, is_used, original_fits, originals_fit, may_follow, ascending, apart_from, whole_packet, mapped_of, mapped_fit, original_clear, originals_clear, sparing_name, older_name, entries, entries_fit, count_in, table_in, none_defective, named, copy_fits}
 use Rattle.model.specs.Both.{spare_entries}
-use Rattle.model.proofs.Basics.{and-true, both, and-false, and-false-left, by_bool, by-eq, differ, or_left}
-use Rattle.model.proofs.SparingEntries.{multiple-none, multiple-defective}
+use Rattle.model.proofs.Basics.{and-true, both, and-false, and-false-left, differ, or_left}
 use Rattle.model.proofs.SparingLaws.{table-count, clear-away}
 use Rattle.sparing_copy.specs.Entries.{entries_in, placed, packets_fit}
 use Rattle.sparing_copy.specs.Slots.{inside, none_inside}
@@ -26,32 +25,15 @@ pub and-end : (a : Bool) → a ≡ a && true
 and-end true = refl
 and-end false = refl
 
--- ---- an original
+-- what was found, after one more test: where it holds there is one, and else what was found stays
+module _ (a b t r whole : Bool) (w : (a && not t) && r ≡ whole) where
+  pub scan-found : b ≡ false → t ≡ true → b && r ≡ whole
+  scan-found e q = ap (λ (x : Bool). x && r) (e ∙ sym (and-false a (ap not q))) ∙ w
 
--- one that is a multiple of 32, and so of neither mark
-pub originals-below : (l o : ℕ) → o % 32 ≡ 0 → ltb o l ≡ original_fits l o
-unfolding original_fits
-originals-below l o q = rw (ne_eqb o none (multiple-none o q), ne_eqb o defective (multiple-defective o q), eq-eqb (o % 32) 0 q)
+  pub scan-next : b ≡ a → t ≡ false → b && r ≡ whole
+  scan-next e q = ap (λ (x : Bool). x && r) (e ∙ and-end a ∙ ap (λ (x : Bool). a && x) (sym (ap not q))) ∙ w
 
--- one that is not, nor that of a free spare
-pub originals-odd : (l o : ℕ) → (o % 32 ≡ 0 → ⊥) → (o ≡ 0xffffffff → ⊥) → eqb o 0xfffffff0 ≡ original_fits l o
-unfolding original_fits none defective
-originals-odd l o q e = by_bool (eqb o 0xfffffff0) (λ d. rw (ne_eqb o 0xffffffff e, d)) (λ d. rw (ne_eqb o 0xffffffff e, d, ne_eqb (o % 32) 0 q))
-
--- a defective spare may follow any entry that is not free
-pub after-defective : (o next : ℕ) → next ≡ 0xfffffff0 → not (eqb o 0xffffffff) ≡ may_follow o next
-unfolding may_follow none defective
-after-defective o next e =
-    by-eq o 0xffffffff
-    (λ q. rw (e, q))
-    (λ n. rw (e, ne_eqb o 0xffffffff n))
-
--- a used entry may follow none of its original or a higher one
-pub after-used : (o next : ℕ) → next ≤ o → (next ≡ 0xffffffff → ⊥) → (next ≡ 0xfffffff0 → ⊥) → false ≡ may_follow o next
-unfolding may_follow none defective
-after-used o next l e d = rw (ne_eqb next 0xffffffff e, ne_eqb next 0xfffffff0 d, le-ltb o next l)
-
--- ---- nothing is left
+-- ---- no entry is left
 
 module _ (es : List Entry) (i : ℕ) (h : drop i es ≡ []) where
   pub originals-end : (l : ℕ) → true ≡ originals_fit l (drop i es)
@@ -93,7 +75,7 @@ ascending-end es i h = go (drop i es) (drop-drop 1 i es ∙ h)
     go : (l : List Entry) → drop 1 l ≡ [] → true ≡ ascending l
     go [] q = refl
     go (e ∷ []) q = refl
-    go (e ∷ f ∷ l) q = let z : ◌≡◌ {A = ℕ} 0 1 = cc in absurd (omega arith)
+    go (e ∷ f ∷ l) q = cc
 
 -- ---- the entry e is next
 
@@ -118,49 +100,24 @@ module _ (es : List Entry) (i : ℕ) (e : Entry) (h : drop i es ≡ e ∷ drop (
   unfolding originals_clear
   clear_next s ms r p q = sym (ap (originals_clear s ms) h ∙ rw (← p, q))
 
-  -- whether a holds and the entries left follow a rule: this one does not, or it is up to the others
-  module _ (rule : List Entry → Bool) (a a' whole : Bool) (w : a && rule (drop i es) ≡ whole) where
-    found_here : rule (e ∷ drop (i + 1) es) ≡ false → a' ≡ false → a' && rule (drop (i + 1) es) ≡ whole
-    found_here q r = and-false-left _ r ∙ sym (and-false a (ap rule h ∙ q)) ∙ w
+  -- whether a holds and the entries left follow a rule, which asks t of this one
+  found-next : (rule : List Entry → Bool) (a t whole : Bool) → rule (e ∷ drop (i + 1) es) ≡ t && rule (drop (i + 1) es) → a && rule (drop i es) ≡ whole → (a && t) && rule (drop (i + 1) es) ≡ whole
+  found-next rule a t whole q w = and_assoc a t _ ∙ ap (λ (x : Bool). a && x) (sym (ap rule h ∙ q)) ∙ w
 
-    found-next : rule (e ∷ drop (i + 1) es) ≡ rule (drop (i + 1) es) → a' ≡ a → a' && rule (drop (i + 1) es) ≡ whole
-    found-next q r = ap₂ ◌&&◌ r (sym (ap rule h ∙ q)) ∙ w
-
-  -- whether a holds and none of the entries left is mapped to m
-  module _ (m : ℕ) (a a' whole : Bool) (w : a && absent m (mapped_of (drop i es)) ≡ whole) where
-    -- it is mapped to m
-    pub absent-found : m ≡ e.mapped → a' ≡ false → a' && absent m (mapped_of (drop (i + 1) es)) ≡ whole
-    unfolding absent mapped_of
-    absent-found q = found_here (λ l. absent m (mapped_of l)) a a' whole w (rw (eq-eqb m e.mapped q))
-
-    -- it is not
-    pub absent-next : (m ≡ e.mapped → ⊥) → a' ≡ a → a' && absent m (mapped_of (drop (i + 1) es)) ≡ whole
-    unfolding absent mapped_of
-    absent-next q = found-next (λ l. absent m (mapped_of l)) a a' whole w (rw (ne_eqb m e.mapped q))
+  -- whether a holds and none of the entries left, of which this is mapped to k, is mapped to m
+  pub absent-next : (m k : ℕ) → k ≡ e.mapped → (a whole : Bool) → a && absent m (mapped_of (drop i es)) ≡ whole → (a && not (eqb m k)) && absent m (mapped_of (drop (i + 1) es)) ≡ whole
+  unfolding absent mapped_of
+  absent-next m k s a whole w = found-next (λ l. absent m (mapped_of l)) a (not (eqb m k)) whole (rw s) w
 
   -- whether a holds and none of the entries left, of which this has original o, is defective
-  module _ (o : ℕ) (s : o ≡ e.original) (a a' whole : Bool) (w : a && none_defective (drop i es) ≡ whole) where
-    -- it is
-    pub defective-found : o ≡ 0xfffffff0 → a' ≡ false → a' && none_defective (drop (i + 1) es) ≡ whole
-    unfolding none_defective is_defective defective
-    defective-found q = found_here none_defective a a' whole w (rw (← s, eq-eqb o 0xfffffff0 q))
-
-    -- it is not
-    pub defective-next : (o ≡ 0xfffffff0 → ⊥) → a' ≡ a → a' && none_defective (drop (i + 1) es) ≡ whole
-    unfolding none_defective is_defective defective
-    defective-next q = found-next none_defective a a' whole w (rw (← s, ne_eqb o 0xfffffff0 q))
+  pub defective-next : (o : ℕ) → o ≡ e.original → (a whole : Bool) → a && none_defective (drop i es) ≡ whole → (a && not (eqb o 0xfffffff0)) && none_defective (drop (i + 1) es) ≡ whole
+  unfolding none_defective is_defective defective
+  defective-next o s a whole w = found-next none_defective a (not (eqb o 0xfffffff0)) whole (rw s) w
 
   -- whether a holds and none of the entries left, of which this is mapped to m, is mapped into the partition
-  module _ (s l m : ℕ) (em : m ≡ e.mapped) (a a' whole : Bool) (w : a && none_inside s l (drop i es) ≡ whole) where
-    -- it is
-    pub inside_found : inside s l m ≡ true → a' ≡ false → a' && none_inside s l (drop (i + 1) es) ≡ whole
-    unfolding none_inside
-    inside_found q = found_here (none_inside s l) a a' whole w (rw (← em, q))
-
-    -- it is not
-    pub inside-next : inside s l m ≡ false → a' ≡ a → a' && none_inside s l (drop (i + 1) es) ≡ whole
-    unfolding none_inside
-    inside-next q = found-next (none_inside s l) a a' whole w (rw (← em, q))
+  pub inside-next : (s l m : ℕ) → m ≡ e.mapped → (r a whole : Bool) → r ≡ inside s l m → a && none_inside s l (drop i es) ≡ whole → (a && not r) && none_inside s l (drop (i + 1) es) ≡ whole
+  unfolding none_inside
+  inside-next s l m em r a whole q w = found-next (none_inside s l) a (not r) whole (rw (q, em)) w
 
   -- the rule for it, its place first
   grouped : (g : Geometry) (m : ℕ) → m ≡ e.mapped → mapped_fit g (drop i es) ≡ placed g m && (absent m (mapped_of (drop (i + 1) es)) && mapped_fit g (drop (i + 1) es))
@@ -181,18 +138,20 @@ module _ (es : List Entry) (i : ℕ) (e : Entry) (h : drop i es ≡ e ∷ drop (
   pub mapped_next : (g : Geometry) (m : ℕ) → m ≡ e.mapped → (r a : Bool) → r ≡ placed g m → r ≡ true → a ≡ absent m (mapped_of (drop (i + 1) es)) → a ≡ true → mapped_fit g (drop (i + 1) es) ≡ mapped_fit g (drop i es)
   mapped_next g m s r a p q u v = sym (grouped g m s ∙ rw (← p, q, ← u, v))
 
-  module _ (f : Entry) (k : drop (i + 1) es ≡ f ∷ drop (i + 1 + 1) es) (o p : ℕ) (s : o ≡ e.original) (t : p ≡ f.original) where
-    -- the entry f after it does not follow it
-    pub ascending-off : may_follow o p ≡ false → false ≡ ascending (drop i es)
-    unfolding ascending
-    ascending-off q = sym (ap ascending (h ∙ ap (λ (x : List Entry). e ∷ x) k) ∙ rw (← s, ← t, q))
+-- ---- the entry e is next, and the entry f after it at place j
 
-    -- it does
-    pub ascending-next : may_follow o p ≡ true → ascending (drop (i + 1) es) ≡ ascending (drop i es)
-    unfolding ascending
-    ascending-next q =
-        let w : may_follow e.original f.original ≡ true = rw (← s, ← t) q in
-        ap ascending k ∙ sym (ap ascending (h ∙ ap (λ (x : List Entry). e ∷ x) k) ∙ ap (λ (a : Bool). a && ascending (f ∷ drop (i + 1 + 1) es)) w)
+module _ (es : List Entry) (i j : ℕ) (e f : Entry) (h : drop i es ≡ e ∷ drop j es) (k : drop j es ≡ f ∷ drop (j + 1) es) (o p : ℕ) (s : o ≡ e.original) (t : p ≡ f.original) where
+  -- f does not follow it
+  pub ascending-off : may_follow o p ≡ false → false ≡ ascending (drop i es)
+  unfolding ascending
+  ascending-off q = sym (ap ascending (h ∙ ap (λ (x : List Entry). e ∷ x) k) ∙ rw (← s, ← t, q))
+
+  -- it does
+  pub ascending-next : may_follow o p ≡ true → ascending (drop j es) ≡ ascending (drop i es)
+  unfolding ascending
+  ascending-next q =
+      let w : may_follow e.original f.original ≡ true = rw (← s, ← t) q in
+      ap ascending k ∙ sym (ap ascending (h ∙ ap (λ (x : List Entry). e ∷ x) k) ∙ ap (λ (a : Bool). a && ascending (f ∷ drop (j + 1) es)) w)
 
 -- where entries from a place on do not fit, all do not
 pub mapped-rest : (g : Geometry) (es : List Entry) (i : ℕ) → false ≡ mapped_fit g (drop i es) → false ≡ mapped_fit g es
@@ -205,12 +164,7 @@ mapped-rest g (e ∷ es) (suc i) q =
 -- ---- the packet of an entry, against the packets ms
 
 module _ (s : ℕ) (ms : List ℕ) (e : Entry) where
-  -- of one that is not used
-  pub clear-unused : is_used e ≡ false → true ≡ original_clear s ms e
-  unfolding original_clear
-  clear-unused q = sym (or_left _ (ap not q))
-
-  -- of one that is
+  -- of one that is used
   pub clear-used : is_used e ≡ true → (m : ℕ) → m ≡ s + e.original → (r : Bool) → r ≡ absent m ms → r ≡ original_clear s ms e
   unfolding original_clear
   clear-used q m w r p = rw (q, ← w) p

@@ -14,11 +14,6 @@ pub holds-several : (held m : ℕ) → held ≡ 1 → true ≡ may_hold held m
 unfolding may_hold
 holds-several held m e = sym (or_left _ (eq-eqb held 1 e))
 
--- it was given one at most
-pub holds-one : (held m t : ℕ) → held ≢ 1 → t ≡ tag_of m → eqb held t ≡ may_hold held m
-unfolding may_hold
-holds-one held m t n e = rw (ne_eqb held 1 n) (ap (eqb held) e)
-
 -- it was given none
 pub holds-none : (held m : ℕ) → held ≡ 0 → may_hold held m ≡ false
 unfolding may_hold

@@ -1,3 +1,4 @@
-pub mod Layout
+pub mod Tables
 pub mod Entries
+pub mod Layout
 pub mod Slots

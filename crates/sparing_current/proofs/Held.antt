@@ -35,7 +35,7 @@ start-asks s b q h = (omega (arith, packet-multiple b), omega (arith, packet-bel
 
 -- ---- what the common tests tell of them
 
-module _ (e : Setting) (d : Disc) (t : List ℕ) (lent : Bool) (held : Record) (h : Common e d t lent held) where
+module _ {e : Setting} {d : Disc} {t : List ℕ} {lent : Bool} {held : Record} (h : Common e d t lent held) where
   -- R
   pub count_held_law : count_held held ≡ count_on e d
   unfolding count_held

@@ -1,4 +1,3 @@
 pub mod Laws
 pub mod Looks
 pub mod Held
-pub mod Judging

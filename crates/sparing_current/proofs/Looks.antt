@@ -1,185 +1,183 @@
 -- Laws of looking and judging: one for each way on or out. Assumes nothing.
-use Prim.Native.Nat.{ℕ, ◌*◌, ◌≤◌}
+use Prim.Native.Nat.{ℕ, ◌+◌, ◌*◌, ◌≤◌, ◌<◌}
 use mathlib.Core.Bool.{Bool, true, false, not}
 use mathlib.Core.Path.{◌≡◌, sym, ap, subst, ◌∙◌}
-use mathlib.Core.List.{List, [], ◌∷◌}
+use mathlib.Core.List.{List, []}
 use native.Mathlib.Omega.{arith}
 use lib.ListN.{length, take, length-take}
+use Rattle.std.specs.Prelude.{Ok, Err, Result}
+use Rattle.std.proofs.lemmas.Result.{IfOk-from_err}
 use Rattle.refusal.specs.declared.Refusal.{Refusal}
 use Rattle.refusal.specs.declared.Refusal.TheVariants.{OtherKind, StaleRecord}
-use Rattle.refusal.specs.declared.Verdict.{Verdict}
-use Rattle.refusal.specs.declared.Verdict.TheVariants.{Go, Stop}
-use Rattle.refusal.proofs.Laws.{stop-go}
-use Rattle.refusal.specs.Tests.{test, first, and_then}
+use Rattle.refusal.specs.Verdict.{Verdict, verdict_of}
 use Rattle.maps.specs.declared.Kind.TheVariants.{WriteOnce, Rewritable}
 use Rattle.maps.specs.declared.Volume.{Volume}
 use Rattle.maps.proofs.Laws.{read-fine}
 use Rattle.model.specs.declared.Record.{Record}
 use Rattle.model.specs.Disc.{Disc, sector}
 use Rattle.model.specs.Sparing.{Geometry, ground_of, entries, count_in, table_at}
-use Rattle.model.specs.Examine.{Setting, volume, write_once, geometry, all_outside}
-use Rattle.model.specs.Rewrite.{table_on, entries_on, sequence_on, count_on, copy_tests, held_current, rewritable_verdict}
-use Rattle.model.proofs.Sectors.{shapely-made, shapely-most}
+use Rattle.model.specs.Examine.{Setting, volume, geometry, all_outside}
+use Rattle.model.specs.Rewrite.{table_on, entries_on, count_on, copy_tests, held_current}
+use Rattle.model.proofs.Sectors.{shapely-most}
 use Rattle.model.proofs.Verdicts.{stop-test, next-test}
 use Rattle.model.proofs.Ground.{Ground, ground}
 use Rattle.model.proofs.SparingLaws.{table-count}
-use Rattle.sparing_copy.specs.declared.Layout.{Layout}
+use Rattle.sparing_copy.specs.declared.shapes.Layout.{Layout}
+use Rattle.sparing_copy.specs.Layout.{geometry_in}
+use Rattle.sparing_copy.specs.Tables.{TablesOn}
 use Rattle.sparing_copies.specs.declared.Current.{Current}
-use Rattle.sparing_copy.specs.Layout.{geometry_in, TablesOn}
-use Rattle.sparing_copies.specs.Copies.{FoundCurrent}
+use Rattle.sparing_copies.specs.Copies.{FoundCurrent, copy_verdict}
 use Rattle.sparing_copy.proofs.Laws.{tables-on}
-use Rattle.examine.specs.declared.Examined.{Examined}
 use Rattle.examine.specs.Ground.{examined_of}
-use Rattle.examine.proofs.Laws.{seen-verdict, seen-tells, seen-volume, seen-once, seen-rewritable, seen_few, seen-geometry}
+use Rattle.examine.proofs.Laws.{seen-stops, seen-goes, seen-tells, seen-volume, seen-once, seen-rewritable, seen_few, seen-geometry}
 use Rattle.sparing_current.specs.declared.Looked.{Looked}
-use Rattle.sparing_current.specs.declared.Judged.{Judged}
-use Rattle.sparing_current.specs.Looked.{look_verdict, Sees, Judges}
-use Rattle.sparing_current.proofs.Laws.{Whole, whole, look-held}
+use Rattle.sparing_current.specs.Looked.{layout_verdict, look_verdict, LaidOut, LaysOut, Sees, Judges}
+use Rattle.sparing_current.proofs.Laws.{Whole, whole, Tabled, tabled, look-held, look-laid, stopped, passed_on}
 
--- ---- looking
+-- ---- the layout; r is the answer of the examination
+
+module _ (e : Setting) (d : Disc) (lent : Bool) {r : Result Volume Refusal} (q : r ≡ examined_of e d lent) where
+  -- lines 1 to 6
+  pub lay-examined : {x : Result Layout Refusal} {why : Refusal} → r ≡ Err why → x ≡ Err why → LaysOut e d lent x
+  unfolding layout_verdict
+  lay-examined {x} h s = record { verdict = stopped _ _ (sym (seen-stops e d lent q h)) s; layout = IfOk-from_err x _ (rw s) }
+
+  module _ {v : Volume} (h : r ≡ Ok v) where
+    -- line 7
+    pub lay-other : {p : ℕ} → v.kind ≡ WriteOnce p → LaysOut e d lent (Err OtherKind)
+    unfolding layout_verdict
+    lay-other is =
+        record {
+          verdict = passed_on _ _ (sym (seen-goes e d lent q h)) (sym (stop-test OtherKind [] (ap not (seen-once e d lent q h is))));
+          layout = tt;
+        }
+
+    -- the disc has not too many sectors
+    pub lay-most : length d.marks ≤ 1048576
+    lay-most = shapely-most d (seen-tells e d lent q h).shape
+
+    module _ {p n size : ℕ} (is : v.kind ≡ Rewritable p n size) where
+      lies : Ground e (geometry e d)
+      lies = ground e d lent (seen-rewritable e d lent q h is) (seen-tells e d lent q h)
+
+      four : length v.tables ≡ 4
+      unfolding volume
+      four = ap (λ (w : Volume). length w.tables) (seen-volume e d lent q h) ∙ (read-fine e.maps (seen-tells e d lent q h).maps).places
+
+      few : n ≤ 4
+      few = seen_few e d lent q h is
+
+      -- what a layout has to be
+      pub lay-sound : (n ≤ 4) × (size ≤ 2048) × TablesOn v.tables n (length d.marks)
+      lay-sound =
+          let g = seen-geometry e d lent q h is in (
+            few,
+            omega (arith, ap (λ (y : Geometry). y.size) g, lies.size),
+            tables-on (ground_of e.start e.span (length d.marks) (take n v.tables) size) v.tables n (omega (arith, few, four))
+                (ap (λ (y : Geometry). all_outside y y.tables) (sym g) ∙ lies.outside),
+          )
+
+      -- none of the lines, and x is the layout of the volume
+      pub lay-fits : {x : Layout} → x.volume ≡ v → x.sectors ≡ length d.marks → x.count ≡ n → x.size ≡ size → LaysOut e d lent (Ok x)
+      unfolding layout_verdict
+      lay-fits {x} of on count each =
+          let g = seen-geometry e d lent q h is in
+          let w = of ∙ seen-volume e d lent q h in
+          let is_same : geometry_in x ≡ ground_of e.start e.span (length d.marks) (take n v.tables) size =
+          rw (on, count, each, of, seen-volume e d lent q h) in
+          record {
+            verdict = passed_on _ _ (sym (seen-goes e d lent q h)) (sym (next-test OtherKind [] (ap not (seen-rewritable e d lent q h is))));
+            layout =
+                record {
+                  same = is_same ∙ sym g;
+                  copies = count ∙ omega (arith, length-take n v.tables, few, four, ap (λ (y : Geometry). length y.tables) g);
+                };
+          }
+
+-- ---- a layout that was laid out has the volume's S and L and the sectors of the disc
+
+module _ {e : Setting} {d : Disc} {x : Layout} (l : LaidOut e d x) where
+  pub span-start : x.volume.span.start ≡ e.start
+  unfolding geometry
+  span-start = ap (λ (g : Geometry). g.start) l.same
+
+  pub span-length : x.volume.span.length ≡ e.span
+  unfolding geometry
+  span-length = ap (λ (g : Geometry). g.span) l.same
+
+  pub sectors-are : x.sectors ≡ length d.marks
+  unfolding geometry
+  sectors-are = ap (λ (g : Geometry). g.sectors) l.same
+
+-- ---- looking; x is the layout
 
 module _ (e : Setting) (d : Disc) (lent : Bool) where
-  -- what is found where a line turns the disc down
-  look-stopped : {x : Looked} {why : Refusal} → x.verdict ≡ Stop why → look_verdict e d lent ≡ Stop why → Sees e d lent x
-  look-stopped s h =
-      record {
-        verdict = s ∙ sym h;
-        layout = λ g. stop-go s g;
-        copies = λ g. stop-go s g;
-        place = λ g. stop-go s g;
-        counted = λ g. stop-go s g;
-        table = λ g. stop-go s g;
-        sequence = λ g. stop-go s g;
-        count = λ g. stop-go s g;
-      }
+  -- lines 1 to 7
+  pub look-stopped : {r : Result Looked Refusal} {why : Refusal} → LaysOut e d lent (Err why) → r ≡ Err why → Sees e d lent r
+  look-stopped {r} x s = record { verdict = stopped _ _ x.verdict s ∙ sym (look-laid e d lent); found = IfOk-from_err r _ (rw s) }
 
-  -- r is the answer of the examination
-  module _ {r : Examined} (q : r ≡ examined_of e d lent) where
-    -- lines 1 to 6
-    pub look-examined : {x : Looked} {why : Refusal} → r.verdict ≡ Stop why → x.verdict ≡ Stop why → Sees e d lent x
-    unfolding look_verdict
-    look-examined h s =
-        look-stopped s (ap (λ (v : Verdict). and_then v (first (test (not (write_once e)) OtherKind ∷ copy_tests e d))) (seen-verdict e d lent q ∙ h))
+  module _ {x : Layout} (l : LaysOut e d lent (Ok x)) where
+    -- what they tell
+    look-whole : Whole e d lent
+    look-whole = whole e d lent (sym l.verdict)
 
-    module _ (h : r.verdict ≡ Go) where
-      after : look_verdict e d lent ≡ first (test (not (write_once e)) OtherKind ∷ copy_tests e d)
-      unfolding look_verdict
-      after = ap (λ (v : Verdict). and_then v (first (test (not (write_once e)) OtherKind ∷ copy_tests e d))) (seen-verdict e d lent q ∙ h)
+    -- what is asked of the layout
+    pub look-asks : (length d.bytes ≡ 2048 * length d.marks) × (x.sectors ≡ length d.marks)
+    look-asks = (look-whole.shape, sectors-are l.layout)
 
-      -- line 7
-      pub look-other : {x : Looked} {p : ℕ} → r.volume.kind ≡ WriteOnce p → x.verdict ≡ Stop OtherKind → Sees e d lent x
-      look-other is s = look-stopped s (after ∙ stop-test OtherKind (copy_tests e d) (ap not (seen-once e d lent q h is)))
+    -- the current table of the disc is that of its geometry
+    found-on : {f : Result Current Refusal} → FoundCurrent d (geometry_in x) f → FoundCurrent d (geometry e d) f
+    found-on {f} = subst (λ (g : Geometry). FoundCurrent d g f) l.layout.same
 
-      -- the disc has not too many sectors
-      pub look-most : length d.marks ≤ 1048576
-      look-most = shapely-most d (seen-tells e d lent q h).shape
+    lines : {v : Verdict} → v ≡ copy_verdict d (geometry e d) → v ≡ look_verdict e d lent
+    unfolding copy_tests table_on
+    lines v = passed_on _ _ l.verdict v ∙ sym (look-laid e d lent)
 
-      -- x is the layout of the volume
-      module _ {p n size : ℕ} (is : r.volume.kind ≡ Rewritable p n size) (x : Layout) (lay : geometry_in x ≡ ground_of r.volume.span.start r.volume.span.length (length d.marks) (take n r.volume.tables) size) (count : x.count ≡ n) where
-        -- it has the geometry of the disc
-        pub layout_is : geometry_in x ≡ geometry e d
-        layout_is =
-            lay
-            ∙ ap (λ (v : Volume). ground_of v.span.start v.span.length (length d.marks) (take n r.volume.tables) size) (seen-volume e d lent q h)
-            ∙ sym (seen-geometry e d lent q h is)
+    -- lines 8 and 10
+    pub look-copies : {r : Result Looked Refusal} {why : Refusal} → FoundCurrent d (geometry_in x) (Err why) → r ≡ Err why → Sees e d lent r
+    look-copies {r} f s = record { verdict = lines (ap verdict_of s ∙ (found-on f).verdict); found = IfOk-from_err r _ (rw s) }
 
-        lies : Ground e (geometry e d)
-        lies = ground e d lent (seen-rewritable e d lent q h is) (seen-tells e d lent q h)
-
-        places : length r.volume.tables ≡ 4
-        unfolding volume
-        places = ap (λ (v : Volume). length v.tables) (seen-volume e d lent q h) ∙ (read-fine e.maps (seen-tells e d lent q h).maps).places
-
-        few : n ≤ 4
-        few = seen_few e d lent q h is
-
-        names : length (take x.count x.volume.tables) ≡ n
-        names =
-            let long = ap (λ (g : Geometry). length g.tables) lay in
-            omega (arith, long, length-take n r.volume.tables, places, few)
-
-        -- it names as many tables as the volume has
-        pub copies-are : x.count ≡ length (geometry e d).tables
-        copies-are = count ∙ sym names ∙ ap (λ (g : Geometry). length g.tables) layout_is
-
-        on : TablesOn x
-        on =
-            tables-on x (omega (arith, names, count, length-take x.count x.volume.tables))
-            (ap (λ (g : Geometry). all_outside g g.tables) layout_is ∙ lies.outside)
-
-        -- what is asked of it
-        pub look-layout : (x.count ≤ 4) × (x.size ≤ 2048) × (length d.bytes ≡ 2048 * length d.marks) × (x.sectors ≡ length d.marks) × TablesOn x
-        unfolding geometry
-        look-layout = (
-          omega (arith, few, count),
-          omega (arith, ap (λ (g : Geometry). g.size) layout_is, lies.size),
-          (shapely-made d (seen-tells e d lent q h).shape).sized,
-          ap (λ (g : Geometry). g.sectors) layout_is,
-          on,
-        )
-
-        -- lines 8 and 10, and the current table
-        pub look-found : {f : Current} → FoundCurrent d (geometry_in x) f → Sees e d lent (record { verdict = f.verdict; layout = x; at = f.at; sequence = f.sequence; entries = f.entries })
-        unfolding copy_tests table_on entries_on sequence_on count_on geometry
-        look-found {f} found =
-            let g = subst (λ (y : Geometry). FoundCurrent d y f) layout_is found in
-            record {
-              verdict = g.verdict ∙ sym (after ∙ next-test OtherKind (copy_tests e d) (ap not (seen-rewritable e d lent q h is)));
-              layout = λ _. layout_is;
-              copies = λ _. copies-are;
-              place = g.place;
-              counted = g.counted;
-              table = g.table;
-              sequence = g.sequence;
-              count = g.count;
-            }
-
--- the entries that the sector found has
-pub look-count : (e : Setting) (d : Disc) (lent : Bool) {x : Looked} → Sees e d lent x → x.verdict ≡ Go → x.entries ≡ count_in (sector d x.at.0)
-unfolding count_on entries_on table_at
-look-count e d lent {x} s h =
-    s.count h ∙ sym (ap (λ (l : List ℕ). length (entries l)) (s.table h)) ∙ table-count (sector d x.at.0)
+    -- none of the lines
+    pub look-found : {f : Current} → FoundCurrent d (geometry_in x) (Ok f) → Sees e d lent (Ok (record { layout = x; current = f }))
+    look-found f = record { verdict = lines (found-on f).verdict; found = record { layout = l.layout; current = (found-on f).found } }
 
 -- ---- judging; x is what was found
 
-module _ (e : Setting) (d : Disc) (t : List ℕ) (lent : Bool) (held : Record) {x : Looked} (s : Sees e d lent x) where
-  -- what a call is judged to be where a line turns it down
-  judge-stopped : {r : Judged} {why : Refusal} → r.verdict ≡ Stop why → rewritable_verdict e d t lent held [] ≡ Stop why → Judges e d t lent held r
-  judge-stopped k h =
-      record {
-        verdict = k ∙ sym h;
-        layout = λ g. stop-go k g;
-        copies = λ g. stop-go k g;
-        place = λ g. stop-go k g;
-        counted = λ g. stop-go k g;
-      }
+module _ {e : Setting} {d : Disc} {lent : Bool} {x : Looked} (s : Sees e d lent (Ok x)) where
+  -- what lines 1 to 8 and 10 tell
+  pub look-tells : Tabled e d lent
+  look-tells = tabled e d lent (sym s.verdict)
 
+  -- the sector found is one of the disc
+  pub look-place : (2048 * x.current.at.0 + 2048 ≤ length d.bytes) × (x.current.at.0 < 1048576)
+  unfolding geometry
+  look-place =
+      let w = look-tells.whole in
+      (omega (arith, s.found.current.place, w.shape), omega (arith, s.found.current.place, w.few))
+
+  -- its entries lie in it
+  pub look-count : x.current.entries ≡ count_in (sector d x.current.at.0)
+  unfolding table_at
+  look-count =
+      s.found.current.count ∙ sym (ap (λ (l : List ℕ). length (entries l)) s.found.current.table) ∙ table-count (sector d x.current.at.0)
+
+  pub look-short : 56 + 8 * x.current.entries ≤ 2048
+  unfolding count_on entries_on table_on
+  look-short = omega (arith, s.found.current.count, look-tells.short)
+
+module _ (e : Setting) (d : Disc) (t : List ℕ) (lent : Bool) (held : Record) where
   -- lines 1 to 8 and 10
-  pub judge-looked : {r : Judged} {why : Refusal} → x.verdict ≡ Stop why → r.verdict ≡ Stop why → Judges e d t lent held r
-  judge-looked h k =
-      judge-stopped k (look-held e d t lent held ∙ ap (λ (v : Verdict). and_then v (first (test (held_current e d t held) StaleRecord ∷ []))) (sym s.verdict ∙ h))
+  pub judge-looked : {r : Result Looked Refusal} {why : Refusal} → Sees e d lent (Err why) → r ≡ Err why → Judges e d t lent held r
+  judge-looked {r} x s = record { verdict = stopped _ _ x.verdict s ∙ sym (look-held e d t lent held); found = IfOk-from_err r _ (rw s) }
 
-  module _ (h : x.verdict ≡ Go) where
-    -- what they tell
-    pub judge-whole : Whole e d lent
-    judge-whole = whole e d lent (sym s.verdict ∙ h)
+  -- b says whether the record goes with the current table
+  module _ {x : Looked} (s : Sees e d lent (Ok x)) {b : Bool} (q : b ≡ held_current e d t held) where
+    -- line 11
+    pub judge-stale : b ≡ false → Judges e d t lent held (Err StaleRecord)
+    judge-stale f =
+        record { verdict = passed_on _ _ s.verdict (sym (stop-test StaleRecord [] (sym q ∙ f))) ∙ sym (look-held e d t lent held); found = tt }
 
-    line-eleven : rewritable_verdict e d t lent held [] ≡ first (test (held_current e d t held) StaleRecord ∷ [])
-    line-eleven = look-held e d t lent held ∙ ap (λ (v : Verdict). and_then v (first (test (held_current e d t held) StaleRecord ∷ []))) (sym s.verdict ∙ h)
-
-    -- b says whether the record goes with the current table
-    module _ {b : Bool} (q : b ≡ held_current e d t held) where
-      -- line 11
-      pub judge-stale : {r : Judged} → b ≡ false → r.verdict ≡ Stop StaleRecord → Judges e d t lent held r
-      judge-stale f k = judge-stopped k (line-eleven ∙ stop-test StaleRecord [] (sym q ∙ f))
-
-      -- none of the lines
-      pub judge-fits : b ≡ true → Judges e d t lent held (record { verdict = Go; layout = x.layout; at = x.at })
-      judge-fits f =
-          record {
-            verdict = sym (line-eleven ∙ next-test StaleRecord [] (sym q ∙ f));
-            layout = λ _. s.layout h;
-            copies = λ _. s.copies h;
-            place = λ _. s.place h;
-            counted = λ _. s.counted h;
-          }
+    -- none of the lines
+    pub judge-fits : b ≡ true → Judges e d t lent held (Ok x)
+    judge-fits f =
+        record { verdict = passed_on _ _ s.verdict (sym (next-test StaleRecord [] (sym q ∙ f))) ∙ sym (look-held e d t lent held); found = s.found }

@@ -2,41 +2,39 @@
 -- nothing.
 use Prim.Native.Nat.{ℕ, ◌+◌, ◌*◌, ◌≤◌, ◌<◌}
 use mathlib.Core.Bool.{Bool, true, false, not, ◌&&◌}
-use mathlib.Core.Path.{◌≡◌, refl, sym, ap, ap₂, ◌∙◌}
+use mathlib.Core.Path.{◌≡◌, refl, sym, ap, ◌∙◌}
 use mathlib.Core.List.{List, [], ◌∷◌}
 use native.Mathlib.Omega.{arith}
-use borrow.Author.Tests.{ltb-true, leb-true}
+use borrow.Author.Tests.{ltb-true, leb-true, lt-ltb, le-ltb}
 use lib.Dec.{ltb}
 use lib.ListN.{length}
+use Rattle.std.specs.Prelude.{Ok, Err, Result}
+use Rattle.std.proofs.lemmas.Result.{IfOk-from_err}
 use Rattle.refusal.specs.declared.Refusal.{Refusal}
 use Rattle.refusal.specs.declared.Refusal.TheVariants.{NumberOutside, BelongsToSpare}
-use Rattle.refusal.specs.declared.Verdict.{Verdict}
-use Rattle.refusal.specs.declared.Verdict.TheVariants.{Go, Stop}
-use Rattle.refusal.specs.Number.{verdict_number}
+use Rattle.refusal.specs.Verdict.{Verdict, verdict_of, answered}
+use Rattle.refusal.specs.Number.{answer_number}
 use Rattle.refusal.specs.Tests.{Test, test, first, and_then}
-use Rattle.refusal.proofs.Laws.{stop-go, passed, asked-after}
+use Rattle.refusal.proofs.Laws.{goes, stops, passed, asked-after, answered-same, answered-number}
 use Rattle.address.specs.declared.LogicalAddress.{LogicalAddress}
 use Rattle.address.specs.declared.PhysicalAddress.{PhysicalAddress}
 use Rattle.address.specs.declared.Span.{Span}
-use Rattle.address.specs.declared.ToPhysical.{ToPhysical}
-use Rattle.address.specs.Translation.{unless_physical}
-use Rattle.address.specs.Told.{physical_number}
 use Rattle.model.specs.declared.Record.{Record}
 use Rattle.model.specs.Disc.{Disc}
 use Rattle.model.specs.Sparing.{Entry, packet_of, of_spare, locate}
-use Rattle.model.specs.Examine.{Setting, geometry, lent_table}
-use Rattle.model.specs.Rewrite.{rewritable_verdict, place_of, block_test, spare_test, packet_verdict, packet_physical}
+use Rattle.model.specs.Examine.{Setting, lent_table}
+use Rattle.model.specs.Rewrite.{rewritable_verdict, place_of, block_test, spare_test, packet_verdict, packet_physical, packet_tests}
 use Rattle.model.proofs.Basics.{and-true}
-use Rattle.model.proofs.SparesInside.{thirty-after-twelve}
 use Rattle.model.proofs.Verdicts.{then-go}
-use Rattle.sparing_copy.specs.declared.Layout.{Layout}
-use Rattle.sparing_copy.specs.Layout.{geometry_in}
+use Rattle.model.proofs.SparingLaws.{packet-own}
+use Rattle.sparing_current.specs.declared.Looked.{Looked}
+use Rattle.sparing_current.specs.Looked.{Judges}
 use Rattle.sparing_current.specs.Held.{count_held, entries_lent}
 use Rattle.sparing_current.proofs.Laws.{Common, common, rewritable-own, rewritable-stops, rewritable-goes}
-use Rattle.sparing_current.proofs.Held.{room-held, place-lent, spare-lent, place-on}
-use Rattle.sparing_current.proofs.Judging.{span-start, span-length}
-use Rattle.sparing_place.specs.declared.Placed.{Placed}
-use Rattle.sparing_place.specs.Placed.{PlacedAs, verdict_of, sector_in}
+use Rattle.sparing_current.proofs.Looks.{span-start, span-length}
+use Rattle.sparing_current.proofs.Held.{room-held, entries-lent, place-lent, place-on}
+use Rattle.sparing_place.specs.Placed.{PlacedAs, Places, PlacesPacket, JudgesStart}
+use Rattle.sparing_place.proofs.Packets.{as_lines, packet-tells}
 
 -- ---- the lent table
 
@@ -45,153 +43,170 @@ pub table-lent : (t : List ℕ) (b : Bool) {x : Bool} → x ≡ (lent_table t &&
 unfolding lent_table
 table-lent t b h q = leb-true 4096 (length t) (and-true (lent_table t) b (sym h ∙ q)).0
 
--- ---- a call's own tests after the common ones; x is what the test of the lent lengths did, w what the common tests said
+-- ---- a call's own tests after the common ones
 
-module _ (e : Setting) (d : Disc) (t : List ℕ) (lent : Bool) (held : Record) (own : List Test) {x : Bool} {w : Verdict} (is : x ≡ lent) (says : w ≡ rewritable_verdict e d t x held []) where
-  -- the verdict of the common tests
-  common-verdict : rewritable_verdict e d t lent held [] ≡ w
-  common-verdict = sym (says ∙ ap (λ (b : Bool). rewritable_verdict e d t b held []) is)
+module _ {e : Setting} {d : Disc} {t : List ℕ} {lent : Bool} {held : Record} where
+  -- what stops the common tests stops the call
+  pub stops_call : (own : List Test) {why : Refusal} → Judges e d t lent held (Err why) → Err why ≡ rewritable_verdict e d t lent held own
+  stops_call own j = sym (rewritable-stops e d t lent held own (sym j.verdict))
 
-  -- they stop it
-  pub stops_call : {why : Refusal} → w ≡ Stop why → Stop why ≡ rewritable_verdict e d t lent held own
-  stops_call h = sym (rewritable-stops e d t lent held own (common-verdict ∙ h))
+  -- x is what was found where they let it go on
+  module _ {x : Looked} (j : Judges e d t lent held (Ok x)) where
+    -- what they tell
+    pub going : Common e d t lent held
+    going = common e d t lent held (sym j.verdict)
 
-  -- they let it go on, and its own decide
-  pub goes-call : {u : Verdict} → w ≡ Go → u ≡ first own → u ≡ rewritable_verdict e d t lent held own
-  goes-call h f = f ∙ sym (rewritable-goes e d t lent held own (common-verdict ∙ h))
+    -- the call's own tests decide
+    pub goes-call : (own : List Test) {u : Verdict} → u ≡ first own → u ≡ rewritable_verdict e d t lent held own
+    goes-call own f = f ∙ sym (rewritable-goes e d t lent held own (sym j.verdict))
+
+    -- room for the entries, and a small sum, as a translation asks
+    pub translation-asks : (2 * count_held held ≤ length t) × (x.layout.volume.span.start + x.layout.volume.span.length < 4294967296)
+    translation-asks = (room-held going, omega (arith, going.span, going.few, span-start j.found.layout, span-length j.found.layout))
 
 -- where nothing stops a call, neither did the common tests, nor did its own
-pub going-all : (e : Setting) (d : Disc) (t : List ℕ) (lent : Bool) (held : Record) (own : List Test) → rewritable_verdict e d t lent held own ≡ Go → Common e d t lent held × (first own ≡ Go)
+pub going-all : (e : Setting) (d : Disc) (t : List ℕ) (lent : Bool) (held : Record) (own : List Test) → rewritable_verdict e d t lent held own ≡ Ok tt → Common e d t lent held × (first own ≡ Ok tt)
 going-all e d t lent held own h =
     let p = then-go (rewritable_verdict e d t lent held []) (first own) (sym (rewritable-own e d t lent held own) ∙ h) in
     (common e d t lent held p.0, p.1)
 
--- ---- the translation of a block by the sparing entries
-
--- its verdict
-verdict-of : (v : Verdict) (p : PhysicalAddress) → verdict_of (unless_physical v p) ≡ v
-unfolding verdict_of
-verdict-of Go p = refl
-verdict-of (Stop why) p = refl
-
--- its sector where nothing stops it
-sector-in : (v : Verdict) (p : PhysicalAddress) → verdict_of (unless_physical v p) ≡ Go → sector_in (unless_physical v p) ≡ p.0
-unfolding verdict_of sector_in
-sector-in Go p h = refl
-sector-in (Stop why) p h = stop-go refl h
-
--- and its number
-number_of : (v : Verdict) (p : PhysicalAddress) → physical_number (unless_physical v p) ≡ verdict_number v
-number_of Go p = refl
-number_of (Stop why) p = refl
-
-physical-number : (s : Span) (es : List Entry) (b : LogicalAddress) {r : ToPhysical} → r ≡ packet_physical s es b → physical_number r ≡ verdict_number (packet_verdict s es b)
-unfolding packet_physical
-physical-number s es b q = ap physical_number q ∙ number_of (packet_verdict s es b) _
+-- ---- lines 12 and 30 of a block, by the sparing entries
 
 module _ (s : Span) (es : List Entry) (b : LogicalAddress) where
-  -- it ends there, and tells the number of its verdict
-  abbrev Ends : ToPhysical → Type 0
-  Ends r = (r ≡ packet_physical s es b) × (physical_number r ≡ verdict_number (packet_verdict s es b))
-
   -- there is no block b
-  pub ends-outside : s.length ≤ b.0 → Ends (ToPhysical.Refused NumberOutside)
-  ends-outside h = let q = sym ((thirty-after-twelve.translation s es b).0 h) in (q, physical-number s es b q)
+  pub number-outside : s.length ≤ b.0 → Err NumberOutside ≡ packet_verdict s es b
+  unfolding packet_verdict
+  number-outside h = stops _ (le-ltb b.0 s.length h)
 
   -- u tells whether it belongs to a spare
   module _ (low : b.0 < s.length) {u : Bool} (is : u ≡ of_spare s.start es b.0) where
     -- it does
-    pub ends-spared : u ≡ true → Ends (ToPhysical.Refused BelongsToSpare)
-    ends-spared h = let q = sym ((thirty-after-twelve.translation s es b).1 low (sym is ∙ h)) in (q, physical-number s es b q)
+    pub number-spared : u ≡ true → Err BelongsToSpare ≡ packet_verdict s es b
+    unfolding packet_verdict
+    number-spared h = goes _ (lt-ltb b.0 s.length low) (stops _ (ap not (sym is ∙ h)))
 
-    -- it does not, and its packet is at p
-    pub ends_at : u ≡ false → {p : PhysicalAddress} → p.0 ≡ locate s.start es (packet_of b.0) → Ends (ToPhysical.At p)
-    ends_at h at =
-        let q = ap (λ (n : ℕ). ToPhysical.At (record { 0 = n })) at ∙ sym ((thirty-after-twelve.translation s es b).2 low (sym is ∙ h)) in
-        (q, physical-number s es b q)
+    -- it does not
+    pub number-fits : u ≡ false → (Ok tt) ≡ packet_verdict s es b
+    unfolding packet_verdict
+    number-fits h = goes _ (lt-ltb b.0 s.length low) (goes _ (ap not (sym is ∙ h)) refl)
 
--- what it asks: room for the entries, and a small sum
-pub translation-asks : (e : Setting) (d : Disc) (t : List ℕ) (lent : Bool) (held : Record) (x : Layout) → Common e d t lent held → geometry_in x ≡ geometry e d
-    → (2 * count_held held ≤ length t) × (x.volume.span.start + x.volume.span.length < 4294967296)
-translation-asks e d t lent held x h q = (room-held e d t lent held h, omega (arith, h.span, h.few, span-start e d x q, span-length e d x q))
+  -- where none of them applies, b is below L
+  pub number-tells : Ok tt ≡ packet_verdict s es b → b.0 < s.length
+  unfolding packet_verdict
+  number-tells h = ltb-true b.0 s.length (passed (test (ltb b.0 s.length) NumberOutside ∷ test (not (of_spare s.start es b.0)) BelongsToSpare ∷ []) (sym h)).0
 
--- by the volume of a call that lines 1 to 8, 10 and 11 let pass
-module _ (e : Setting) (d : Disc) (t : List ℕ) (lent : Bool) (held : Record) (x : Layout) (h : Common e d t lent held) (q : geometry_in x ≡ geometry e d) (b : LogicalAddress)
-    {to : ToPhysical} (is : to ≡ packet_physical x.volume.span (entries_lent t held) b) where
-  abbrev span : Span
-  span = x.volume.span
+  -- ---- the translation: it tells the number of its verdict
 
-  -- its lines are 12 and 30 of the call
-  lines_are : packet_verdict span (entries_lent t held) b ≡ first (block_test e b.0 ∷ spare_test e d b.0 ∷ [])
-  unfolding packet_verdict block_test spare_test
-  lines_are =
-      ap₂ (λ (m n : Bool). first (test m NumberOutside ∷ test (not n) BelongsToSpare ∷ []))
-      (ap (λ (l : ℕ). ltb b.0 l) (span-length e d x q))
-      (ap (λ (s : ℕ). of_spare s (entries_lent t held) b.0) (span-start e d x q) ∙ spare-lent e d t lent held h b.0)
+  abbrev Ends : Result PhysicalAddress Refusal → Type 0
+  Ends r = (r ≡ packet_physical s es b) × (answer_number r ≡ answer_number (packet_verdict s es b))
 
-  pub translated : verdict_of to ≡ first (block_test e b.0 ∷ spare_test e d b.0 ∷ [])
+  ends : {r : Result PhysicalAddress Refusal} → r ≡ packet_physical s es b → Ends r
   unfolding packet_physical
-  translated = ap verdict_of is ∙ verdict-of _ _ ∙ lines_are
+  ends q = (q, ap answer_number q ∙ answered-number (packet_verdict s es b) _)
 
-  -- and its sector that of the packet
-  pub translated-at : verdict_of to ≡ Go → sector_in to ≡ place_of e d (packet_of b.0)
+  -- a line turns it down
+  pub ends-stopped : {why : Refusal} {r : Result PhysicalAddress Refusal} → Err why ≡ packet_verdict s es b → r ≡ Err why → Ends r
   unfolding packet_physical
-  translated-at g =
-      ap sector_in is
-      ∙ sector-in (packet_verdict span (entries_lent t held) b) _ (sym (ap verdict_of is) ∙ g)
-      ∙ ap (λ (s : ℕ). locate s (entries_lent t held) (packet_of b.0)) (span-start e d x q)
-      ∙ place-lent e d t lent held h b.0
+  ends-stopped v q = ends (q ∙ answered-same _ v)
+
+  -- none does, and the packet is at p
+  pub ends_at : {p : PhysicalAddress} → Ok tt ≡ packet_verdict s es b → p.0 ≡ locate s.start es (packet_of b.0) → Ends (Ok p)
+  unfolding packet_physical
+  ends_at v at = ends (ap (λ (n : ℕ). Ok (record { 0 = n })) at ∙ answered-same _ v)
+
+-- an answer as a place
+as_place : (v : Verdict) (m : PhysicalAddress) → PlacedAs v m.0 (answered v m)
+as_place (Ok _) m = record { verdict = refl; place = refl }
+as_place (Err why) m = record { verdict = refl; place = tt }
 
 -- ---- what a call is judged to be
 
 -- a line turns it down
-pub placed-stop : {v : Verdict} {p : ℕ} (r : Placed) {why : Refusal} → r.verdict ≡ Stop why → Stop why ≡ v → PlacedAs v p r
-placed-stop r h q = record { verdict = h ∙ q; place = λ g. stop-go h g }
+pub placed-stop : {v : Verdict} {p : ℕ} {r : Result PhysicalAddress Refusal} {why : Refusal} → Err why ≡ v → r ≡ Err why → PlacedAs v p r
+placed-stop {r = r} h q = record { verdict = ap verdict_of q ∙ h; place = IfOk-from_err r _ (rw q) }
 
--- by a translation
-pub placed_by : {v w : Verdict} {p k : ℕ} (r : Placed) → PlacedAs w k r → w ≡ v → (w ≡ Go → k ≡ p) → PlacedAs v p r
-placed_by r h q at = record { verdict = h.verdict ∙ q; place = λ g. h.place g ∙ at (sym h.verdict ∙ g) }
+-- by the layout of a call that lines 1 to 8, 10 and 11 let pass
+module _ {e : Setting} {d : Disc} {t : List ℕ} {lent : Bool} {held : Record} {x : Looked} (j : Judges e d t lent held (Ok x)) (b : LogicalAddress) where
+  abbrev span : Span
+  span = x.layout.volume.span
 
--- ---- what a call that goes on may rely on
+  start : span.start ≡ e.start
+  start = span-start j.found.layout
 
--- what lines 1 to 8, 10 and 11 tell; b is a block of the partition; its packet's sectors are on the disc, whose bytes are 2,048 times its marks
-pub record Found (e : Setting) (d : Disc) (t : List ℕ) (lent : Bool) (held : Record) (b : ℕ) : Type 0 where
+  -- the lines of a translation are 12 and 30 of the call
+  lines_are : packet_verdict span (entries_lent t held) b ≡ first (block_test e b.0 ∷ spare_test e d b.0 ∷ [])
+  lines_are = as_lines e d b (sym start) (sym (span-length j.found.layout)) (sym (entries-lent (going j)))
+
+  -- and its sector that of the packet
+  place_is : locate span.start (entries_lent t held) (packet_of b.0) ≡ place_of e d (packet_of b.0)
+  place_is = ap (λ (s : ℕ). locate s (entries_lent t held) (packet_of b.0)) start ∙ place-lent (going j) b.0
+
+  -- a block is where it is translated to
+  pub block-placed : {to : Result PhysicalAddress Refusal} → to ≡ packet_physical span (entries_lent t held) b → Places e d t lent held b.0 to
+  unfolding packet_physical
+  block-placed q =
+      let v = goes-call j (block_test e b.0 ∷ spare_test e d b.0 ∷ []) lines_are in
+      rw (q, sym v, sym place_is) (as_place (packet_verdict span (entries_lent t held) b) _)
+
+  -- the lines of a packet's start
+  module _ {w : Verdict} (judged : JudgesStart span t held b.0 w) where
+    start_is : w ≡ first (packet_tests e d b.0)
+    start_is = judged e d (sym start) (sym (span-length j.found.layout)) (sym (entries-lent (going j)))
+
+    -- one of them turns it down
+    pub packet-stopped : {why : Refusal} {r : Result PhysicalAddress Refusal} → w ≡ Err why → r ≡ Err why → PlacesPacket e d t lent held b.0 r
+    packet-stopped h = placed-stop (goes-call j (packet_tests e d b.0) (sym h ∙ start_is))
+
+    -- none does, and S and the number have a small sum
+    pub packet-sum : w ≡ Ok tt → span.start + b.0 < 4294967296
+    packet-sum h =
+        let low = (packet-tells e d b.0 (sym start_is ∙ h)).low in
+        omega (arith, low, (translation-asks j).1, span-length j.found.layout)
+
+    -- and the packet is at p
+    pub packet-placed : {p : PhysicalAddress} → w ≡ Ok tt → p.0 ≡ locate span.start (entries_lent t held) (packet_of b.0) → PlacesPacket e d t lent held b.0 (Ok p)
+    packet-placed h at =
+        record {
+          verdict = goes-call j (packet_tests e d b.0) (sym h ∙ start_is);
+          place = at ∙ place_is ∙ ap (place_of e d) (packet-own b.0 (packet-tells e d b.0 (sym start_is ∙ h)).start);
+        }
+
+-- ---- what a call that goes on may rely on; p is where the packet of block b begins
+
+-- what lines 1 to 8, 10 and 11 tell; b is a block of the partition; the packet's sectors are on the disc
+pub record Safe (e : Setting) (d : Disc) (t : List ℕ) (lent : Bool) (held : Record) (b p : ℕ) : Type 0 where
   pub told : Common e d t lent held
   pub low : b < e.span
-  pub on : place_of e d (packet_of b) + 32 ≤ length d.marks
-  pub most : length d.marks ≤ 1048576
-  pub shape : length d.bytes ≡ 2048 * length d.marks
+  pub place : p ≡ place_of e d (packet_of b)
+  pub on : p + 32 ≤ length d.marks
 
 -- from the verdict of a call whose own tests follow lines 12 and 30
-pub found : (e : Setting) (d : Disc) (t : List ℕ) (lent : Bool) (held : Record) (b : ℕ) (own : List Test) → rewritable_verdict e d t lent held (block_test e b ∷ spare_test e d b ∷ own) ≡ Go → Found e d t lent held b
+pub safe : (e : Setting) (d : Disc) (t : List ℕ) (lent : Bool) (held : Record) (b : ℕ) (own : List Test) {p : ℕ} → rewritable_verdict e d t lent held (block_test e b ∷ spare_test e d b ∷ own) ≡ Ok tt → p ≡ place_of e d (packet_of b) → Safe e d t lent held b p
 unfolding block_test spare_test
-found e d t lent held b own h =
+safe e d t lent held b own h at =
     let a = going-all e d t lent held (block_test e b ∷ spare_test e d b ∷ own) h in
     let low : b < e.span = ltb-true b e.span (passed (block_test e b ∷ spare_test e d b ∷ own) a.1).0 in
-    record { told = a.0; low = low; on = place-on e d t lent held a.0 b low; most = a.0.few; shape = a.0.shape }
+    record { told = a.0; low = low; place = at; on = omega (arith, at, place-on a.0 b low) }
 
--- ---- a call's own tests after lines 12 and 30; x is what the test of the lent lengths did, w what `place_block` said
+-- ---- a call's own tests after lines 12 and 30
 
-module _ (e : Setting) (d : Disc) (t : List ℕ) (lent : Bool) (held : Record) (b : ℕ) {x : Bool} {w : Verdict} (is : x ≡ lent) (says : w ≡ rewritable_verdict e d t x held (block_test e b ∷ spare_test e d b ∷ [])) where
-  -- the same of the lent lengths themselves
-  pub place-verdict : rewritable_verdict e d t lent held (block_test e b ∷ spare_test e d b ∷ []) ≡ w
-  place-verdict = sym (says ∙ ap (λ (y : Bool). rewritable_verdict e d t y held (block_test e b ∷ spare_test e d b ∷ [])) is)
-
-  -- the call's own tests are asked after it
-  own-after : (own : List Test) → rewritable_verdict e d t lent held (block_test e b ∷ spare_test e d b ∷ own) ≡ and_then w (first own)
+module _ (e : Setting) (d : Disc) (t : List ℕ) (lent : Bool) (held : Record) (b : ℕ) where
+  -- they are asked after what `place_block` asks
+  own-after : (own : List Test) → rewritable_verdict e d t lent held (block_test e b ∷ spare_test e d b ∷ own) ≡ and_then (rewritable_verdict e d t lent held (block_test e b ∷ spare_test e d b ∷ [])) (first own)
   own-after own =
       rewritable-own e d t lent held (block_test e b ∷ spare_test e d b ∷ own)
       ∙ asked-after (rewritable_verdict e d t lent held []) (block_test e b ∷ spare_test e d b ∷ []) own
-      ∙ ap (λ (v : Verdict). and_then v (first own)) (sym (rewritable-own e d t lent held (block_test e b ∷ spare_test e d b ∷ [])) ∙ place-verdict)
+      ∙ ap (λ (v : Verdict). and_then v (first own)) (sym (rewritable-own e d t lent held (block_test e b ∷ spare_test e d b ∷ [])))
 
-  -- it stops the call
-  pub place-stops : (own : List Test) {why : Refusal} → w ≡ Stop why → rewritable_verdict e d t lent held (block_test e b ∷ spare_test e d b ∷ own) ≡ Stop why
-  place-stops own h = own-after own ∙ ap (λ (v : Verdict). and_then v (first own)) h
+  -- which stops the call
+  pub place-stops : (own : List Test) {why : Refusal} → Places e d t lent held b (Err why) → Err why ≡ rewritable_verdict e d t lent held (block_test e b ∷ spare_test e d b ∷ own)
+  place-stops own h = ap (λ (v : Verdict). and_then v (first own)) h.verdict ∙ sym (own-after own)
 
-  -- it lets the call go on, and its own tests decide
-  pub place-goes : (own : List Test) → w ≡ Go → rewritable_verdict e d t lent held (block_test e b ∷ spare_test e d b ∷ own) ≡ first own
-  place-goes own h = own-after own ∙ ap (λ (v : Verdict). and_then v (first own)) h
+  module _ {p : PhysicalAddress} (h : Places e d t lent held b (Ok p)) where
+    -- or lets it go on, and its own tests decide
+    pub place-goes : (own : List Test) → first own ≡ rewritable_verdict e d t lent held (block_test e b ∷ spare_test e d b ∷ own)
+    place-goes own = ap (λ (v : Verdict). and_then v (first own)) h.verdict ∙ sym (own-after own)
 
-  -- it lets the call go on, and this is what the call may rely on
-  pub place-tells : w ≡ Go → Found e d t lent held b
-  place-tells h = found e d t lent held b [] (place-verdict ∙ h)
+    -- and this is what the call may rely on
+    pub place-tells : Safe e d t lent held b p.0
+    place-tells = safe e d t lent held b [] (sym h.verdict) h.place

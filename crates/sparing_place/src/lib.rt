@@ -1,72 +1,70 @@
 // Where a block of a rewritable disc is: lines 1 to 8, 10 to 12 and 30 of documents 01, "Why a call is turned down",
-// and 02, and the place of the block's packet. Reading a block, saving one and saving a packet begin here.
+// and 02, and the place of the block's packet. Reading a block, saving one, saving a packet and sparing one begin here.
 // All functions here are inside the layers: where one has a `requires`, the callers have tested it.
 #![tactic(auto)]
 
 ghost use Rattle.std.specs.Prelude.{◌≡◌, true, ◌+◌, ◌*◌, ◌^◌, ◌≤◌, ◌<◌, length};
-ghost use Rattle.refusal.specs.declared.Verdict;
-ghost use Rattle.refusal.specs.Number.{verdict_number};
-ghost use Rattle.address.specs.Told.{physical_number};
+ghost use Rattle.refusal.specs.Number.{answer_number};
 ghost use Rattle.model.specs.Disc.{disc as disc_of};
 ghost use Rattle.model.specs.Examine.{setting};
 ghost use Rattle.model.specs.Rewrite.{packet_verdict, packet_physical};
 ghost use Rattle.sparing_current.specs.Held.{count_held, entries_lent};
-ghost use Rattle.sparing_place.specs.Placed.{PlacedBy, Places, PlacesPacket};
+ghost use Rattle.sparing_place.specs.Placed.{JudgesStart, Places, PlacesPacket};
 
-use address::{LogicalAddress, PhysicalAddress, Span, ToPhysical};
+use address::{LogicalAddress, PhysicalAddress, Span};
 use maps::PACKET;
 use model::Record;
-use refusal::{Refusal, Verdict};
+use refusal::Refusal;
 
-// What a call is judged to be: a verdict, and where it says Go the first sector of the block's packet.
-#[derive(Clone, Copy)]
-pub struct Placed {
-    pub verdict: Verdict,
-    pub first: PhysicalAddress,
+// Lines 12 and 30 of a block: it is below L, and no spare's. Inside the layers: lines 2 and 11 have been tested.
+fn judge_number(span: Span, table: &[u32], held: Record, b: LogicalAddress) -> Result<(), Refusal>
+    requires { (2 * count_held held ≤ length table.now) × (span.start + span.length < 2 ^ 32) }
+    ensures { result ≡ packet_verdict span (entries_lent table.now held) b }
+{
+    if span.length <= b.0 {
+        return Err(Refusal::NumberOutside);
+    }
+    if sparing_current::is_of_spare(table, held, span.start, b) {
+        return Err(Refusal::BelongsToSpare);
+    }
+    Ok(())
 }
 
-// A call that is turned down.
-pub fn stopped(why: Refusal) -> Placed
-    ensures { result.verdict ≡ Verdict.Stop why }
+// The same of a packet: line 12 asks that b is a packet's start, too.
+pub fn judge_start(
+    span: Span,
+    table: &[u32],
+    held: Record,
+    b: LogicalAddress,
+) -> Result<(), Refusal>
+    requires { (2 * count_held held ≤ length table.now) × (span.start + span.length < 2 ^ 32) }
+    ensures { JudgesStart span table.now held b.0 result }
 {
-    Placed {
-        verdict: Verdict::Stop(why),
-        first: sparing_copies::nowhere(),
+    if b.0 % PACKET != 0 {
+        return Err(Refusal::NumberOutside);
     }
+    judge_number(span, table, held, b)
 }
 
 // The physical address of a logical one by the sparing entries: that of its packet's first block. It gives 30 after 12,
 // which a translation that is lent S and L only (`address`) does not. Inside the layers: lines 2 and 11 have been tested.
-fn packet_to_physical(span: Span, table: &[u32], held: Record, b: LogicalAddress) -> ToPhysical
+fn packet_to_physical(
+    span: Span,
+    table: &[u32],
+    held: Record,
+    b: LogicalAddress,
+) -> Result<PhysicalAddress, Refusal>
     requires { (2 * count_held held ≤ length table.now) × (span.start + span.length < 2 ^ 32) }
     ensures value { result ≡ packet_physical span (entries_lent table.now held) b }
-    ensures result_value { physical_number result ≡ verdict_number (packet_verdict span (entries_lent table.now held) b) }
+    ensures result_value { answer_number result ≡ answer_number (packet_verdict span (entries_lent table.now held) b) }
 {
-    if span.length <= b.0 {
-        return ToPhysical::Refused(Refusal::NumberOutside);
-    }
-    if sparing_current::is_of_spare(table, held, span.start, b) {
-        return ToPhysical::Refused(Refusal::BelongsToSpare);
-    }
+    judge_number(span, table, held, b)?;
     let first = sparing_current::packet_place(table, held, span.start, b);
-    ToPhysical::At(first)
+    Ok(first)
 }
 
-// A call whose packet was translated so.
-fn placed_by(to: ToPhysical) -> Placed
-    ensures { PlacedBy to result }
-{
-    match to {
-        ToPhysical::Refused(why) => stopped(why),
-        ToPhysical::At(first) => Placed {
-            verdict: Verdict::Go,
-            first,
-        },
-    }
-}
-
-// Lines 1 to 8, 10 to 12 and 30, and where block b's packet is; `lent` says, of the table too, whether the other lent
-// slices have their lengths.
+// Lines 1 to 8, 10 to 12 and 30, and the first sector of block b's packet; `lent` says, of the table too, whether the
+// other lent slices have their lengths.
 pub fn place_block(
     disc: &[u8],
     marks: &[u8],
@@ -77,20 +75,15 @@ pub fn place_block(
     lent: bool,
     held: Record,
     b: LogicalAddress,
-) -> Placed
+) -> Result<PhysicalAddress, Refusal>
     requires { lent ≡ true → 4096 ≤ length table.now }
     ensures { Places (setting maps.now s l) (disc_of disc.now marks.now) table.now lent held b.0 result }
 {
-    let judged = sparing_current::judge(disc, marks, maps, s, l, table, lent, held);
-    let verdict = judged.verdict;
-    if let Verdict::Stop(why) = verdict {
-        return stopped(why);
-    }
-    let to = packet_to_physical(judged.layout.volume.span, table, held, b);
-    placed_by(to)
+    let looked = sparing_current::judge(disc, marks, maps, s, l, table, lent, held)?;
+    packet_to_physical(looked.layout.volume.span, table, held, b)
 }
 
-// The same of a packet: line 12 asks that b is a packet's start.
+// The same of a packet, whose start b is to be.
 pub fn place_packet(
     disc: &[u8],
     marks: &[u8],
@@ -101,18 +94,12 @@ pub fn place_packet(
     lent: bool,
     held: Record,
     b: LogicalAddress,
-) -> Placed
+) -> Result<PhysicalAddress, Refusal>
     requires { lent ≡ true → 4096 ≤ length table.now }
     ensures { PlacesPacket (setting maps.now s l) (disc_of disc.now marks.now) table.now lent held b.0 result }
 {
-    let judged = sparing_current::judge(disc, marks, maps, s, l, table, lent, held);
-    let verdict = judged.verdict;
-    if let Verdict::Stop(why) = verdict {
-        return stopped(why);
-    }
-    if b.0 % PACKET != 0 {
-        return stopped(Refusal::NumberOutside);
-    }
-    let to = packet_to_physical(judged.layout.volume.span, table, held, b);
-    placed_by(to)
+    let looked = sparing_current::judge(disc, marks, maps, s, l, table, lent, held)?;
+    let span = looked.layout.volume.span;
+    judge_start(span, table, held, b)?;
+    Ok(sparing_current::packet_place(table, held, span.start, b))
 }

@@ -1,13 +1,15 @@
 -- Laws of the lent table: filling it, looking for an entry in it, and where a packet is. Assumes nothing.
-use Prim.Native.Nat.{ℕ, suc, ◌+◌, ◌*◌, ◌%◌, ◌≤◌, ◌<◌}
-use mathlib.Core.Path.{◌≡◌, refl, sym, ap, ap₂, subst, ◌∙◌}
-use mathlib.Core.List.{List, [], ◌∷◌, ◌++◌}
-use mathlib.Core.Bool.{Bool, true, false, cond}
-use native.Mathlib.Omega.{arith}
-use native.Mathlib.Nat.{zero-add}
-use lib.Dec.{eqb}
-use lib.ListN.{length, get_or, take, drop, set, length-take}
-use lib.Seq.{get_or-take, take_all}
+use Rattle.std.proofs.Common.{◌≡◌, ℕ, zero, suc, ◌+◌, ◌*◌, ◌%◌, ◌≤◌, ◌<◌, Bool, true, false, cond, eqb, ltb, List, [], ◌∷◌, ◌++◌, Option, Some, None, unwrap_or, length, get_or, take, drop, set, refl, sym, ap, ap₂, subst, ◌∙◌, zero-add, arith, length-append, length-take, get_or-take, drop_of_length-le}
+use Rattle.std.specs.List.{position, position_or_len}
+use Rattle.std.specs.Slice.Iter.{chunks_exact_size, chunks_exact_rest, chunks_exact_steps}
+use Rattle.std.specs.Iterator.{AlwaysYields}
+use Rattle.std.proofs.lemmas.Iterator.{YieldsList}
+use Rattle.std.proofs.lemmas.List.Recursion.{is_position_or_len}
+use Rattle.std.proofs.lemmas.List.Quantifiers.{position-Some}
+use Rattle.std.proofs.lemmas.List.Sums.{position_or_len_is}
+use Rattle.std.proofs.lemmas.Bool.Decides.{nat_tests}
+use denote.Ref.{Bor}
+use lib.Seq.{take_all}
 use Rattle.fields.specs.Bytes.{splice, same}
 use Rattle.fields.specs.Number.{field, words}
 use Rattle.fields.proofs.Laws.{Copying, copying-next, copying-last, front-next, same-equal, same-false-of-difference}
@@ -17,7 +19,6 @@ use Rattle.model.specs.Once.{filled_from}
 use Rattle.model.specs.Rewrite.{no_entry}
 use Rattle.model.proofs.OnceOpen.{length-words}
 use Rattle.model.proofs.SparingLaws.{packet-own}
-use Rattle.sparing_table.specs.declared.FirstFree.TheVariants.{At, Nothing}
 use Rattle.address.specs.declared.PhysicalAddress.{PhysicalAddress}
 use Rattle.sparing_table.specs.Table.{lent_entry, has, place_where, free_in}
 use Rattle.sparing_copy.proofs.Words.{get_or-words}
@@ -37,6 +38,17 @@ module _ (t : List ℕ) (n i : ℕ) (fits : 2 * n ≤ length t) where
   -- none past the last
   pub lent-end : n ≤ i → drop i (entries (take (2 * n) t)) ≡ []
   lent-end h = entries-end (take (2 * n) t) i (omega (arith, length-take (2 * n) t))
+
+-- as many as half the numbers
+length_entries : (l : List ℕ) (n : ℕ) → length l ≡ 2 * n → length (entries l) ≡ n
+unfolding entries
+length_entries [] n h = omega arith
+length_entries (o ∷ []) n h = absurd (omega arith)
+length_entries (o ∷ m ∷ l) zero h = absurd (omega arith)
+length_entries (o ∷ m ∷ l) (suc n) h = ap suc (length_entries l n (omega arith))
+
+pub lent_length : (t : List ℕ) (n : ℕ) → 2 * n ≤ length t → length (entries (take (2 * n) t)) ≡ n
+lent_length t n h = length_entries (take (2 * n) t) n (omega (arith, length-take (2 * n) t))
 
 -- ---- filling it
 
@@ -78,43 +90,84 @@ unfolding table_in
 lent_same b t r n e q =
     ap (λ (k : ℕ). same (take k t) (words b 56 k)) e ∙ ap (λ (k : ℕ). same (take (2 * r) t) (words b 56 (2 * k))) q
 
--- ---- looking for an entry, one at a time
+-- ---- looking for an entry
 
-module _ (f : Entry → Bool) (es : List Entry) (i : ℕ) where
-  -- none is left
-  pub place_end : drop i es ≡ [] → i ≡ i + place_where f (drop i es)
-  unfolding place_where
-  place_end h = omega (arith, ap (place_where f) h)
+-- an entry as two numbers
+abbrev pub entry_of : Bor (List ℕ) → Entry
+entry_of x = record { original = get_or x.now 0 0; mapped = get_or x.now 1 0 }
 
-  module _ (e : Entry) (h : drop i es ≡ e ∷ drop (i + 1) es) where
-    -- the test holds for the next
-    pub place_found : f e ≡ true → i ≡ i + place_where f (drop i es)
-    unfolding place_where
-    place_found q =
-        let z : place_where f (drop i es) ≡ 0 = ap (place_where f) h ∙ rw q in
-        omega arith
+-- the first two of some numbers, and the others
+first_two : (x r l : List ℕ) (o m : ℕ) → length x ≡ 2 → o ∷ m ∷ l ≡ x ++ r → (x ≡ o ∷ m ∷ []) × (r ≡ l)
+first_two [] r l o m h e = absurd (omega arith)
+first_two (a ∷ []) r l o m h e = absurd (omega arith)
+first_two (a ∷ b ∷ []) r l o m h e = (cc, cc)
+first_two (a ∷ b ∷ c ∷ x) r l o m h e = absurd (omega arith)
 
-    -- it does not
-    pub place-next : f e ≡ false → i + 1 + place_where f (drop (i + 1) es) ≡ i + place_where f (drop i es)
-    unfolding place_where
-    place-next q =
-        let z : place_where f (drop i es) ≡ suc (place_where f (drop (i + 1) es)) = ap (place_where f) h ∙ rw q in
-        omega arith
+-- numbers two by two are the entries
+always_yields : (l : List ℕ) (s : _) → chunks_exact_size s ≡ 2 → chunks_exact_rest s ≡ l → AlwaysYields chunks_exact_steps entry_of s (entries l)
+unfolding entries
+always_yields [] s z e = λ x j h. absurd (omega (arith, ap length h.1.0, ap length e, length-append {A = ℕ}))
+always_yields (o ∷ []) s z e = λ x j h. absurd (omega (arith, ap length h.1.0, ap length e, length-append {A = ℕ}))
+always_yields (o ∷ m ∷ l) s z e = (
+  λ j h. absurd (omega (arith, h.1.0, ap length e)),
+  λ x j h. let q = first_two x.now (chunks_exact_rest j) l o m (h.1.1 ∙ z) (sym e ∙ h.1.0) in
+      (ap (λ (v : List ℕ). record { original = get_or v 0 0; mapped = get_or v 1 0 }) q.0, always_yields l j (h.0 ∙ z) q.1),
+)
+
+pub entries_yielded : (l : List ℕ) (s : _) → chunks_exact_size s ≡ 2 → chunks_exact_rest s ≡ l → YieldsList chunks_exact_steps entry_of s (entries l)
+entries_yielded l s z e = record { runs = always_yields l s z e }
 
 -- ---- what was found
 
--- the place i of the first of n entries with the original o
-module _ (t : List ℕ) (r n i o : ℕ) (fits : 2 * r ≤ length t) (count : n ≡ r) (place : i ≡ place_where (has o) (entries (take (2 * n) t))) where
-  here : place_where (has o) (entries (take (2 * r) t)) ≡ i
-  here = ap (λ (k : ℕ). place_where (has o) (entries (take (2 * k) t))) (sym count) ∙ sym place
+-- a value for `get_or` where no entry is
+none_such : Entry
+none_such = record { original = 0; mapped = 0 }
+
+-- a place that is none is past the last
+past : (n m : ℕ) → cond (ltb n m) (Some n) None ≡ None → m ≤ n
+past n m e = go (ltb n m) refl e
+  where
+    go : (b : Bool) → ltb n m ≡ b → cond b (Some n) None ≡ None → m ≤ n
+    go true q k = cc
+    go false q k = grind (arith, nat_tests)
+
+pub place_most : (f : Entry → Bool) (es : List Entry) → place_where f es ≤ length es
+unfolding place_where
+place_most f [] = omega arith
+place_most f (e ∷ l) = go (f e) (place_most f l)
+  where
+    go : (b : Bool) → place_where f l ≤ length l → cond b 0 (suc (place_where f l)) ≤ suc (length l)
+    go true h = omega arith
+    go false h = omega arith
+
+module _ (f : Entry → Bool) (l : List ℕ) where
+  place_is : place_where f (entries l) ≡ position_or_len f (entries l)
+  unfolding place_where
+  place_is = is_position_or_len (place_where f) f refl (λ e es. let q : suc (place_where f es) ≡ 1 + place_where f es = omega arith in ap (cond (f e) 0) q) (entries l)
+
+  -- there is a place
+  pub place_some : (i : ℕ) → position f (entries l) ≡ Some i → place_where f (entries l) ≡ i
+  place_some i e =
+      let at = position-Some f (entries l) i none_such e in
+      place_is ∙ position_or_len_is f (entries l) i none_such (omega arith) at.2 (λ _. at.1)
 
   -- an entry stands there
-  pub entry_found : i < n → drop (place_where (has o) (entries (take (2 * r) t))) (entries (take (2 * r) t)) ≡ lent_entry t i ∷ drop (i + 1) (entries (take (2 * r) t))
-  entry_found h = rw here (lent-step t r i fits (omega arith))
+  pub entry_found : (i : ℕ) → position f (entries l) ≡ Some i → 2 * i + 2 ≤ length l → drop (place_where f (entries l)) (entries l) ≡ lent_entry l i ∷ drop (i + 1) (entries l)
+  entry_found i e h = rw (place_some i e) (entries-step l i h)
 
   -- none does
-  pub entry-missing : n ≤ i → drop (place_where (has o) (entries (take (2 * r) t))) (entries (take (2 * r) t)) ≡ []
-  entry-missing h = rw here (lent-end t r i fits (omega arith))
+  pub entry-missing : position f (entries l) ≡ None → drop (place_where f (entries l)) (entries l) ≡ []
+  entry-missing e =
+      let q : length (entries l) ≤ position_or_len f (entries l) = past (position_or_len f (entries l)) (length (entries l)) e in
+      rw place_is (drop_of_length-le (entries l) {i = position_or_len f (entries l)} q)
+
+  -- the place, and the number of entries where there is none
+  pub place_or : (n : ℕ) → length (entries l) ≡ n → unwrap_or (position f (entries l)) n ≡ place_where f (entries l)
+  place_or n e = go (position f (entries l)) refl
+    where
+      go : (r : Option ℕ) → position f (entries l) ≡ r → unwrap_or r n ≡ place_where f (entries l)
+      go (Some i) q = sym (place_some i q)
+      go None q = omega (arith, past (position_or_len f (entries l)) (length (entries l)) q, place_most f (entries l), place_is)
 
 -- an entry at the place: the packet is read at its mapped start
 pub spot-found : (es : List Entry) (o : ℕ) (e : Entry) (r : List Entry) → drop (place_where (has o) es) es ≡ e ∷ r → spot_of es o ≡ mapped_to e.mapped
@@ -137,22 +190,22 @@ spot-missing (x ∷ l) o h = go (eqb x.original o) h (spot-missing l o)
     go false k f = f k
 
 -- the first entry of the original that no packet has is the first that is free
-pub free-found : (es : List Entry) (e : Entry) (r : List Entry) (p : PhysicalAddress) → drop (place_where (has none) es) es ≡ e ∷ r → p.0 ≡ e.mapped → At p ≡ free_in (free_of es)
+pub free-found : (es : List Entry) (e : Entry) (r : List Entry) (p : PhysicalAddress) → drop (place_where (has none) es) es ≡ e ∷ r → p.0 ≡ e.mapped → Some p ≡ free_in (free_of es)
 unfolding place_where free_of is_free free_in
 free-found [] e r p h m = let z : ◌≡◌ {A = ℕ} 0 1 = cc in absurd (omega arith)
 free-found (x ∷ l) e r p h m = go (eqb x.original none) h (λ k. free-found l e r p k m)
   where
-    go : (b : Bool) → drop (cond b 0 (suc (place_where (has none) l))) (x ∷ l) ≡ e ∷ r → (drop (place_where (has none) l) l ≡ e ∷ r → At p ≡ free_in (free_of l)) → At p ≡ free_in (cond b (x ∷ free_of l) (free_of l))
-    go true k f = let q : e ≡ x = cc in ap (λ (n : ℕ). At (record { 0 = n })) (m ∙ ap (λ (y : Entry). y.mapped) q)
+    go : (b : Bool) → drop (cond b 0 (suc (place_where (has none) l))) (x ∷ l) ≡ e ∷ r → (drop (place_where (has none) l) l ≡ e ∷ r → Some p ≡ free_in (free_of l)) → Some p ≡ free_in (cond b (x ∷ free_of l) (free_of l))
+    go true k f = let q : e ≡ x = cc in ap (λ (n : ℕ). Some (record { 0 = n })) (m ∙ ap (λ (y : Entry). y.mapped) q)
     go false k f = f k
 
 -- none is free
-pub free-missing : (es : List Entry) → drop (place_where (has none) es) es ≡ [] → Nothing ≡ free_in (free_of es)
+pub free-missing : (es : List Entry) → drop (place_where (has none) es) es ≡ [] → None ≡ free_in (free_of es)
 unfolding place_where free_of is_free free_in
 free-missing [] h = refl
 free-missing (x ∷ l) h = go (eqb x.original none) h (free-missing l)
   where
-    go : (b : Bool) → drop (cond b 0 (suc (place_where (has none) l))) (x ∷ l) ≡ [] → (drop (place_where (has none) l) l ≡ [] → Nothing ≡ free_in (free_of l)) → Nothing ≡ free_in (cond b (x ∷ free_of l) (free_of l))
+    go : (b : Bool) → drop (cond b 0 (suc (place_where (has none) l))) (x ∷ l) ≡ [] → (drop (place_where (has none) l) l ≡ [] → None ≡ free_in (free_of l)) → None ≡ free_in (cond b (x ∷ free_of l) (free_of l))
     go true k f = let z : ◌≡◌ {A = ℕ} 0 1 = cc in absurd (omega arith)
     go false k f = f k
 
@@ -178,13 +231,13 @@ packet-in-place s es p h q = sym (start-of-packet s es p h ∙ ap (λ (x : Spot)
 -- ---- the free entry of lowest index, for those who cite it
 
 -- there is one, and this is its mapped start
-pub free-at : (l : List Entry) (m : PhysicalAddress) → At m ≡ free_in l → (no_entry l ≡ false) × (m.0 ≡ first_free l)
+pub free-at : (l : List Entry) (m : PhysicalAddress) → Some m ≡ free_in l → (no_entry l ≡ false) × (m.0 ≡ first_free l)
 unfolding free_in no_entry first_free
 free-at [] m h = let z : ◌≡◌ {A = ℕ} 0 1 = cc in absurd (omega arith)
 free-at (e ∷ l) m h = (refl, cc)
 
 -- there is none
-pub free-none : (l : List Entry) → Nothing ≡ free_in l → no_entry l ≡ true
+pub free-none : (l : List Entry) → None ≡ free_in l → no_entry l ≡ true
 unfolding free_in no_entry
 free-none [] h = refl
 free-none (e ∷ l) h = let z : ◌≡◌ {A = ℕ} 0 1 = cc in absurd (omega arith)

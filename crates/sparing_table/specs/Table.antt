@@ -1,8 +1,7 @@
 -- Entries of the lent table that are looked for (document 01, "The sparing table" and "Calls and their sector writes").
-use Rattle.std.specs.Prelude.{ℕ, suc, ◌+◌, ◌*◌, Bool, cond, List, [], ◌∷◌, eqb, ltb, get_or}
+use Rattle.std.specs.Prelude.{ℕ, suc, ◌+◌, ◌*◌, Bool, cond, List, [], ◌∷◌, Option, Some, None, eqb, ltb, get_or}
 use Rattle.model.specs.Sparing.{Entry}
-use Rattle.sparing_table.specs.declared.FirstFree.{FirstFree}
-use Rattle.sparing_table.specs.declared.FirstFree.TheVariants.{At, Nothing}
+use Rattle.address.specs.declared.PhysicalAddress.{PhysicalAddress}
 
 -- entry number i of the lent table: original and mapped by turns
 abbrev pub lent_entry : List ℕ → ℕ → Entry
@@ -22,6 +21,6 @@ place_where f [] = 0
 place_where f (e ∷ l) = cond (f e) 0 (suc (place_where f l))
 
 -- the mapped start of the first of the free entries, if there is one
-unfoldable pub free_in : List Entry → FirstFree
-free_in [] = Nothing
-free_in (e ∷ l) = At (record { 0 = e.mapped })
+unfoldable pub free_in : List Entry → Option PhysicalAddress
+free_in [] = None
+free_in (e ∷ l) = Some (record { 0 = e.mapped })

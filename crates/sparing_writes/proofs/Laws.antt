@@ -1,13 +1,5 @@
 -- Laws of the writes of a packet with one block replaced, and of the same bytes to several sectors. Assumes nothing.
-use Prim.Native.Nat.{ℕ, ◌+◌, ◌*◌, ◌≤◌, ◌<◌}
-use mathlib.Core.Path.{◌≡◌, refl, sym, ap, ◌∙◌}
-use mathlib.Core.Logic.{◌≢◌}
-use mathlib.Core.Bool.{Bool, cond}
-use mathlib.Core.List.{List}
-use native.Mathlib.Omega.{arith}
-use borrow.Author.Tests.{eq-eqb, ne_eqb}
-use lib.Dec.{eqb}
-use lib.ListN.{length, get_or, take, drop}
+use Rattle.std.proofs.Common.{◌≡◌, ℕ, suc, ◌+◌, ◌*◌, ◌≤◌, ◌<◌, Bool, cond, eqb, ◌≢◌, List, length, get_or, drop, refl, sym, ap, ◌∙◌, add-zero, add-one, arith, drop-cons, drop_of_length-le, eq-eqb, ne_eqb}
 use Rattle.fields.specs.Bytes.{part, splice}
 use Rattle.fields.proofs.Laws.{part-splice-width, part-splice-before, part-splice-after}
 use Rattle.model.specs.declared.Cut.{Cut}
@@ -18,7 +10,6 @@ use Rattle.model.proofs.Basics.{by-eq, by-lt}
 use Rattle.model.proofs.Sectors.{Made, length-sector, sector-other}
 use Rattle.model.proofs.SectorsRuns.{length-joined, joined-part}
 use Rattle.disc_writes.proofs.Laws.{Writing, writing-first, writing-next, writing-last}
-use Rattle.sparing_copy.proofs.Places.{table_step, table-end}
 
 -- ---- a packet with one block replaced
 
@@ -112,33 +103,32 @@ picked-there n cut b d d' {q} {p} {r} {s} e f w =
 
 -- after i of the writes of b to the sectors ts: what is left to write, on the disc d as it is now, gives what all give on d₀, the disc as it
 -- came
-pub record Copying (number : ℕ) (cut : Cut) (ts b : List ℕ) (d₀ d : Disc) (i n : ℕ) : Type 0 where
-  pub numbered : n ≡ number + i
+pub record Copying (number : ℕ) (cut : Cut) (ts b : List ℕ) (d₀ d : Disc) (i : ℕ) : Type 0 where
   pub bytes-length : length d.bytes ≡ length d₀.bytes
   pub marks-length : length d.marks ≡ length d₀.marks
-  pub left : writes n cut (copies_to (drop i ts) b) d ≡ writes number cut (copies_to ts b) d₀
+  pub left : writes (number + i) cut (copies_to (drop i ts) b) d ≡ writes number cut (copies_to ts b) d₀
 
 -- nothing is written yet
-pub copying-first : (number : ℕ) (cut : Cut) (ts b : List ℕ) (d : Disc) → Copying number cut ts b d d 0 number
-copying-first number cut ts b d =
-    record { numbered = omega arith; bytes-length = refl; marks-length = refl; left = refl }
+pub copying-first : (number : ℕ) (cut : Cut) (ts b : List ℕ) (d : Disc) → Copying number cut ts b d d 0
+copying-first number cut ts b d = record { bytes-length = refl; marks-length = refl; left = rw add-zero }
 
-module _ (number : ℕ) (cut : Cut) (t : List ℕ) (k : ℕ) (b : List ℕ) (d₀ d : Disc) (i n : ℕ) (h : k ≤ length t) where
+module _ (number : ℕ) (cut : Cut) (t : List ℕ) (b : List ℕ) (d₀ d : Disc) (i : ℕ) where
   -- one write more
-  pub copying-next : (d' : Disc) → i < k → d' ≡ write n cut (get_or t i 0) b d → length d'.bytes ≡ length d.bytes → length d'.marks ≡ length d.marks → Copying number cut (take k t) b d₀ d i n → Copying number cut (take k t) b d₀ d' (i + 1) (n + 1)
+  pub copying-next : (d' : Disc) → i < length t → d' ≡ write (number + i) cut (get_or t i 0) b d → length d'.bytes ≡ length d.bytes → length d'.marks ≡ length d.marks → Copying number cut t b d₀ d i → Copying number cut t b d₀ d' (i + 1)
   unfolding copies_to writes
   copying-next d' l w bytes marks c =
+      let e : number + (i + 1) ≡ number + i + 1 = omega arith in
       record {
-        numbered = omega (arith, c.numbered);
         bytes-length = bytes ∙ c.bytes-length;
         marks-length = marks ∙ c.marks-length;
         left =
-            ap (writes (n + 1) cut (copies_to (drop (i + 1) (take k t)) b)) w
-            ∙ sym (ap (λ (ts : List ℕ). writes n cut (copies_to ts b) d) (table_step t k i h l))
-            ∙ c.left;
+            rw (e, add-one i)
+            (ap (writes (number + i + 1) cut (copies_to (drop (suc i) t) b)) w
+            ∙ sym (ap (λ (ts : List ℕ). writes (number + i) cut (copies_to ts b) d) (drop-cons t i 0 l))
+            ∙ c.left);
       }
 
   -- all are written
-  pub copying-last : k ≤ i → Copying number cut (take k t) b d₀ d i n → d ≡ writes number cut (copies_to (take k t) b) d₀
+  pub copying-last : length t ≤ i → Copying number cut t b d₀ d i → d ≡ writes number cut (copies_to t b) d₀
   unfolding copies_to writes
-  copying-last l c = sym (ap (λ (ts : List ℕ). writes n cut (copies_to ts b) d) (table-end t k i h l)) ∙ c.left
+  copying-last l c = sym (ap (λ (ts : List ℕ). writes (number + i) cut (copies_to ts b) d) (drop_of_length-le t {i = i} l)) ∙ c.left

@@ -1,21 +1,20 @@
 -- Laws of the order in which a sparing writes the copies of its table. Assumes nothing.
 use Prim.Native.Nat.{ℕ, zero, suc, ◌+◌, ◌≤◌, ◌<◌}
 use mathlib.Core.Path.{◌≡◌, refl, sym, ap, ap₂, ◌∙◌}
-use mathlib.Core.Bool.{Bool, true, false, cond, not, ◌&&◌, ◌||◌}
+use mathlib.Core.Bool.{Bool, true, false, cond, not, beq, ◌&&◌, ◌||◌}
 use mathlib.Core.List.{List, [], ◌∷◌, ◌++◌, append_assoc, append-nil}
 use native.Mathlib.Omega.{arith}
 use native.Mathlib.Numerals.{add-one}
 use borrow.Author.Tests.{eq-eqb, ne_eqb, eqb-true}
 use lib.Dec.{eqb}
 use lib.ListN.{length, get_or, set, take, drop, length-append, length-set}
+use Rattle.std.proofs.Common.{drop-cons, drop_of_length-le}
 use lib.Seq.{take-suc-set, get_or-take}
 use Rattle.address.specs.declared.PhysicalAddress.{PhysicalAddress}
 use Rattle.model.specs.Disc.{Disc}
 use Rattle.model.specs.Sparing.{Geometry, counts, counting_of, counting, sequence_at, with_sequence, current, current_sequence}
-use Rattle.model.specs.Examine.{Setting, geometry}
-use Rattle.model.specs.Rewrite.{not_in, stale, copy_order, sequence_on}
+use Rattle.model.specs.Rewrite.{not_in, stale}
 use Rattle.model.proofs.Basics.{cond-elim, and-false, or_right}
-use Rattle.sparing_copy.proofs.Places.{table_step, table-end}
 use Rattle.sparing_copy.proofs.Rule.{and-end}
 use Rattle.sparing_writes.specs.Order.{numbers_of, is_of, as_wanted, chosen, copies_of, order_of}
 
@@ -27,6 +26,12 @@ unfolding numbers_of
 numbers-length [] = refl
 numbers-length (p ∷ ps) = ap suc (numbers-length ps)
 
+pub numbers-take : (n : ℕ) (ps : List PhysicalAddress) → numbers_of (take n ps) ≡ take n (numbers_of ps)
+unfolding numbers_of
+numbers-take zero ps = refl
+numbers-take (suc n) [] = refl
+numbers-take (suc n) (p ∷ ps) = ap (λ (l : List ℕ). p.0 ∷ l) (numbers-take n ps)
+
 -- each in its place,
 pub numbers-at : (ps : List PhysicalAddress) (i : ℕ) → (get_or ps i (record { 0 = 0 })).0 ≡ get_or (numbers_of ps) i 0
 unfolding numbers_of
@@ -34,15 +39,13 @@ numbers-at [] i = refl
 numbers-at (p ∷ ps) zero = refl
 numbers-at (p ∷ ps) (suc i) = numbers-at ps i
 
--- those of four are the four
-pub four-numbers : (t : List ℕ) → length t ≡ 4 → (p q r s : PhysicalAddress) → p.0 ≡ get_or t 0 0 → q.0 ≡ get_or t 1 0 → r.0 ≡ get_or t 2 0 → s.0 ≡ get_or t 3 0 → numbers_of (p ∷ q ∷ r ∷ s ∷ []) ≡ t
+-- all of them where each is
+pub numbers-each : (ps : List PhysicalAddress) (l : List ℕ) → length ps ≡ length l → ((i : ℕ) → i < length l → (get_or ps i (record { 0 = 0 })).0 ≡ get_or l i 0) → numbers_of ps ≡ l
 unfolding numbers_of
-four-numbers [] n p q r s ep eq er es = absurd (omega arith)
-four-numbers (a ∷ []) n p q r s ep eq er es = absurd (omega arith)
-four-numbers (a ∷ b ∷ []) n p q r s ep eq er es = absurd (omega arith)
-four-numbers (a ∷ b ∷ c ∷ []) n p q r s ep eq er es = absurd (omega arith)
-four-numbers (a ∷ b ∷ c ∷ d ∷ []) n p q r s ep eq er es = cc
-four-numbers (a ∷ b ∷ c ∷ d ∷ e ∷ l) n p q r s ep eq er es = absurd (omega arith)
+numbers-each [] [] n e = refl
+numbers-each [] (x ∷ l) n e = absurd (omega arith)
+numbers-each (p ∷ ps) [] n e = absurd (omega arith)
+numbers-each (p ∷ ps) (x ∷ l) n e = ap₂ (λ (y : ℕ) (r : List ℕ). y ∷ r) (e 0 (omega arith)) (numbers-each ps l (omega arith) (λ i h. e (suc i) (omega arith)))
 
 -- and set there
 pub numbers-set : (ps : List PhysicalAddress) (i : ℕ) (p : PhysicalAddress) → numbers_of (set ps i p) ≡ set (numbers_of ps) i p.0
@@ -64,15 +67,16 @@ module _ (d : Disc) (g : Geometry) (n t : ℕ) where
   unfolding is_of
   is-of-own r e q = q ∙ and-end (counts d g t) ∙ ap (λ (b : Bool). counts d g t && b) (sym (eq-eqb (sequence_at d t) n e))
 
-  -- that it is so is wanted,
-  pub wanted-so : (w r : Bool) → w ≡ true → r ≡ is_of d g n t → r ≡ as_wanted d g n w t
+  -- it is as is wanted, or not
+  pub wanted-is : (w r : Bool) → r ≡ is_of d g n t → as_wanted d g n w t ≡ beq r w
   unfolding as_wanted
-  wanted-so w r e q = q ∙ sym (ap (λ (b : Bool). cond b (is_of d g n t) (not (is_of d g n t))) e)
-
-  -- or that it is not
-  pub wanted-not : (w r : Bool) → w ≡ false → r ≡ is_of d g n t → not r ≡ as_wanted d g n w t
-  unfolding as_wanted
-  wanted-not w r e q = ap not q ∙ sym (ap (λ (b : Bool). cond b (is_of d g n t) (not (is_of d g n t))) e)
+  wanted-is w r q = rw q (go w (is_of d g n t))
+    where
+      go : (v s : Bool) → cond v s (not s) ≡ beq s v
+      go true true = refl
+      go true false = refl
+      go false true = refl
+      go false false = refl
 
 -- ---- the tables of which it is as wanted, gathered after others
 
@@ -88,28 +92,27 @@ module _ (d : Disc) (g : Geometry) (n : ℕ) (w : Bool) where
   pub gathering-first : (ts places : List ℕ) (count : ℕ) → length places ≡ 4 → Gathering ts (take count places) count 0 places count
   gathering-first ts places count e = record { long = e; counted = refl; left = refl }
 
-  module _ (t : List ℕ) (k i : ℕ) (h : k ≤ length t) where
+  module _ (t : List ℕ) (i : ℕ) where
     -- the first of the tables that are left
-    chosen-step : (b : Bool) → i < k → b ≡ as_wanted d g n w (get_or t i 0) → chosen d g n w (drop i (take k t)) ≡ cond b (get_or t i 0 ∷ chosen d g n w (drop (i + 1) (take k t))) (chosen d g n w (drop (i + 1) (take k t)))
+    chosen-step : (b : Bool) → i < length t → as_wanted d g n w (get_or t i 0) ≡ b → chosen d g n w (drop i t) ≡ cond b (get_or t i 0 ∷ chosen d g n w (drop (i + 1) t)) (chosen d g n w (drop (i + 1) t))
     unfolding chosen
     chosen-step b l e =
-        ap (chosen d g n w) (table_step t k i h l)
-        ∙ ap (λ (c : Bool). cond c (get_or t i 0 ∷ chosen d g n w (drop (i + 1) (take k t))) (chosen d g n w (drop (i + 1) (take k t)))) (sym e)
+        rw add-one
+        (ap (chosen d g n w) (drop-cons t i 0 l)
+        ∙ ap (λ (c : Bool). cond c (get_or t i 0 ∷ chosen d g n w (drop (suc i) t)) (chosen d g n w (drop (suc i) t))) e)
 
     -- no table is left
-    chosen-end : k ≤ i → chosen d g n w (drop i (take k t)) ≡ []
+    chosen-end : length t ≤ i → chosen d g n w (drop i t) ≡ []
     unfolding chosen
-    chosen-end l = ap (chosen d g n w) (table-end t k i h l)
+    chosen-end l = ap (chosen d g n w) (drop_of_length-le t {i = i} l)
 
     -- there is room for one that is wanted
-    pub gathering-room : (start places : List ℕ) (from count : ℕ) (b : Bool) → i < k → b ≡ as_wanted d g n w (get_or t i 0) → b ≡ true → from + length (chosen d g n w (take k t)) ≤ 4 → Gathering (take k t) start from i places count → count < 4
-    gathering-room start places from count b l e q room s =
-        let step = chosen-step true l (sym q ∙ e) in
-        omega (arith, ap length step, s.counted, room)
+    pub gathering-room : (start places : List ℕ) (from count : ℕ) → i < length t → as_wanted d g n w (get_or t i 0) ≡ true → from + length (chosen d g n w t) ≤ 4 → Gathering t start from i places count → count < 4
+    gathering-room start places from count l e room s = omega (arith, ap length (chosen-step true l e), s.counted, room)
 
     -- it is added
-    pub gathering-taken : (start places : List ℕ) (from count : ℕ) (b : Bool) → i < k → b ≡ as_wanted d g n w (get_or t i 0) → b ≡ true → count < 4 → Gathering (take k t) start from i places count → Gathering (take k t) start from (i + 1) (set places count (get_or t i 0)) (count + 1)
-    gathering-taken start places from count b l e q room s =
+    pub gathering-taken : (start places : List ℕ) (from count : ℕ) → i < length t → as_wanted d g n w (get_or t i 0) ≡ true → count < 4 → Gathering t start from i places count → Gathering t start from (i + 1) (set places count (get_or t i 0)) (count + 1)
+    gathering-taken start places from count l e room s =
         record {
           long = length-set places count (get_or t i 0) ∙ s.long;
           counted = omega (arith, ap length step, s.counted);
@@ -122,15 +125,15 @@ module _ (d : Disc) (g : Geometry) (n : ℕ) (w : Bool) where
         }
       where
         next : List ℕ
-        next = chosen d g n w (drop (i + 1) (take k t))
+        next = chosen d g n w (drop (i + 1) t)
 
-        step : chosen d g n w (drop i (take k t)) ≡ get_or t i 0 ∷ next
-        step = chosen-step true l (sym q ∙ e)
+        step : chosen d g n w (drop i t) ≡ get_or t i 0 ∷ next
+        step = chosen-step true l e
 
     -- one that is not is left out
-    pub gathering-left : (start places : List ℕ) (from count : ℕ) (b : Bool) → i < k → b ≡ as_wanted d g n w (get_or t i 0) → b ≡ false → Gathering (take k t) start from i places count → Gathering (take k t) start from (i + 1) places count
-    gathering-left start places from count b l e q s =
-        let step : chosen d g n w (drop i (take k t)) ≡ chosen d g n w (drop (i + 1) (take k t)) = chosen-step false l (sym q ∙ e) in
+    pub gathering-left : (start places : List ℕ) (from count : ℕ) → i < length t → as_wanted d g n w (get_or t i 0) ≡ false → Gathering t start from i places count → Gathering t start from (i + 1) places count
+    gathering-left start places from count l e s =
+        let step : chosen d g n w (drop i t) ≡ chosen d g n w (drop (i + 1) t) = chosen-step false l e in
         record {
           long = s.long;
           counted = sym (ap (λ (r : List ℕ). count + length r) step) ∙ s.counted;
@@ -138,7 +141,7 @@ module _ (d : Disc) (g : Geometry) (n : ℕ) (w : Bool) where
         }
 
     -- all are gathered
-    pub gathering-last : (start places : List ℕ) (from count : ℕ) → k ≤ i → Gathering (take k t) start from i places count → (count ≡ from + length (chosen d g n w (take k t))) × (take count places ≡ start ++ chosen d g n w (take k t))
+    pub gathering-last : (start places : List ℕ) (from count : ℕ) → length t ≤ i → Gathering t start from i places count → (count ≡ from + length (chosen d g n w t)) × (take count places ≡ start ++ chosen d g n w t)
     gathering-last start places from count l s = (
       omega (arith, ap length (chosen-end l), s.counted),
       sym (append-nil (take count places)) ∙ sym (ap (λ (r : List ℕ). take count places ++ r) (chosen-end l)) ∙ s.left,
@@ -260,8 +263,3 @@ module _ (d : Disc) (g : Geometry) (n : ℕ) where
         sym (get_or-take c q i 0 l) ∙ ap (λ (x : List ℕ). get_or x i 0) (eq ∙ sym order-chosen) in
         let in_order_law : i < length (chosen d g n false g.tables ++ chosen d g n true g.tables) = omega (arith, ap length order-chosen, order-length) in
         omega (arith, at, all i in_order_law)
-
--- with the current sequence the order is that of a sparing's writes
-pub order-planned : (e : Setting) (d : Disc) (n : ℕ) → n ≡ sequence_on e d → order_of d (geometry e d) n ≡ copy_order e d
-unfolding copy_order sequence_on
-order-planned e d n q = order-current d (geometry e d) n q

@@ -10,20 +10,13 @@ ghost use Rattle.model.specs.Disc.{disc as disc_of, sector};
 ghost use Rattle.model.specs.Writes.{write, writes};
 ghost use Rattle.model.specs.Sparing.{counts};
 ghost use Rattle.model.specs.Rewrite.{packet_writes, replaced, copies_to};
-ghost use Rattle.sparing_copy.specs.Layout.{geometry_in, TablesOn};
-ghost use Rattle.sparing_writes.specs.Order.{numbers_of, is_of, as_wanted, chosen, order_of};
+ghost use Rattle.sparing_copy.specs.Layout.{geometry_in};
+ghost use Rattle.sparing_writes.specs.Order.{numbers_of, is_of, chosen, order_of};
 
 use address::{MediaBlockAddress, PhysicalAddress};
 use maps::PACKET;
 use model::Cut;
 use sparing_copy::Layout;
-
-// Sectors of tables: the first `count` of four places.
-#[derive(Clone, Copy)]
-struct Chosen {
-    places: [PhysicalAddress; 4],
-    count: usize,
-}
 
 // Writes a sector of a packet of which the block at sector `place` is replaced: that block's new bytes, or
 // the sector's own. Inside the layers: the sector is one of the disc's, line 1 has been tested, and a block's
@@ -67,20 +60,16 @@ pub fn write_block(
         ≡ writes 1 cut (packet_writes first.0 (replaced (disc_of disc.old marks.old) first.0 i block.now)) (disc_of disc.old marks.old) }
 {
     let place = address::up_from(first, i);
-    let mut k: u32 = 0;
-    let mut n: u32 = 1;
-    while k < PACKET {
+    for k in 0..PACKET {
         write_picked(
             disc,
             marks,
             address::up_from(first, k),
             place,
             block,
-            n,
+            k + 1,
             cut,
         );
-        k += 1;
-        n += 1;
     }
 }
 
@@ -88,38 +77,27 @@ pub fn write_block(
 pub fn table_places(tables: [u32; 4]) -> [PhysicalAddress; 4]
     ensures { numbers_of result ≡ tables }
 {
-    let first = address::media_to_physical(MediaBlockAddress(tables[0]));
-    let second = address::media_to_physical(MediaBlockAddress(tables[1]));
-    let third = address::media_to_physical(MediaBlockAddress(tables[2]));
-    let fourth = address::media_to_physical(MediaBlockAddress(tables[3]));
-    [first, second, third, fourth]
+    tables.map(|t| address::media_to_physical(MediaBlockAddress(t)))
 }
 
-// Writes the same sector's bytes to the first `count` of four sectors; the first of these writes has the
-// number `number`. Inside the layers: the sectors are the disc's, line 1 has been tested, and a sector's
-// bytes are lent.
+// Writes the same sector's bytes to some sectors; the first of these writes has the number `number`. Inside
+// the layers: the sectors are the disc's, line 1 has been tested, and a sector's bytes are lent.
 pub fn write_copies(
     disc: &mut [u8],
     marks: &mut [u8],
-    places: [PhysicalAddress; 4],
-    count: usize,
+    places: &[PhysicalAddress],
     bytes: &[u8],
     number: u32,
     cut: Cut,
 )
-    requires count_bound { count ≤ 4 }
-    requires by_index { (i : ℕ) → i < count → get_or (numbers_of places) i 0 < length marks.old }
+    requires by_index { (i : ℕ) → i < length places.now → get_or (numbers_of places.now) i 0 < length marks.old }
     requires disc_len { length disc.old ≡ 2048 * length marks.old }
     requires bytes_len { length bytes.now ≡ 2048 }
-    requires count_bound_2 { number + count < 2 ^ 32 }
-    ensures { disc_of disc.new marks.new ≡ writes number cut (copies_to (take count (numbers_of places)) bytes.now) (disc_of disc.old marks.old) }
+    requires numbered { number + length places.now < 2 ^ 32 }
+    ensures { disc_of disc.new marks.new ≡ writes number cut (copies_to (numbers_of places.now) bytes.now) (disc_of disc.old marks.old) }
 {
-    let mut k: usize = 0;
-    let mut n = number;
-    while k < count {
-        disc_writes::write_sector(disc, marks, places[k], bytes, n, cut);
-        k += 1;
-        n += 1;
+    for (k, place) in places.iter().enumerate() {
+        disc_writes::write_sector(disc, marks, *place, bytes, number + k as u32, cut);
     }
 }
 
@@ -133,45 +111,18 @@ fn is_of(
     sequence: u32,
     at: PhysicalAddress,
 ) -> bool
-    requires count_bound { (x.count ≤ 4) × (x.size ≤ 2048) }
     requires disc_len { length disc.now ≡ 2048 * length marks.now }
     requires t_in_bounds { (t.0 < length marks.now) × (at.0 < length marks.now) }
     requires at_value { counts (disc_of disc.now marks.now) (geometry_in x) at.0 ≡ true }
     ensures { result ≡ is_of (disc_of disc.now marks.now) (geometry_in x) sequence t.0 }
 {
-    if sparing_copies::sequence_at(disc, t) != sequence {
-        return false;
-    }
-    sparing_copies::counts_beside(disc, marks, x, t, at)
+    let is_own = sparing_copies::sequence_at(disc, t) == sequence;
+    is_own && sparing_copies::counts_beside(disc, marks, x, t, at)
 }
 
-// Whether the copy at sector `t` is one of this sequence, or is none, as is wanted, where the copy at sector
-// `at` counts. Inside the layers: the sectors are the disc's, and lines 1 and 5 have been tested.
-fn is_wanted(
-    disc: &[u8],
-    marks: &[u8],
-    x: Layout,
-    t: PhysicalAddress,
-    sequence: u32,
-    at: PhysicalAddress,
-    wanted: bool,
-) -> bool
-    requires count_bound { (x.count ≤ 4) × (x.size ≤ 2048) }
-    requires disc_len { length disc.now ≡ 2048 * length marks.now }
-    requires t_in_bounds { (t.0 < length marks.now) × (at.0 < length marks.now) }
-    requires at_value { counts (disc_of disc.now marks.now) (geometry_in x) at.0 ≡ true }
-    ensures { result ≡ as_wanted (disc_of disc.now marks.now) (geometry_in x) sequence wanted t.0 }
-{
-    let is_so = is_of(disc, marks, x, t, sequence, at);
-    if wanted {
-        return is_so;
-    }
-    !is_so
-}
-
-// The first `before` of four sectors, and after them, in map order, the tables of this sequence, or all others,
-// as is wanted. Inside the layers: lines 1, 5 and 6 have been tested, the copy at sector `at` counts, and
-// there is room for them.
+// Puts the tables of this sequence, or all others, as is wanted, in map order into four places, from number `before` on,
+// and gives the number behind them. Inside the layers: lines 1, 5 and 6 have been tested, the copy at sector `at` counts,
+// and there is room for them.
 fn gather(
     disc: &[u8],
     marks: &[u8],
@@ -179,32 +130,27 @@ fn gather(
     sequence: u32,
     at: PhysicalAddress,
     wanted: bool,
-    from: [PhysicalAddress; 4],
+    places: &mut [PhysicalAddress; 4],
     before: usize,
-) -> Chosen
-    requires count_bound { (x.count ≤ 4) × (x.size ≤ 2048) }
+) -> usize
     requires disc_len { length disc.now ≡ 2048 * length marks.now }
-    requires sectors_value { (x.sectors ≡ length marks.now) × TablesOn x }
+    requires sectors_value { x.sectors ≡ length marks.now }
     requires at_in_bounds { at.0 < length marks.now }
     requires at_value { counts (disc_of disc.now marks.now) (geometry_in x) at.0 ≡ true }
-    requires x_bound { before + length (chosen (disc_of disc.now marks.now) (geometry_in x) sequence wanted (geometry_in x).tables) ≤ 4 }
-    ensures count_value { result.count ≡ before + length (chosen (disc_of disc.now marks.now) (geometry_in x) sequence wanted (geometry_in x).tables) }
-    ensures places_value { take result.count (numbers_of result.places) ≡ take before (numbers_of from) ++ chosen (disc_of disc.now marks.now) (geometry_in x) sequence wanted (geometry_in x).tables }
+    requires room { before + length (chosen (disc_of disc.now marks.now) (geometry_in x) sequence wanted (geometry_in x).tables) ≤ 4 }
+    ensures count_value { result ≡ before + length (chosen (disc_of disc.now marks.now) (geometry_in x) sequence wanted (geometry_in x).tables) }
+    ensures places_value { take result (numbers_of places.new) ≡ take before (numbers_of places.old) ++ chosen (disc_of disc.now marks.now) (geometry_in x) sequence wanted (geometry_in x).tables }
 {
-    let tables = x.volume.tables;
-    let n = x.count as usize;
-    let mut places = from;
+    let tables = x.tables();
     let mut count = before;
-    let mut i: usize = 0;
-    while i < n {
-        let t = address::media_to_physical(MediaBlockAddress(tables[i]));
-        if is_wanted(disc, marks, x, t, sequence, at, wanted) {
+    for table in tables {
+        let t = address::media_to_physical(MediaBlockAddress(*table));
+        if is_of(disc, marks, x, t, sequence, at) == wanted {
             places[count] = t;
             count += 1;
         }
-        i += 1;
     }
-    Chosen { places, count }
+    count
 }
 
 // The order in which a sparing writes the copies: the tables that are not of the current sequence, then those
@@ -217,17 +163,15 @@ pub fn copy_order(
     sequence: u32,
     at: PhysicalAddress,
 ) -> [PhysicalAddress; 4]
-    requires count_bound { (x.count ≤ 4) × (x.size ≤ 2048) }
     requires disc_len { length disc.now ≡ 2048 * length marks.now }
-    requires sectors_value { (x.sectors ≡ length marks.now) × TablesOn x }
+    requires sectors_value { x.sectors ≡ length marks.now }
     requires at_in_bounds { at.0 < length marks.now }
     requires at_value { counts (disc_of disc.now marks.now) (geometry_in x) at.0 ≡ true }
     ensures result_value { take x.count (numbers_of result) ≡ order_of (disc_of disc.now marks.now) (geometry_in x) sequence }
     ensures by_index { (i : ℕ) → i < x.count → get_or (numbers_of result) i 0 < length marks.now }
 {
-    let none = [sparing_copies::nowhere(); 4];
-    let others = gather(disc, marks, x, sequence, at, false, none, 0);
-    let first = others.places;
-    let all = gather(disc, marks, x, sequence, at, true, first, others.count);
-    all.places
+    let mut places = [at; 4];
+    let others = gather(disc, marks, x, sequence, at, false, &mut places, 0);
+    gather(disc, marks, x, sequence, at, true, &mut places, others);
+    places
 }

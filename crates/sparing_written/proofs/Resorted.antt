@@ -22,7 +22,7 @@ use Rattle.model.proofs.SparingEntries.{spot-none}
 use Rattle.sparing_copy.proofs.Entries.{entries-drop}
 use Rattle.sparing_table.specs.Table.{lent_entry, has, above, place_where}
 use Rattle.sparing_written.specs.Written.{spared_numbers, respared_numbers, Ordered}
-use Rattle.sparing_table.proofs.Table.{lent-step, lent-end, entry_found, entry-missing, spot-found, spot-missing, free-found, free-at}
+use Rattle.sparing_table.proofs.Table.{lent-step, lent-end, lent_length, place_most, spot-found, spot-missing, free-found, free-at}
 use Rattle.sparing_written.proofs.Written.{flat_append, length-spared, length-respared}
 
 -- ---- places
@@ -38,15 +38,6 @@ place-free : (l : List Entry) → Each is_free l → place_where (has none) l �
 unfolding place_where is_free
 place-free [] h = refl
 place-free (e ∷ l) h = rw h.0
-
-place-most : (f : Entry → Bool) (es : List Entry) → place_where f es ≤ length es
-unfolding place_where
-place-most f [] = omega arith
-place-most f (e ∷ l) = go (f e) (place-most f l)
-  where
-    go : (b : Bool) → place_where f l ≤ length l → cond b 0 (suc (place_where f l)) ≤ suc (length l)
-    go true h = omega arith
-    go false h = omega arith
 
 -- an entry above every packet changes no place before it
 place-above : (p : ℕ) (a : List Entry) (f : Entry) (r : List Entry) → p < f.original → place_where (above p) (a ++ (f ∷ r)) ≡ place_where (above p) a
@@ -242,7 +233,7 @@ module _ (es : List Entry) (u : ℕ) (o : Ordered es) (free : u ≡ place_where 
       above-is = at ∙ ap (place_where (above p)) o.whole ∙ first_above (defective_of es) (free_of es) (each-defective es) (each_free es) o.some
 
       among : k ≤ length (used_of es)
-      among = omega (arith, above-is, place-most (above p) (used_of es))
+      among = omega (arith, above-is, place_most (above p) (used_of es))
 
       -- its place is not behind the first free one
       pub place-before : k ≤ u
@@ -332,15 +323,6 @@ flat-part l k j h =
     ∙ ap flat (entries-take j (drop (2 * k) l))
     ∙ flat-entries j (part l (2 * k) (2 * j)) (length_part l (2 * k) (2 * j) h)
 
--- no more entries than half the numbers
-few-entries : (t : List ℕ) (n : ℕ) → 2 * n ≤ length t → length (entries (take (2 * n) t)) ≤ n
-few-entries t n h =
-    omega (
-      arith,
-      length-drop n (entries (take (2 * n) t)),
-      ap (λ (l : List Entry). length l) (lent-end t n n h (omega arith)),
-    )
-
 -- ---- the numbers of the resorted entries
 
 -- u is the place of the first free entry of the lent table
@@ -350,12 +332,12 @@ module _ (t : List ℕ) (n u : ℕ) (fits : 2 * n ≤ length t) (o : Ordered (en
 
   -- it is one of the entries
   pub spared-within : u < n
-  spared-within = omega (arith, free-within es u o free, few-entries t n fits)
+  spared-within = omega (arith, free-within es u o free, lent_length t n fits)
 
   taken_is : first_free (free_of es) ≡ get_or t (2 * u + 1) 0
   taken_is =
       sym (free-at (free_of es) (record { 0 = get_or t (2 * u + 1) 0 })
-      (free-found es (lent_entry t u) (drop (u + 1) es) _ (entry_found t n n u none fits refl free spared-within) refl)).1
+      (free-found es (lent_entry t u) (drop (u + 1) es) _ (rw (sym free) (lent-step t n u fits spared-within)) refl)).1
 
   -- the numbers of some of the entries
   first_part : (k : ℕ) → k ≤ n → flat (take k es) ≡ take (2 * k) t
@@ -371,7 +353,7 @@ module _ (t : List ℕ) (n u : ℕ) (fits : 2 * n ≤ length t) (o : Ordered (en
   last-part =
       let hu : u < n = spared-within in
       let e : 2 * (u + 1) ≡ 2 * u + 2 = omega arith in
-      ap flat (sym (take_all (n - u - 1) (drop (u + 1) es) (omega (arith, length-drop (u + 1) es, few-entries t n fits))))
+      ap flat (sym (take_all (n - u - 1) (drop (u + 1) es) (omega (arith, length-drop (u + 1) es, lent_length t n fits))))
       ∙ some-part (u + 1) (n - u - 1) (omega arith)
       ∙ ap (λ (j : ℕ). part t j (2 * (n - u - 1))) e
 
@@ -431,7 +413,7 @@ module _ (t : List ℕ) (n u : ℕ) (fits : 2 * n ≤ length t) (o : Ordered (en
         ap (λ (l : List ℕ). length l) (respared-is k refl there)
         ∙ length-respared t n p k u spared-within fits (respared-before k refl there))
         (λ past.
-        let missing = entry-missing t n n k p fits refl refl past in
+        let missing = lent-end t n k fits past in
         let a : ℕ = place_where (above p) es in
         ap (λ (l : List ℕ). length l) (spared-is a refl missing)
         ∙ length-spared t n p a u spared-within fits (spared-before a refl missing))

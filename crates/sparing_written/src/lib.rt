@@ -13,6 +13,7 @@ ghost use Rattle.sparing_table.specs.Table.{has, place_where};
 ghost use Rattle.sparing_written.specs.Written.{begun, spared_numbers, respared_numbers, Ordered};
 
 use address::LogicalAddress;
+use fields::Number;
 use sparing_copy::{
     COUNT_AT, DEFECTIVE, ENTRIES_AT, ENTRY, FREE, NUMBER, REGID, REGID_AT, SEQUENCE_AT,
 };
@@ -24,8 +25,8 @@ fn begin_table(sector: &mut [u8], entries: u16, sequence: u32)
 {
     fields_written::clear(sector);
     fields_written::write_regid(sector, REGID_AT, &REGID);
-    fields_written::write16(sector, COUNT_AT, entries);
-    fields_written::write32(sector, SEQUENCE_AT, sequence);
+    entries.write(sector, COUNT_AT);
+    sequence.write(sector, SEQUENCE_AT);
 }
 
 // Writes an entry at place `i` of a table's sector.
@@ -34,8 +35,8 @@ fn put_entry(sector: &mut [u8], i: usize, original: u32, mapped: u32)
     ensures { sector.new ≡ splice sector.old (56 + 8 * i) (quads (original ∷ mapped ∷ [])) }
 {
     let at = ENTRIES_AT + ENTRY * i;
-    fields_written::write32(sector, at, original);
-    fields_written::write32(sector, at + NUMBER, mapped);
+    original.write(sector, at);
+    mapped.write(sector, at + NUMBER);
 }
 
 // Writes numbers in a row, from place `i` of the entries on.
@@ -103,13 +104,14 @@ fn put_taken(sector: &mut [u8], table: &[u32], n: usize, p: LogicalAddress, free
     requires ordered { Ordered (entries (take (2 * n) table.now)) }
     ensures { sector.new ≡ splice sector.old 56 (quads (flat (resorted (entries (take (2 * n) table.now)) p.0))) }
 {
-    let own = sparing_table::find_entry(table, n, p.0);
-    if own < n {
-        put_respared(sector, table, n, p, own, free);
-        return;
+    let end = 2 * n;
+    match sparing_table::find_entry(&table[..end], p.0) {
+        Some(own) => put_respared(sector, table, n, p, own, free),
+        None => {
+            let place = sparing_table::find_above(&table[..end], p).unwrap_or(n);
+            put_spared(sector, table, n, p, place, free);
+        }
     }
-    let place = sparing_table::find_above(table, n, p);
-    put_spared(sector, table, n, p, place, free);
 }
 
 // Writes the sector of the table once packet `p`, spared before or not, took the free entry of lowest index,
@@ -120,8 +122,9 @@ pub fn write_spared(sector: &mut [u8], table: &[u32], r: u32, p: LogicalAddress,
     requires ordered { Ordered (entries (take (2 * r) table.now)) }
     ensures { sector.new ≡ written_table sequence (flat (resorted (entries (take (2 * r) table.now)) p.0)) }
 {
-    let n = fields::usize_of_u32(r);
-    let free = sparing_table::find_entry(table, n, FREE);
+    let n = r as usize;
+    let end = 2 * n;
+    let free = sparing_table::find_entry(&table[..end], FREE).unwrap();
     begin_table(sector, r as u16, sequence);
     put_taken(sector, table, n, p, free);
 }
@@ -131,10 +134,8 @@ fn put_free(sector: &mut [u8], spares: &[u32])
     requires { 56 + 8 * length spares.now ≤ length sector.old }
     ensures { sector.new ≡ splice sector.old 56 (quads (flat (spare_entries spares.now))) }
 {
-    let mut i: usize = 0;
-    while i < spares.len() {
-        put_entry(sector, i, FREE, spares[i]);
-        i += 1;
+    for (i, spare) in spares.iter().enumerate() {
+        put_entry(sector, i, FREE, *spare);
     }
 }
 

@@ -1,10 +1,11 @@
--- Laws of the checksum and of the CRC. Others may cite xor_assoc, byte_step-below, crc-below, crc-append, total-append, checksum-below
+-- Laws of the checksum and of the CRC. Others may cite byte_step-below, crc-below, crc-append, total-append, checksum-below
 -- and checksum-set; the rest serves the functions of this crate. Assumes nothing.
-use Rattle.std.proofs.Common.{◌≡◌, ℕ, zero, suc, ◌+◌, ◌*◌, ◌/◌, ◌%◌, ◌^◌, ◌<◌, ◌≤◌, List, [], ◌∷◌, ◌++◌, length, get_or, take, drop, set, sym, refl, ap, ◌∙◌, ap₂, le_of_suc-le-suc, add-zero, add-suc, mod-eq_of_lt, mul_assoc, add_comm, suc-add, zero-add, add-one, arith, drop_of_length-le, drop-cons, take-suc, drop-set-lt}
+use Rattle.std.proofs.Common.{◌≡◌, ℕ, zero, suc, ◌+◌, ◌*◌, ◌/◌, ◌%◌, ◌^◌, ◌<◌, ◌≤◌, List, [], ◌∷◌, ◌++◌, length, get_or, take, drop, set, sym, refl, ap, ◌∙◌, ap₂, le_of_suc-le-suc, add-zero, add-suc, mod-eq_of_lt, mul_assoc, add_comm, suc-add, zero-add, add-one, arith, drop_of_length-le, drop-cons, drop-set-lt}
 use native.Mathlib.Nat.{add-mod, mod-add-mod}
-use lib.Arith.{bin_ind}
 use lib.Bits.{bit_xor, xor_add_and, xor_comm, xor_lt, xor_mod, xor_self, xor_shr, xor_zero_r}
 use lib.Seq.{take-set-le}
+use Rattle.std.specs.Int.Bits.{xor_assoc}
+use Rattle.std.specs.List.{fold}
 use Rattle.tag.specs.Checksum.{total, checksum_of}
 use Rattle.tag.specs.Crc.{bit_step, bits_of, bits_from, byte_step, crc_from}
 
@@ -23,27 +24,9 @@ sum-odd : (a b c : ℕ) → (bit_xor a b + c) % 2 ≡ (a + b + c) % 2
 sum-odd a b c =
     sym (mod-add-mod (bit_xor a b) 2 c) ∙ ap (λ (x : ℕ). (x + c) % 2) (xor-odd a b) ∙ mod-add-mod (a + b) 2 c
 
--- and it may move there from one end to the other
-odd-assoc : (a b c : ℕ) → (bit_xor a b + c) % 2 ≡ (a + bit_xor b c) % 2
-odd-assoc a b c =
-    let e : a + b + c ≡ b + c + a = omega arith in
-    sum-odd a b c ∙ ap odd e ∙ sym (sum-odd b c a) ∙ ap odd (add_comm (bit_xor b c) a)
-
 -- an exclusive or is that of the halves, with its last bit
 xor-halves : (a b : ℕ) → bit_xor a b ≡ bit_xor (a / 2) (b / 2) * 2 + (a + b) % 2
 xor-halves a b = omega (arith, xor-odd a b, xor_shr a b 1)
-
--- exclusive or is associative
-pub xor_assoc : (a b c : ℕ) → bit_xor (bit_xor a b) c ≡ bit_xor a (bit_xor b c)
-xor_assoc = bin_ind (λ (n : ℕ). (b c : ℕ) → bit_xor (bit_xor n b) c ≡ bit_xor n (bit_xor b c)) (λ b c. refl) step
-  where
-    step : (n : ℕ) → ((b c : ℕ) → bit_xor (bit_xor (n / 2) b) c ≡ bit_xor (n / 2) (bit_xor b c)) → (b c : ℕ) → bit_xor (bit_xor n b) c ≡ bit_xor n (bit_xor b c)
-    step n ih b c =
-        xor-halves (bit_xor n b) c
-        ∙ ap₂ (λ (h l : ℕ). h * 2 + l)
-        (ap (λ (x : ℕ). bit_xor x (c / 2)) (xor_shr n b 1) ∙ ih (b / 2) (c / 2) ∙ ap (bit_xor (n / 2)) (sym (xor_shr b c 1)))
-        (odd-assoc n b c)
-        ∙ sym (xor-halves n (bit_xor b c))
 
 -- two pairs may be taken crosswise
 pub xor-pairs : (a b c d : ℕ) → bit_xor (bit_xor a b) (bit_xor c d) ≡ bit_xor (bit_xor a c) (bit_xor b d)
@@ -214,18 +197,25 @@ pub crc-end : (c : ℕ) (s : List ℕ) (i : ℕ) → length s ≤ i → crc_from
 unfolding crc_from
 crc-end c s i h = rw (drop_of_length-le s h)
 
+-- the CRC as a fold
+pub crc-fold : (c : ℕ) (s : List ℕ) → fold byte_step c s ≡ crc_from c s
+unfolding crc_from
+crc-fold c [] = refl
+crc-fold c (b ∷ s) = crc-fold (byte_step c b) s
+
 -- ---- the checksum
+
+-- the sum modulo 256 as a fold
+pub total-fold : (n : ℕ) (s : List ℕ) → fold (λ a b. (a + b) % 256) n s % 256 ≡ (n + total s) % 256
+unfolding total
+total-fold n [] = omega arith
+total-fold n (b ∷ s) = omega (arith, total-fold ((n + b) % 256) s)
 
 -- the sum of two lists in a row
 pub total-append : (a b : List ℕ) → total (a ++ b) ≡ total a + total b
 unfolding total
 total-append [] b = omega arith
 total-append (x ∷ a) b = omega (arith, total-append a b)
-
--- the sum with one byte more
-pub total-next : (s : List ℕ) (i : ℕ) → i < length s → total (take (i + 1) s) ≡ total (take i s) + get_or s i 0
-unfolding total
-total-next s i h = rw (add-one, take-suc s i 0, total-append) (omega arith)
 
 -- the sums of the two parts, each modulo 256, add up to the checksum
 pub checksum-parts : (s : List ℕ) {r a b : ℕ} → a ≡ total (take 4 s) % 256 → b ≡ total (take 11 (drop 5 s)) % 256 → r ≡ (a + b) % 256 → r ≡ checksum_of s

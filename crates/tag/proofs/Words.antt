@@ -1,12 +1,14 @@
 -- Laws of the CRC by words of four bytes. Everything is linear over exclusive or, so a rule for every word is computed at the
 -- powers of two alone. They serve the functions of this crate. Assumes nothing.
-use Rattle.std.proofs.Common.{◌≡◌, ℕ, zero, suc, ◌+◌, ◌-◌, ◌*◌, ◌/◌, ◌%◌, ◌^◌, ◌<◌, ◌≤◌, List, [], ◌∷◌, length, get_or, take, drop, sym, refl, ap, ◌∙◌, subst, ap₂, le_refl, mod-lt, mul_comm, div-lt_iff_lt-mul, one-mul, pow-suc, zero-mul, arith, length-drop, take_all, pow_pos}
+use Rattle.std.proofs.Common.{◌≡◌, ℕ, zero, suc, ◌+◌, ◌*◌, ◌/◌, ◌%◌, ◌^◌, ◌<◌, ◌≤◌, List, [], ◌∷◌, length, get_or, drop, sym, refl, ap, ◌∙◌, subst, ap₂, mod-lt, mul_comm, div-lt_iff_lt-mul, one-mul, pow-suc, zero-mul, arith, length-drop, pow_pos, ◌++◌, length-append}
+use Rattle.std.proofs.lemmas.List.{drop-drop, drop_at}
+use Rattle.std.specs.Int.Bits.{xor_assoc}
 use native.Mathlib.Numerals.{unary_clauses}
 use lib.Bits.{bit_xor, xor_block, xor_comm, xor_mod, xor_self, xor_shifted, xor_shr, xor_zero_r}
 use lib.Pow.{split}
 use Rattle.tag.specs.Crc.{bit_step, bits_of, bits_from, byte_step, crc_from}
 use Rattle.tag.specs.Word.{word_of, word_at, word_step, by_words, four, ByTheWord, carried}
-use Rattle.tag.proofs.Laws.{byte_step-xor, crc-next, listed, listed-agree, xor_assoc, xor-pairs}
+use Rattle.tag.proofs.Laws.{byte_step-xor, crc-append, crc-end, crc-next, listed, listed-agree, xor-pairs}
 
 -- ---- linear functions
 
@@ -160,13 +162,22 @@ crc-next-four c s i h e =
     rest : ℕ → ℕ → ℕ
     rest r n = crc_from r (drop n s)
 
+-- four bytes taken off the front
+pub crc-four-off : (c r : ℕ) (w t s : List ℕ) → length w ≡ 4 → s ≡ w ++ t → r ≡ byte_step (byte_step (byte_step (byte_step c (get_or w 0 0)) (get_or w 1 0)) (get_or w 2 0)) (get_or w 3 0) → crc_from r t ≡ crc_from c s
+crc-four-off c r w t s l e h =
+    let all : r ≡ crc_from c w = sym (crc-end r w 4 (omega arith)) ∙ crc-next-four c w 0 (omega arith) h in
+    ap (λ (x : ℕ). crc_from x t) all ∙ sym (crc-append c w t) ∙ ap (crc_from c) (sym e)
+
+-- and what is then left of a list
+pub four-off : (s left w t : List ℕ) (i : ℕ) → i ≤ length s → left ≡ drop i s → length w ≡ 4 → left ≡ w ++ t → (i + 4 ≤ length s) × (t ≡ drop (i + 4) s)
+four-off s left w t i h e l f = (
+  omega (arith, ap (λ (x : List ℕ). length x) (sym e ∙ f), length-append w t, length-drop i s),
+  sym (drop_at w t 4 l) ∙ ap (drop 4) (sym f ∙ e) ∙ drop-drop 4 i s,
+)
+
 -- so it does one word further on
 crc-next-word : (c : ℕ) (s : List ℕ) (i : ℕ) → i + 4 ≤ length s → crc_from (word_step c (word_at s i)) (drop (i + 4) s) ≡ crc_from c (drop i s)
 crc-next-word c s i h = crc-next-four c s i h (word_bytes c (get_or s i 0) (get_or s (i + 1) 0) (get_or s (i + 2) 0) (get_or s (i + 3) 0))
-
--- a part that ends where the list ends is all that is left
-pub part_left : (s : List ℕ) (i : ℕ) → take (length s - i) (drop i s) ≡ drop i s
-part_left s i = let h : length (drop i s) ≤ length s - i = simp length-drop (le_refl _) in take_all (length s - i) (drop i s) h
 
 -- ---- a word taken off, and xored into words further on
 

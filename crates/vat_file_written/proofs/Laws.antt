@@ -4,7 +4,7 @@ use mathlib.Core.Path.{◌≡◌, refl, sym, ap, ◌∙◌}
 use mathlib.Core.List.{List, [], ◌∷◌, ◌++◌, append-nil}
 use native.Mathlib.Omega.{arith}
 use lib.ListN.{length, take, drop, get_or, replicate, length-append, length-take, length-drop, length-replicate, drop_of_length-le, get_or-append, get_or-eq_default}
-use lib.Seq.{ext_get_or, get_or-append-add, get_or-take, get_or-drop, take_at, length-take-le, drop-nil, take-nil}
+use lib.Seq.{ext_get_or, get_or-append-add, get_or-drop, take_at, drop-nil, take-nil}
 use Rattle.fields.specs.Bytes.{part, splice}
 use Rattle.fields.specs.Number.{digits, quads}
 use Rattle.fields.specs.Regid.{identifier, regid}
@@ -119,13 +119,19 @@ module _ (t : List ℕ) (from w begun count : ℕ) (eb : begun ≡ min from (len
   length-put =
       length-splice (replicate w 0) 0 (part t begun count) (simp length-replicate (omega (arith, length-begun))) ∙ length-replicate {A = ℕ} w 0
 
-  pub put-onward : splice (replicate w 0) 0 (part t begun count) ≡ onward t from w
-  put-onward =
+  spliced-onward : splice (replicate w 0) 0 (part t begun count) ≡ onward t from w
+  spliced-onward =
       ext_get_or 0 (splice (replicate w 0) 0 (part t begun count)) (onward t from w) (length-put ∙ sym (length-onward t from w))
       (λ i h.
       put_byte (part t begun count) w i
       ∙ begun-byte i (omega (arith, length-put))
       ∙ sym (get_or-onward t from w i (omega (arith, length-put))))
+
+  pub put_onward : part t begun count ++ drop count (replicate w 0) ≡ onward t from w
+  unfolding splice
+  put_onward =
+      let e : count ≡ 0 + length (part t begun count) = omega (arith, length-begun) in
+      ap (λ (k : ℕ). part t begun count ++ drop k (replicate w 0)) e ∙ spliced-onward
 
 -- ---- entries
 
@@ -159,43 +165,37 @@ entries-part t first count = let e : first + count - first ≡ count = omega ari
 
 -- ---- the file: entries, and the tail straight after the last one
 
--- the first n entries of a table t are written from entry `first` on into w bytes: `count` of them, from `begun` on, fall into the bytes
-module _ (t : List ℕ) (n previous first begun count w : ℕ) (hn : n ≤ length t) (hw : w % 4 ≡ 0) (eb : begun ≡ min first n) (ec : count ≡ min (n - begun) (w / 4)) where
+-- the entries t are written from entry `first` on into w bytes: `count` of them, from `begun` on, fall into the bytes
+module _ (t : List ℕ) (previous first begun count w : ℕ) (hw : w % 4 ≡ 0) (eb : begun ≡ min first (length t)) (ec : count ≡ min (length t - begun) (w / 4)) where
   -- the bytes of the entries that fall into them
   entries-long : length (quads (part t begun count)) ≡ 4 * count
   entries-long =
       length-quads (part t begun count) ∙ ap (λ (k : ℕ). 4 * k) (length_part t begun count (omega arith))
 
-  -- the bytes of all entries
-  all-long : length (quads (take n t)) ≡ 4 * n
-  all-long = length-quads (take n t) ∙ ap (λ (k : ℕ). 4 * k) (length-take-le n t hn)
-
   -- a byte of an entry
-  entry-byte : (i : ℕ) → i < 4 * count → get_or (quads (part t begun count)) i 0 ≡ get_or (written_file (take n t) previous) (4 * first + i) 0
+  entry-byte : (i : ℕ) → i < 4 * count → get_or (quads (part t begun count)) i 0 ≡ get_or (written_file t previous) (4 * first + i) 0
   unfolding written_file
   entry-byte i h =
       let e : 4 * begun + i ≡ 4 * first + i = omega arith in
-      let l : 4 * first + i < 4 * n = omega arith in
+      let l : 4 * first + i < 4 * length t = omega arith in
       ap (λ (x : List ℕ). get_or x i 0) (quads-part t begun count)
       ∙ get_or-part (quads t) (4 * begun) (4 * count) i h
       ∙ ap (λ (j : ℕ). get_or (quads t) j 0) e
-      ∙ sym (get_or-take (4 * n) (quads t) (4 * first + i) 0 l)
-      ∙ ap (λ (x : List ℕ). get_or x (4 * first + i) 0) (sym (quads-take n t))
-      ∙ sym (get_or-append (quads (take n t)) (regid vat_name ++ digits 4 previous) 0 (4 * first + i) (omega (arith, all-long)))
+      ∙ sym (get_or-append (quads t) (regid vat_name ++ digits 4 previous) 0 (4 * first + i) (omega (arith, length-quads t)))
 
   -- a byte past the entries
-  tail-byte : (i : ℕ) → 4 * count ≤ i → i < w → get_or (onward (tail previous) (4 * (first - begun)) (w - 4 * count)) (i - 4 * count) 0 ≡ get_or (written_file (take n t) previous) (4 * first + i) 0
+  tail-byte : (i : ℕ) → 4 * count ≤ i → i < w → get_or (onward (tail previous) (4 * (first - begun)) (w - 4 * count)) (i - 4 * count) 0 ≡ get_or (written_file t previous) (4 * first + i) 0
   unfolding written_file tail
   tail-byte i h k =
       let m : ℕ = 4 * (first - begun) + (i - 4 * count) in
-      let e : 4 * first + i ≡ 4 * n + m = omega arith in
+      let e : 4 * first + i ≡ 4 * length t + m = omega arith in
       get_or-onward (tail previous) (4 * (first - begun)) (w - 4 * count) (i - 4 * count) (omega arith)
-      ∙ sym (get_or-append-add (quads (take n t)) (tail previous) m 0)
-      ∙ ap (λ (j : ℕ). get_or (quads (take n t) ++ tail previous) (j + m) 0) all-long
-      ∙ ap (λ (j : ℕ). get_or (quads (take n t) ++ tail previous) j 0) (sym e)
+      ∙ sym (get_or-append-add (quads t) (tail previous) m 0)
+      ∙ ap (λ (j : ℕ). get_or (quads t ++ tail previous) (j + m) 0) (length-quads t)
+      ∙ ap (λ (j : ℕ). get_or (quads t ++ tail previous) j 0) (sym e)
 
   -- a byte of both
-  piece_byte : (i : ℕ) → i < w → get_or (quads (part t begun count) ++ onward (tail previous) (4 * (first - begun)) (w - 4 * count)) i 0 ≡ get_or (written_file (take n t) previous) (4 * first + i) 0
+  piece_byte : (i : ℕ) → i < w → get_or (quads (part t begun count) ++ onward (tail previous) (4 * (first - begun)) (w - 4 * count)) i 0 ≡ get_or (written_file t previous) (4 * first + i) 0
   piece_byte i k =
       let entries : List ℕ = quads (part t begun count) in
       let rest : List ℕ = onward (tail previous) (4 * (first - begun)) (w - 4 * count) in
@@ -215,17 +215,17 @@ module _ (t : List ℕ) (n previous first begun count w : ℕ) (hn : n ≤ lengt
       ∙ omega (arith, entries-long, length-onward (tail previous) (4 * (first - begun)) (w - 4 * count))
 
   -- the entries, and the tail straight after them, are the file's bytes
-  file-pieces : quads (part t begun count) ++ onward (tail previous) (4 * (first - begun)) (w - 4 * count) ≡ file_from (take n t) previous first w
+  file-pieces : quads (part t begun count) ++ onward (tail previous) (4 * (first - begun)) (w - 4 * count) ≡ file_from t previous first w
   unfolding file_from
   file-pieces =
-      let file : List ℕ = written_file (take n t) previous in
+      let file : List ℕ = written_file t previous in
       ext_get_or 0 (quads (part t begun count) ++ onward (tail previous) (4 * (first - begun)) (w - 4 * count)) (onward file (4 * first) w)
       (pieces-long ∙ sym (length-onward file (4 * first) w))
       (λ i h. piece_byte i (omega (arith, pieces-long)) ∙ sym (get_or-onward file (4 * first) w i (omega (arith, pieces-long))))
 
   -- what is left of the lent bytes s: a has the entries in it, and the rest of a was lent on and came back as y
   pub file-left : (s a y : List ℕ) → length s ≡ w → a ≡ splice s 0 (quads (part t begun count)) → y ≡ onward (tail previous) (4 * (first - begun)) (length (take (length a - 4 * count) (drop (4 * count) a)))
-      → take (4 * count) a ++ (y ++ drop (length a - 4 * count) (drop (4 * count) a)) ≡ file_from (take n t) previous first w
+      → take (4 * count) a ++ (y ++ drop (length a - 4 * count) (drop (4 * count) a)) ≡ file_from t previous first w
   file-left s a y es ea ey =
       let entries : List ℕ = quads (part t begun count) in
       let long : length a ≡ w = ap length ea ∙ length-splice s 0 entries (omega (arith, entries-long)) ∙ es in
@@ -238,14 +238,14 @@ module _ (t : List ℕ) (n previous first begun count w : ℕ) (hn : n ≤ lengt
 -- ---- data sectors
 
 -- data sector number i is the file from entry 512 i on
-pub data-written : (t y : List ℕ) (n previous i w : ℕ) → n ≤ length t → i < data_sectors n → w ≡ 2048 → y ≡ file_from (take n t) previous (512 * i) w
-    → y ≡ part (written_data (take n t) previous) (2048 * i) 2048
+pub data-written : (t y : List ℕ) (previous i w : ℕ) → i < data_sectors (length t) → w ≡ 2048 → y ≡ file_from t previous (512 * i) w
+    → y ≡ part (written_data t previous) (2048 * i) 2048
 unfolding file_from written_data
-data-written t y n previous i w hn hi ew ey =
-    let file : List ℕ = written_file (take n t) previous in
+data-written t y previous i w hi ew ey =
+    let file : List ℕ = written_file t previous in
     let e : 4 * (512 * i) ≡ 2048 * i = omega arith in
-    let most : 2048 * i + 2048 ≤ 2048 * data_sectors (length (take n t)) = rw (length-take-le n t hn) (omega arith) in
+    let most : 2048 * i + 2048 ≤ 2048 * data_sectors (length t) = omega arith in
     ey
     ∙ ap (onward file (4 * (512 * i))) ew
     ∙ ap (λ (at : ℕ). onward file at 2048) e
-    ∙ sym (part_filled (2048 * data_sectors (length (take n t))) file (2048 * i) 2048 most)
+    ∙ sym (part_filled (2048 * data_sectors (length t)) file (2048 * i) 2048 most)

@@ -5,7 +5,7 @@ use mathlib.Core.List.{List, ◌++◌, append_assoc, append-nil}
 use native.Mathlib.Omega.{arith}
 use native.Mathlib.Nat.{zero-add}
 use lib.ListN.{length, take, drop, set, replicate, length-append, length-replicate}
-use lib.Seq.{take_at, length-take-le}
+use lib.Seq.{take_at}
 use borrow.Author.Tests.{lt-ltb, le-ltb}
 use Rattle.fields.specs.Bytes.{splice, join}
 use Rattle.fields.specs.Number.{digits}
@@ -83,17 +83,16 @@ length-filled : (n : ℕ) (b : List ℕ) → length b ≤ n → length (filled n
 unfolding filled
 length-filled n b h = simp (length-append, length-replicate) (omega arith)
 
--- the file of n entries, written from its start into w bytes
-pub embedded-written : (k : ℕ) (t y : List ℕ) (n previous w : ℕ) → n ≤ length t → 176 + file_bytes n < 2048 → w ≡ 1872 → y ≡ file_from (take n t) previous 0 w
-    → y ≡ filled 1872 (written_allocation k (take n t) previous)
+-- the file of the entries t, written from its start into w bytes
+pub embedded-written : (k : ℕ) (t y : List ℕ) (previous w : ℕ) → 176 + file_bytes (length t) < 2048 → w ≡ 1872 → y ≡ file_from t previous 0 w
+    → y ≡ filled 1872 (written_allocation k t previous)
 unfolding file_from onward
-embedded-written k t y n previous w hn h ew ey =
-    let file : List ℕ = written_file (take n t) previous in
-    let small : 176 + file_bytes (length (take n t)) < 2048 = rw (length-take-le n t hn) h in
+embedded-written k t y previous w h ew ey =
+    let file : List ℕ = written_file t previous in
     ey
-    ∙ ap (file_from (take n t) previous 0) ew
-    ∙ part-all (filled 1872 file) 1872 (omega (arith, length-filled 1872 file (omega (arith, length-file (take n t) previous))))
-    ∙ ap (filled 1872) (sym (allocation-embedded k (take n t) previous small))
+    ∙ ap (file_from t previous 0) ew
+    ∙ part-all (filled 1872 file) 1872 (omega (arith, length-filled 1872 file (omega (arith, length-file t previous))))
+    ∙ ap (filled 1872) (sym (allocation-embedded k t previous h))
 
 -- two numbers of 4 bytes put into n zeros
 pair-written : (n x y : ℕ) → 8 ≤ n → splice (splice (replicate n 0) 0 (digits 4 x)) 4 (digits 4 y) ≡ filled n (digits 4 x ++ digits 4 y)
@@ -104,16 +103,15 @@ pair-written n x y h =
     ∙ zeros-spliced n (digits 4 x ++ digits 4 y)
 
 -- an extent, written into lent bytes s that were cleared
-pub extent-written : (k : ℕ) (t s a b y : List ℕ) (n previous size sectors : ℕ) → n ≤ length t → 2048 ≤ 176 + file_bytes n → length s ≡ 1872 → size ≡ file_bytes n → sectors ≡ data_sectors n
+pub extent-written : (k : ℕ) (t s a b y : List ℕ) (previous size sectors : ℕ) → 2048 ≤ 176 + file_bytes (length t) → length s ≡ 1872 → size ≡ file_bytes (length t) → sectors ≡ data_sectors (length t)
     → a ≡ replicate (length s) 0 → b ≡ splice a 0 (digits 4 size) → y ≡ splice b 4 (digits 4 (k - sectors))
-    → y ≡ filled 1872 (written_allocation k (take n t) previous)
-extent-written k t s a b y n previous size sectors hn h es esize esectors ea eb ey =
-    let outside : 2048 ≤ 176 + file_bytes (length (take n t)) = rw (length-take-le n t hn) h in
+    → y ≡ filled 1872 (written_allocation k t previous)
+extent-written k t s a b y previous size sectors h es esize esectors ea eb ey =
+    let n = length t in
     let same : y ≡ splice (splice (replicate 1872 0) 0 (digits 4 (file_bytes n))) 4 (digits 4 (k - data_sectors n)) = cc in
     same
     ∙ pair-written 1872 (file_bytes n) (k - data_sectors n) (omega arith)
-    ∙ ap (λ (m : ℕ). filled 1872 (digits 4 (file_bytes m) ++ digits 4 (k - data_sectors m))) (sym (length-take-le n t hn))
-    ∙ ap (filled 1872) (sym (allocation-outside k (take n t) previous outside))
+    ∙ ap (filled 1872) (sym (allocation-outside k t previous h))
 
 -- ---- the entry
 
@@ -222,8 +220,8 @@ icb-parts k t previous =
     filled-append 2048 2032 (written_tag k e) e (omega (arith, length-tag k e))
 
 -- the front of some lent bytes s came back as a, the entry up to its allocation, and then the rest of them as b, the allocation
-pub body-written : (k : ℕ) (t s a b : List ℕ) (n previous : ℕ) → a ≡ replicate 16 0 ++ entry_head n → b ≡ filled 1872 (written_allocation k (take n t) previous)
-    → let x = a ++ drop 176 s in take 176 x ++ (b ++ drop (length x - 176) (drop 176 x)) ≡ (replicate 16 0 ++ entry_head n) ++ filled 1872 (written_allocation k (take n t) previous)
+pub body-written : (k : ℕ) (t s a b : List ℕ) (n previous : ℕ) → a ≡ replicate 16 0 ++ entry_head n → b ≡ filled 1872 (written_allocation k t previous)
+    → let x = a ++ drop 176 s in take 176 x ++ (b ++ drop (length x - 176) (drop 176 x)) ≡ (replicate 16 0 ++ entry_head n) ++ filled 1872 (written_allocation k t previous)
 body-written k t s a b n previous ea eb =
     let long : length a ≡ 176 = ap length ea ∙ length-append (replicate 16 0) (entry_head n) ∙ omega (arith, length-head n) in
     rest-lent (a ++ drop 176 s) b 176
@@ -231,22 +229,21 @@ body-written k t s a b n previous ea eb =
     ∙ ap₂ (λ (l m : List ℕ). l ++ m) ea eb
 
 -- bytes x that hold an entry behind 16 bytes, and the tag of that entry, y, in the place of those
-pub icb-written : (k : ℕ) (t x y : List ℕ) (n previous a crc : ℕ) → n ≤ length t
-    → x ≡ (replicate 16 0 ++ entry_head n) ++ filled 1872 (written_allocation k (take n t) previous) → a ≡ allocation_bytes n
+pub icb-written : (k : ℕ) (t x y : List ℕ) (n previous a crc : ℕ) → n ≡ length t
+    → x ≡ (replicate 16 0 ++ entry_head n) ++ filled 1872 (written_allocation k t previous) → a ≡ allocation_bytes n
     → crc ≡ crc_from 0 (take (176 + a - 16) (drop 16 x)) → y ≡ summed_tag k crc (176 + a - 16)
-    → y ++ drop 16 x ≡ written_icb k (take n t) previous
-icb-written k t x y n previous a crc hn ex ea ecrc ey =
-    let long : length (take n t) ≡ n = length-take-le n t hn in
-    let allocated : List ℕ = written_allocation k (take n t) previous in
-    let entry : List ℕ = written_entry k (take n t) previous in
-    let parts : entry_head n ++ allocated ≡ entry = ap (λ (m : ℕ). entry_head m ++ allocated) (sym long) ∙ sym (entry-parts k (take n t) previous) in
+    → y ++ drop 16 x ≡ written_icb k t previous
+icb-written k t x y n previous a crc long ex ea ecrc ey =
+    let allocated : List ℕ = written_allocation k t previous in
+    let entry : List ℕ = written_entry k t previous in
+    let parts : entry_head n ++ allocated ≡ entry = ap (λ (m : ℕ). entry_head m ++ allocated) long ∙ sym (entry-parts k t previous) in
     let rest : drop 16 x ≡ filled 2032 entry =
     ap (drop 16) ex ∙ sym (filled-append 2032 1872 (entry_head n) allocated (omega (arith, length-head n))) ∙ ap (filled 2032) parts in
-    let covered : 176 + a - 16 ≡ length entry = omega (arith, length-entry k (take n t) previous, ap allocation_bytes long) in
+    let covered : 176 + a - 16 ≡ length entry = omega (arith, length-entry k t previous, ap allocation_bytes long) in
     let same : crc ≡ crc_from 0 entry =
     ecrc ∙ ap (crc_from 0) (ap (λ (m : ℕ). take m (drop 16 x)) covered ∙ ap (take (length entry)) rest ∙ filled-front 2032 entry) in
     let tagged : y ≡ written_tag k entry =
     ey ∙ ap (λ (c : ℕ). summed_tag k c (176 + a - 16)) same ∙ ap (summed_tag k (crc_from 0 entry)) covered ∙ tag-of-entry k entry in
     ap (λ (l : List ℕ). l ++ drop 16 x) tagged
     ∙ ap (λ (l : List ℕ). written_tag k entry ++ l) rest
-    ∙ sym (icb-parts k (take n t) previous)
+    ∙ sym (icb-parts k t previous)

@@ -1,18 +1,21 @@
 // The ICB of a VAT, written into a lent sector (document 01, "The VAT and its ICB").
 // The layers above count on the bytes being those of the model's written_icb.
-// All functions here are inside the layers: each requires what its callers have shown, at most 4,096 entries
-// among it.
+// All functions here are inside the layers: each requires what its callers have shown. That there are at most 4,096
+// entries is in the type of a VAT, and is required where a number of entries is given alone.
 #![tactic(auto)]
 
-ghost use Rattle.std.specs.Prelude.{◌≡◌, ◌++◌, ◌≤◌, length, take, replicate};
+ghost use Rattle.std.specs.Prelude.{◌≡◌, ◌++◌, ◌≤◌, length, replicate};
 ghost use Rattle.model.specs.VatWritten.{data_sectors, written_form, filled, written_allocation, written_icb};
+ghost use Rattle.vat_icb.specs.Form.{form_number};
 ghost use Rattle.vat_icb_written.specs.Parts.{allocation_bytes, entry_head, summed_tag};
 
 use address::LogicalAddress;
+use fields::Number;
 use tag::{CHECKSUM_AT, CRC_AT, CRC_LENGTH_AT, IDENTIFIER_AT, LOCATION_AT, TAG_BYTES, VERSION_AT};
+use vat_file_written::Vat;
 use vat_icb::{
-    ALLOCATION_AT, ALLOCATION_LENGTH_AT, ATTRIBUTES_AT, BLOCK_AT, EMBEDDED, FILE_ENTRY, FORM_AT,
-    INFORMATION_LENGTH_AT, PAIR, SHORT_ADS, STRATEGY, STRATEGY_AT, VERSION,
+    ALLOCATION_AT, ALLOCATION_LENGTH_AT, ATTRIBUTES_AT, BLOCK_AT, FILE_ENTRY, FORM_AT, Form,
+    INFORMATION_LENGTH_AT, PAIR, STRATEGY, STRATEGY_AT, VERSION,
 };
 
 // What the CRC starts from.
@@ -27,36 +30,35 @@ const BLOCKS_AT: usize = 64;
 
 const ATTRIBUTES: u32 = 0;
 
-// The forms of an allocation, as the two bytes of flags that hold them.
-const EXTENTS: u16 = SHORT_ADS as u16;
-
-const WITHIN: u16 = EMBEDDED as u16;
-
 // An extent: its length, and its first logical block.
 const EXTENT_LENGTH_AT: usize = 0;
 
 const EXTENT: u32 = PAIR as u32;
 
-// The form of the allocation of n entries.
-fn form_of(n: u32) -> u16
+// How the file of n entries is held.
+#[tactic(auto, unfolding(model::specs::VatWritten::written_form))]
+fn form_of(n: u32) -> Form
     requires { n ≤ 4096 }
-    ensures { result ≡ written_form n }
+    ensures { form_number result ≡ written_form n }
 {
     if vat_file_written::is_embedded(n) {
-        return WITHIN;
+        Form::Embedded
+    } else {
+        Form::ShortAds
     }
-    EXTENTS
 }
 
 // A, the bytes of the allocation of n entries.
+#[tactic(auto, unfolding(crate::specs::Parts::allocation_bytes))]
 fn allocation_bytes(n: u32) -> u32
     requires { n ≤ 4096 }
     ensures { result ≡ allocation_bytes n }
 {
     if vat_file_written::is_embedded(n) {
-        return vat_file_written::file_bytes(n);
+        vat_file_written::file_bytes(n)
+    } else {
+        EXTENT
     }
-    EXTENT
 }
 
 // Writes the File Entry of n entries up to its allocation, its tag left as 0.
@@ -65,40 +67,31 @@ fn write_entry(front: &mut [u8], n: u32)
     requires n_bound { n ≤ 4096 }
     ensures { front.new ≡ replicate 16 0 ++ entry_head n }
 {
-    fields_written::clear(front);
-    fields_written::write16(front, STRATEGY_AT, STRATEGY);
-    fields_written::write16(front, ENTRIES_AT, ENTRIES);
-    fields_written::write16(front, FORM_AT, form_of(n));
-    fields_written::write64(
-        front,
-        INFORMATION_LENGTH_AT,
-        fields::u64_of_u32(vat_file_written::file_bytes(n)),
-    );
-    fields_written::write64(
-        front,
-        BLOCKS_AT,
-        fields::u64_of_u32(vat_file_written::data_sectors(n)),
-    );
-    fields_written::write32(front, ATTRIBUTES_AT, ATTRIBUTES);
-    fields_written::write32(front, ALLOCATION_LENGTH_AT, allocation_bytes(n));
+    front.fill(0);
+    STRATEGY.write(front, STRATEGY_AT);
+    ENTRIES.write(front, ENTRIES_AT);
+    form_of(n).number().write(front, FORM_AT);
+    u64::from(vat_file_written::file_bytes(n)).write(front, INFORMATION_LENGTH_AT);
+    u64::from(vat_file_written::data_sectors(n)).write(front, BLOCKS_AT);
+    ATTRIBUTES.write(front, ATTRIBUTES_AT);
+    allocation_bytes(n).write(front, ALLOCATION_LENGTH_AT);
 }
 
-// Writes the allocation of the first n entries, for an ICB at logical block k: the file, or one extent
-// directly below k.
-fn write_allocation(rest: &mut [u8], k: LogicalAddress, t: &[u32], n: u32, previous: LogicalAddress)
+// Writes the allocation of a VAT, for an ICB at logical block k: the file, or one extent directly below k.
+fn write_allocation(rest: &mut [u8], k: LogicalAddress, vat: &Vat)
     requires rest_len { length rest.old ≡ 1872 }
-    requires n_bound { (n ≤ 4096) × (n ≤ length t.now) }
-    requires n_bound_2 { data_sectors n ≤ k.0 }
-    ensures { rest.new ≡ filled 1872 (written_allocation k.0 (take n t.now) previous.0) }
+    requires data_below { data_sectors (length vat.now.entries.now) ≤ k.0 }
+    ensures { rest.new ≡ filled 1872 (written_allocation k.0 vat.now.entries.now vat.now.previous.0) }
 {
+    let n = vat.count();
     if vat_file_written::is_embedded(n) {
-        vat_file_written::write_file(rest, t, n, previous, 0);
+        vat.write_file(rest, 0);
         return;
     }
-    fields_written::clear(rest);
-    fields_written::write32(rest, EXTENT_LENGTH_AT, vat_file_written::file_bytes(n));
+    rest.fill(0);
+    vat_file_written::file_bytes(n).write(rest, EXTENT_LENGTH_AT);
     let block = k.0 - vat_file_written::data_sectors(n);
-    fields_written::write32(rest, BLOCK_AT, block);
+    block.write(rest, BLOCK_AT);
 }
 
 // Writes the tag of a File Entry at logical block k, with this CRC of so many bytes; the checksum last.
@@ -106,25 +99,25 @@ fn write_tag(front: &mut [u8], k: LogicalAddress, crc: u16, covered: u16)
     requires { length front.old ≡ 16 }
     ensures { front.new ≡ summed_tag k.0 crc covered }
 {
-    fields_written::clear(front);
-    fields_written::write16(front, IDENTIFIER_AT, FILE_ENTRY);
-    fields_written::write16(front, VERSION_AT, VERSION);
-    fields_written::write16(front, CRC_AT, crc);
-    fields_written::write16(front, CRC_LENGTH_AT, covered);
-    fields_written::write32(front, LOCATION_AT, k.0);
+    front.fill(0);
+    FILE_ENTRY.write(front, IDENTIFIER_AT);
+    VERSION.write(front, VERSION_AT);
+    crc.write(front, CRC_AT);
+    covered.write(front, CRC_LENGTH_AT);
+    k.0.write(front, LOCATION_AT);
     let sum = tag::checksum(front);
     front[CHECKSUM_AT] = sum;
 }
 
-// Writes the ICB at logical block k of the VAT of the first n entries.
-pub fn write_icb(sector: &mut [u8], k: LogicalAddress, t: &[u32], n: u32, previous: LogicalAddress)
+// Writes the ICB of a VAT at logical block k.
+pub fn write_icb(sector: &mut [u8], k: LogicalAddress, vat: &Vat)
     requires sector_len { length sector.old ≡ 2048 }
-    requires n_bound { (n ≤ 4096) × (n ≤ length t.now) }
-    requires n_bound_2 { data_sectors n ≤ k.0 }
-    ensures { sector.new ≡ written_icb k.0 (take n t.now) previous.0 }
+    requires data_below { data_sectors (length vat.now.entries.now) ≤ k.0 }
+    ensures { sector.new ≡ written_icb k.0 vat.now.entries.now vat.now.previous.0 }
 {
+    let n = vat.count();
     write_entry(&mut sector[..ALLOCATION_AT], n);
-    write_allocation(&mut sector[ALLOCATION_AT..], k, t, n, previous);
+    write_allocation(&mut sector[ALLOCATION_AT..], k, vat);
     let end = ALLOCATION_AT + allocation_bytes(n) as usize;
     let crc = tag::crc(&sector[TAG_BYTES..end], CRC_START);
     let covered = (end - TAG_BYTES) as u16;

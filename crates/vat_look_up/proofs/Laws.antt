@@ -12,16 +12,14 @@ use Rattle.fields.specs.Regid.{has_regid}
 use Rattle.fields.proofs.Words.{word_at}
 use Rattle.refusal.specs.declared.Refusal.{Refusal}
 use Rattle.refusal.specs.declared.Refusal.TheVariants.{NoTable, TooManyEntries}
-use Rattle.refusal.specs.declared.Verdict.{Verdict}
-use Rattle.refusal.specs.declared.Verdict.TheVariants.{Go, Stop}
-use Rattle.refusal.specs.Number.{verdict_number}
+use Rattle.refusal.specs.Verdict.{Verdict, answered}
+use Rattle.std.specs.Prelude.{Ok, Err, Result, Option, Some, None}
+use Rattle.refusal.specs.Number.{answer_number}
 use Rattle.refusal.specs.Tests.{first}
-use Rattle.refusal.proofs.Laws.{goes, stops, passed, stops-all, goes-all}
+use Rattle.refusal.proofs.Laws.{goes, stops, passed, stops-all, goes-all, answered-number}
 use Rattle.address.specs.declared.VirtualAddress.{VirtualAddress}
-use Rattle.address.specs.declared.ToLogical.{ToLogical}
-use Rattle.address.specs.Told.{logical_number}
-use Rattle.address.specs.Translation.{unless_logical, entry_tests, entry_of, logical_of}
-use Rattle.address.proofs.Laws.{logical-number}
+use Rattle.address.specs.declared.LogicalAddress.{LogicalAddress}
+use Rattle.address.specs.Translation.{entry_tests, entry_of, logical_of}
 use Rattle.fields.proofs.Tests.{both, fails, holds}
 use Rattle.model.specs.Disc.{Disc, sector, recorded}
 use Rattle.model.specs.Vat.{vat_name, none, file_fits, count_of, entries_of, previous_of, all_below, table_fits, vat_icb, vat_file}
@@ -29,27 +27,25 @@ use Rattle.model.specs.VatWritten.{written_file}
 use Rattle.model.proofs.Agree.{passed as passed-icb}
 use Rattle.model.proofs.OnceOpen.{length-entries}
 use Rattle.model.proofs.WrittenVatFile.{file-fits, file-count, file-entries}
-use Rattle.vat_look_up.specs.declared.Counted.{Counted}
-use Rattle.vat_look_up.specs.declared.ToPrevious.{ToPrevious}
-use Rattle.vat_look_up.specs.File.{file_tests, look_up_verdict, looked_up, unless_counted, counted, block_or_none, unless_previous, previous_in, counted_number, previous_number, LooksUp, CountsEntries, ReadsPrevious}
+use Rattle.vat_look_up.specs.File.{file_tests, look_up_verdict, looked_up, counted, block_or_none, previous_in, LooksUp, CountsEntries, ReadsPrevious}
 
 -- ---- the tests of a file
 
 module _ (f : List ℕ) where
   -- a file of under 36 bytes
-  pub short : length f < 36 → Stop NoTable ≡ first (file_tests f)
+  pub short : length f < 36 → Err NoTable ≡ first (file_tests f)
   unfolding file_fits
   short h = stops _ (sym (fails _ (lt-leb _ _ h)))
 
   module _ (h : 36 ≤ length f) where
     -- entries that are not of 4 bytes each
-    pub uneven : ((length f - 36) % 4 ≡ 0 → ⊥) → Stop NoTable ≡ first (file_tests f)
+    pub uneven : ((length f - 36) % 4 ≡ 0 → ⊥) → Err NoTable ≡ first (file_tests f)
     unfolding file_fits
     uneven n = stops _ (sym (holds (le-leb _ _ h) (fails _ (ne_eqb _ _ n))))
 
     module _ (e : (length f - 36) % 4 ≡ 0) where
       -- another regid
-      pub unnamed : has_regid f (length f - 36) vat_name ≡ false → Stop NoTable ≡ first (file_tests f)
+      pub unnamed : has_regid f (length f - 36) vat_name ≡ false → Err NoTable ≡ first (file_tests f)
       unfolding file_fits
       unnamed q = stops _ (sym (holds (le-leb _ _ h) (holds (eq-eqb _ _ e) (sym q))))
 
@@ -60,23 +56,23 @@ module _ (f : List ℕ) where
         fits = sym (holds (le-leb _ _ h) (holds (eq-eqb _ _ e) (sym q)))
 
         -- too many entries
-        pub too_many : 4096 < (length f - 36) / 4 → Stop TooManyEntries ≡ first (file_tests f)
+        pub too_many : 4096 < (length f - 36) / 4 → Err TooManyEntries ≡ first (file_tests f)
         unfolding count_of
         too_many l = goes _ fits (stops _ (lt-leb _ _ l))
 
         -- no more than there may be
-        pub judged : (length f - 36) / 4 ≤ 4096 → Go ≡ first (file_tests f)
+        pub judged : (length f - 36) / 4 ≤ 4096 → (Ok tt) ≡ first (file_tests f)
         unfolding count_of
         judged l = goes _ fits (goes _ (le-leb _ _ l) refl)
 
 -- ---- a file that passed them
 
 -- a VAT file of no more entries than there may be passes
-pub passes : (f : List ℕ) → file_fits f ≡ true → count_of f ≤ 4096 → first (file_tests f) ≡ Go
+pub passes : (f : List ℕ) → file_fits f ≡ true → count_of f ≤ 4096 → first (file_tests f) ≡ Ok tt
 passes f q l = sym (goes _ q (goes _ (le-leb _ _ l) refl))
 
 -- it has room for what follows the entries, and no more entries than there may be
-pub long : (f : List ℕ) → first (file_tests f) ≡ Go → (36 ≤ length f) × ((length f - 36) / 4 ≤ 4096)
+pub long : (f : List ℕ) → first (file_tests f) ≡ Ok tt → (36 ≤ length f) × ((length f - 36) / 4 ≤ 4096)
 unfolding file_fits count_of
 long f g =
     let p = passed (file_tests f) g in
@@ -98,55 +94,55 @@ entry_at f i h =
 
 module _ (f : List ℕ) (v : VirtualAddress) where
   -- bytes that are no VAT file, or one of too many entries
-  pub not-looked : {why : Refusal} → first (file_tests f) ≡ Stop why → ToLogical.Refused why ≡ looked_up f v
+  pub not-looked : {why : Refusal} → first (file_tests f) ≡ Err why → Err why ≡ looked_up f v
   unfolding looked_up
   not-looked e =
-      ap (λ (x : Verdict). unless_logical x (entry_of (entries_of f) v)) (stops-all (file_tests f) (entry_tests (length (entries_of f)) (entries_of f) v) e)
+      ap (λ (x : Verdict). answered x (entry_of (entries_of f) v)) (stops-all (file_tests f) (entry_tests (length (entries_of f)) (entries_of f) v) e)
 
   -- in a file that passed its tests, the translation by its entries
-  pub looked : first (file_tests f) ≡ Go → logical_of (entries_of f) v ≡ looked_up f v
+  pub looked : first (file_tests f) ≡ Ok tt → logical_of (entries_of f) v ≡ looked_up f v
   unfolding looked_up logical_of
   looked e =
-      ap (λ (x : Verdict). unless_logical x (entry_of (entries_of f) v))
+      ap (λ (x : Verdict). answered x (entry_of (entries_of f) v))
       (goes-all (file_tests f) (entry_tests (length (entries_of f)) (entries_of f) v) _ e refl)
 
 -- ---- the number of entries
 
 -- bytes that are no VAT file, or one of too many entries
-pub not-counted : (f : List ℕ) {why : Refusal} → first (file_tests f) ≡ Stop why → Counted.Refused why ≡ counted f
+pub not-counted : (f : List ℕ) {why : Refusal} → first (file_tests f) ≡ Err why → Err why ≡ counted f
 unfolding counted
-not-counted f e = sym (ap (λ (x : Verdict). unless_counted x (count_of f)) e)
+not-counted f e = sym (ap (λ (x : Verdict). answered x (count_of f)) e)
 
 -- by the length of a file that passed its tests
-pub has-counted : (f : List ℕ) → first (file_tests f) ≡ Go → Counted.Entries ((length f - 36) / 4) ≡ counted f
+pub has-counted : (f : List ℕ) → first (file_tests f) ≡ Ok tt → Ok ((length f - 36) / 4) ≡ counted f
 unfolding counted count_of
-has-counted f e = sym (ap (λ (x : Verdict). unless_counted x (count_of f)) e)
+has-counted f e = sym (ap (λ (x : Verdict). answered x (count_of f)) e)
 
 -- ---- the previous ICB
 
 module _ (f : List ℕ) where
   -- bytes that are no VAT file, or one of too many entries
-  pub not-told : {why : Refusal} → first (file_tests f) ≡ Stop why → ToPrevious.Refused why ≡ previous_in f
+  pub not-told : {why : Refusal} → first (file_tests f) ≡ Err why → Err why ≡ previous_in f
   unfolding previous_in
-  not-told e = sym (ap (λ (x : Verdict). unless_previous x (previous_of f)) e)
+  not-told e = sym (ap (λ (x : Verdict). answered x (block_or_none (eqb (previous_of f) none) (previous_of f))) e)
 
-  module _ (g : first (file_tests f) ≡ Go) (p : ℕ) (e : p ≡ field f (length f - 4) 4) where
+  module _ (g : first (file_tests f) ≡ Ok tt) (p : ℕ) (e : p ≡ field f (length f - 4) 4) where
     -- what the last 4 bytes say
-    told : block_or_none (eqb p none) p ≡ previous_in f
+    told : Ok (block_or_none (eqb p none) p) ≡ previous_in f
     unfolding previous_in previous_of
     told =
-        ap (λ (x : ℕ). block_or_none (eqb x none) x) e
-        ∙ sym (ap (λ (x : Verdict). unless_previous x (previous_of f)) g)
+        ap (λ (x : ℕ). Ok (block_or_none (eqb x none) x)) e
+        ∙ sym (ap (λ (x : Verdict). answered x (block_or_none (eqb (previous_of f) none) (previous_of f))) g)
 
     -- none
-    pub told_none : p ≡ 0xffffffff → ToPrevious.None ≡ previous_in f
+    pub told_none : p ≡ 0xffffffff → (Ok None) ≡ previous_in f
     unfolding none
-    told_none q = sym (ap (λ (x : Bool). block_or_none x p) (eq-eqb p none q)) ∙ told
+    told_none q = sym (ap (λ (x : Bool). Ok (block_or_none x p)) (eq-eqb p none q)) ∙ told
 
     -- a block
-    pub told-block : (p ≡ 0xffffffff → ⊥) → ToPrevious.At (record { 0 = p }) ≡ previous_in f
+    pub told-block : (p ≡ 0xffffffff → ⊥) → (Ok (Some (record { 0 = p }))) ≡ previous_in f
     unfolding none
-    told-block n = sym (ap (λ (x : Bool). block_or_none x p) (ne_eqb p none n)) ∙ told
+    told-block n = sym (ap (λ (x : Bool). Ok (block_or_none x p)) (ne_eqb p none n)) ∙ told
 
 -- ---- files of discs
 
@@ -167,28 +163,16 @@ looked-in-found d s k v here few =
 
 module _ (f : List ℕ) where
   -- of a look-up
-  pub looked-up-so : (v : VirtualAddress) {r : ToLogical} → r ≡ looked_up f v → LooksUp f v r
+  pub looked-up-so : (v : VirtualAddress) {r : Result LogicalAddress Refusal} → r ≡ looked_up f v → LooksUp f v r
   unfolding looked_up
-  looked-up-so v h = record { answer = h; number = ap logical_number h ∙ logical-number (look_up_verdict f v) (entry_of (entries_of f) v) }
+  looked-up-so v h = record { answer = h; number = ap answer_number h ∙ answered-number (look_up_verdict f v) (entry_of (entries_of f) v) }
 
   -- of the number of entries
-  pub counted-so : {r : Counted} → r ≡ counted f → CountsEntries f r
+  pub counted-so : {r : Result ℕ Refusal} → r ≡ counted f → CountsEntries f r
   unfolding counted
-  counted-so h = record { answer = h; number = ap counted_number h ∙ by-verdict (first (file_tests f)) }
-    where
-      by-verdict : (x : Verdict) → counted_number (unless_counted x (count_of f)) ≡ verdict_number x
-      by-verdict Go = refl
-      by-verdict (Stop why) = refl
+  counted-so h = record { answer = h; number = ap answer_number h ∙ answered-number (first (file_tests f)) (count_of f) }
 
   -- of the previous ICB, none included
-  pub previous-so : {r : ToPrevious} → r ≡ previous_in f → ReadsPrevious f r
+  pub previous-so : {r : Result (Option LogicalAddress) Refusal} → r ≡ previous_in f → ReadsPrevious f r
   unfolding previous_in
-  previous-so h = record { answer = h; number = ap previous_number h ∙ by-verdict (first (file_tests f)) }
-    where
-      by-block : (b : Bool) (k : ℕ) → previous_number (block_or_none b k) ≡ 0
-      by-block true k = refl
-      by-block false k = refl
-
-      by-verdict : (x : Verdict) → previous_number (unless_previous x (previous_of f)) ≡ verdict_number x
-      by-verdict Go = by-block (eqb (previous_of f) none) (previous_of f)
-      by-verdict (Stop why) = refl
+  previous-so h = record { answer = h; number = ap answer_number h ∙ answered-number (first (file_tests f)) _ }

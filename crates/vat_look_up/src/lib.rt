@@ -7,9 +7,10 @@ ghost use Rattle.std.specs.Prelude.{◌≡◌};
 ghost use Rattle.refusal.specs.Tests.{first};
 ghost use Rattle.vat_look_up.specs.File.{file_tests, LooksUp, CountsEntries, ReadsPrevious};
 
-use address::{LogicalAddress, NONE, ToLogical, VirtualAddress};
+use address::{LogicalAddress, NONE, VirtualAddress};
+use fields::Number;
 use model::{MOST_ENTRIES, VAT_REGID};
-use refusal::{Refusal, Verdict};
+use refusal::Refusal;
 
 // Bytes of an entry, of what follows the entries, and of the previous ICB at the end.
 const ENTRY: usize = 4;
@@ -21,82 +22,57 @@ const PREVIOUS: usize = 4;
 // The most entries that a VAT may have, as a length.
 const MOST: usize = MOST_ENTRIES as usize;
 
-// The number of entries, or why there is none.
-#[derive(Clone, Copy)]
-pub enum Counted {
-    Entries(u32),
-    Refused(Refusal),
-}
-
-// The logical block of the previous VAT ICB, none, or why it is not told.
-#[derive(Clone, Copy)]
-pub enum ToPrevious {
-    At(LogicalAddress),
-    None,
-    Refused(Refusal),
-}
-
 // Whether the bytes are a VAT file with no more entries than a VAT may have.
-fn judge_file(file: &[u8]) -> Verdict
+fn judge_file(file: &[u8]) -> Result<(), Refusal>
     ensures { result ≡ first (file_tests file.now) }
 {
     let bytes = file.len();
     if bytes < TAIL {
-        return Verdict::Stop(Refusal::NoTable);
+        return Err(Refusal::NoTable);
     }
     let tail = bytes - TAIL;
     if tail % ENTRY != 0 {
-        return Verdict::Stop(Refusal::NoTable);
+        return Err(Refusal::NoTable);
     }
     if !fields::has_regid(file, tail, &VAT_REGID) {
-        return Verdict::Stop(Refusal::NoTable);
+        return Err(Refusal::NoTable);
     }
     if MOST < tail / ENTRY {
-        return Verdict::Stop(Refusal::TooManyEntries);
+        return Err(Refusal::TooManyEntries);
     }
-    Verdict::Go
+    Ok(())
 }
 
 // The logical address of a virtual one, by the entries of a VAT file.
-pub fn look_up(file: &[u8], v: VirtualAddress) -> ToLogical
+pub fn look_up(file: &[u8], v: VirtualAddress) -> Result<LogicalAddress, Refusal>
     ensures { LooksUp file.now v result }
 {
-    match judge_file(file) {
-        Verdict::Stop(why) => ToLogical::Refused(why),
-        Verdict::Go => {
-            let i = v.0 as usize;
-            if (file.len() - TAIL) / ENTRY <= i {
-                return ToLogical::Refused(Refusal::NumberOutside);
-            }
-            address::entry_to_logical(fields::read32(file, ENTRY * i))
-        }
+    judge_file(file)?;
+    let i = v.0 as usize;
+    if (file.len() - TAIL) / ENTRY <= i {
+        return Err(Refusal::NumberOutside);
     }
+    address::entry_to_logical(u32::read(file, ENTRY * i))
 }
 
 // The number of entries of a VAT file.
-pub fn count_entries(file: &[u8]) -> Counted
+pub fn count_entries(file: &[u8]) -> Result<u32, Refusal>
     ensures { CountsEntries file.now result }
 {
-    match judge_file(file) {
-        Verdict::Stop(why) => Counted::Refused(why),
-        Verdict::Go => Counted::Entries(((file.len() - TAIL) / ENTRY) as u32),
-    }
+    judge_file(file)?; // lines 8 and 9
+    Ok(((file.len() - TAIL) / ENTRY) as u32)
 }
 
 // The previous VAT ICB that a VAT file names.
-pub fn read_previous(file: &[u8]) -> ToPrevious
+pub fn read_previous(file: &[u8]) -> Result<Option<LogicalAddress>, Refusal>
     ensures { ReadsPrevious file.now result }
 {
-    match judge_file(file) {
-        Verdict::Stop(why) => ToPrevious::Refused(why),
-        Verdict::Go => {
-            let previous = fields::read32(file, file.len() - PREVIOUS);
-            if previous == NONE {
-                return ToPrevious::None;
-            }
-            ToPrevious::At(LogicalAddress(previous))
-        }
+    judge_file(file)?;
+    let previous = u32::read(file, file.len() - PREVIOUS);
+    if previous == NONE {
+        return Ok(None);
     }
+    Ok(Some(LogicalAddress(previous)))
 }
 
 // A view of the bytes of a VAT file. Any bytes can be viewed: its functions test them.
@@ -114,21 +90,21 @@ impl<'a> VatFile<'a> {
     }
 
     // The logical address of a virtual one.
-    pub fn look_up(self, v: VirtualAddress) -> ToLogical
+    pub fn look_up(self, v: VirtualAddress) -> Result<LogicalAddress, Refusal>
         ensures { LooksUp self.entry.bytes.now v result }
     {
         look_up(self.bytes, v)
     }
 
     // The number of entries.
-    pub fn entry_count(self) -> Counted
+    pub fn entry_count(self) -> Result<u32, Refusal>
         ensures { CountsEntries self.entry.bytes.now result }
     {
         count_entries(self.bytes)
     }
 
     // The previous VAT ICB.
-    pub fn previous(self) -> ToPrevious
+    pub fn previous(self) -> Result<Option<LogicalAddress>, Refusal>
         ensures { ReadsPrevious self.entry.bytes.now result }
     {
         read_previous(self.bytes)

@@ -1,7 +1,7 @@
 -- The laws of a VAT ICB on the disc that the layers above may cite: the sector that is lent, the length of its file, and how many entries it
 -- has. Assumes nothing.
-use Prim.Native.Nat.{ℕ, ◌+◌, ◌-◌, ◌*◌, ◌/◌, ◌≤◌, ◌<◌}
-use mathlib.Core.Path.{◌≡◌, sym, ap, ap₂, ◌∙◌}
+use Prim.Native.Nat.{ℕ, ◌+◌, ◌-◌, ◌*◌, ◌≤◌, ◌<◌}
+use mathlib.Core.Path.{◌≡◌, sym, ap, ◌∙◌}
 use mathlib.Core.Bool.{Bool, true, false}
 use mathlib.Core.List.{List}
 use native.Mathlib.Omega.{arith}
@@ -9,16 +9,14 @@ use lib.Dec.{leb}
 use lib.ListN.{length, get_or, take, drop}
 use borrow.Author.Tests.{eq-eqb, ne_eqb, leb-true}
 use Rattle.fields.specs.Bytes.{part}
-use Rattle.fields.specs.Number.{words}
 use Rattle.fields.proofs.Laws.{length_part}
 use Rattle.model.specs.Disc.{disc, sector, mark, recorded, shapely, inside}
-use Rattle.model.specs.Vat.{count_of, entries_of, file_length, file_of, passes, vat_icb, vat_file, table_fits, file_fits}
-use Rattle.model.specs.Once.{filled_from}
+use Rattle.model.specs.Vat.{file_of, passes, vat_icb, vat_file, table_fits, file_fits}
 use Rattle.model.proofs.Basics.{and-true}
 use Rattle.model.proofs.Agree.{passed}
 use Rattle.model.proofs.Sectors.{shapely-made, shapely-most, inside-fits}
 use Rattle.vat_read.specs.File.{Lent, Filed, file_in}
-use Rattle.vat_read.proofs.File.{file-in, fits-filed, length-file}
+use Rattle.vat_read.proofs.Bytes.{file_in_marked, fits_filed}
 
 -- ---- a lent disc
 
@@ -29,9 +27,9 @@ lent bytes marks s l k h i le = record { made = (shapely-made _ h).sized; inside
 -- ---- the sector of an ICB
 
 -- the bytes that are lent are the sector
-pub lent-sector : (bytes marks : List ℕ) (p from to : ℕ) → from ≡ 2048 * p → to ≡ from + 2048 → take (to - from) (drop from bytes) ≡ sector (disc bytes marks) p
+pub lent_sector : (bytes marks : List ℕ) (p from to : ℕ) → from ≡ 2048 * p → to ≡ from + 2048 → take (to - from) (drop from bytes) ≡ sector (disc bytes marks) p
 unfolding sector part
-lent-sector bytes marks p from to e f =
+lent_sector bytes marks p from to e f =
     let w : to - from ≡ 2048 = omega arith in
     rw (w, e)
 
@@ -51,62 +49,26 @@ module _ (bytes marks : List ℕ) (s k p : ℕ) (e : p ≡ s + k) where
   unfolding vat_icb recorded mark
   recorded-passes b r h q f = f ∙ sym (rw (← e, eq-eqb _ _ h, e, ← q))
 
--- ---- a block that passes
-
-module _ (bytes marks : List ℕ) (s k : ℕ) (b : List ℕ) (t : Lent bytes marks s k) (n : length b ≡ 2048) (h : passes (disc bytes marks) s k b ≡ true) where
-  -- its file is on the disc
-  pub passes-filed : Filed bytes s b
-  passes-filed = let p = passed _ _ _ _ h in fits-filed bytes marks s k b t n p.entry p.alloc
-
-  -- and has F bytes
-  pub length-file-of : length (file_of (disc bytes marks) s b) ≡ file_length b
-  length-file-of = ap length (sym (file-in bytes marks s b)) ∙ length-file bytes s b passes-filed
-
-  -- of which there are at least 36
-  pub passes-long : 36 ≤ file_length b
-  unfolding table_fits file_fits
-  passes-long =
-      let f = file_of (disc bytes marks) s b in
-      let p = and-true (file_fits f) _ (passed _ _ _ _ h).table in
-      let q = leb-true 36 (length f) (and-true (leb 36 (length f)) _ p.0).0 in
-      omega (arith, length-file-of)
-
-  -- N by F
-  pub count-of : count_of (file_of (disc bytes marks) s b) ≡ (file_length b - 36) / 4
-  unfolding count_of
-  count-of = ap (λ (m : ℕ). (m - 36) / 4) length-file-of
-
-  -- the entries, on any marks
-  pub entries-of : entries_of (file_of (disc bytes marks) s b) ≡ words (file_in bytes s b) 0 ((file_length b - 36) / 4)
-  unfolding entries_of
-  entries-of = ap₂ (λ (f : List ℕ) (m : ℕ). words f 0 m) (sym (file-in bytes marks s b)) count-of
-
 -- ---- a VAT ICB on the disc, lent as b
 
 -- what holds of it
-pub record Icb (bytes marks : List ℕ) (s k : ℕ) (b : List ℕ) : Type 0 where
-  pub block : length b ≡ 2048
+pub record Found (bytes marks : List ℕ) (s k : ℕ) (b : List ℕ) : Type 0 where
   pub filed : Filed bytes s b
-  pub long : 36 ≤ file_length b
-  pub count : count_of (vat_file (disc bytes marks) s k) ≡ (file_length b - 36) / 4
-  pub entries : entries_of (vat_file (disc bytes marks) s k) ≡ words (file_in bytes s b) 0 ((file_length b - 36) / 4)
+  pub file : file_in bytes s b ≡ vat_file (disc bytes marks) s k
+  pub long : 36 ≤ length (file_in bytes s b)
 
-pub icb : (bytes marks : List ℕ) (s k : ℕ) (b : List ℕ) {p : ℕ} → Lent bytes marks s k → s + k < length marks → vat_icb (disc bytes marks) s k ≡ true → p ≡ s + k → b ≡ sector (disc bytes marks) p → Icb bytes marks s k b
-unfolding vat_icb vat_file
-icb bytes marks s k b t i h at there =
+pub found : (bytes marks : List ℕ) (s k : ℕ) (b : List ℕ) {p : ℕ} → Lent bytes marks s k → s + k < length marks → vat_icb (disc bytes marks) s k ≡ true → p ≡ s + k → b ≡ sector (disc bytes marks) p → Found bytes marks s k b
+unfolding vat_icb vat_file table_fits file_fits
+found bytes marks s k b t i h at there =
     let d = disc bytes marks in
     let q : b ≡ sector d (s + k) = there ∙ ap (sector d) at in
     let n : length b ≡ 2048 = ap length q ∙ length-lent bytes marks s k t i in
-    let p : passes d s k b ≡ true = ap (passes d s k) q ∙ (and-true (recorded d (s + k)) _ h).1 in
-    let f : file_of d s (sector d (s + k)) ≡ file_of d s b = ap (file_of d s) (sym q) in
+    let p = passed _ _ _ _ (ap (passes d s k) q ∙ (and-true (recorded d (s + k)) _ h).1) in
+    let f = file_of d s b in
+    let e : file_in bytes s b ≡ f = file_in_marked bytes marks s b in
+    let l = leb-true 36 (length f) (and-true (leb 36 (length f)) _ (and-true (file_fits f) _ p.table).0).0 in
     record {
-      block = n;
-      filed = passes-filed bytes marks s k b t n p;
-      long = passes-long bytes marks s k b t n p;
-      count = ap count_of f ∙ count-of bytes marks s k b t n p;
-      entries = ap entries_of f ∙ entries-of bytes marks s k b t n p;
+      filed = fits_filed bytes marks s k b t n p.entry p.alloc;
+      file = e ∙ ap (file_of d s) q;
+      long = rw e l;
     }
-
--- a table filled with as many words of the file as there are entries
-pub icb-filled : (bytes marks : List ℕ) (s k : ℕ) (b t u : List ℕ) (n : ℕ) → Icb bytes marks s k b → n ≡ (file_length b - 36) / 4 → u ≡ filled_from (words (file_in bytes s b) 0 n) t → u ≡ filled_from (entries_of (vat_file (disc bytes marks) s k)) t
-icb-filled bytes marks s k b t u n v e f = f ∙ ap (λ (l : List ℕ). filled_from l t) (ap (words (file_in bytes s b) 0) e ∙ sym v.entries)

@@ -1,4 +1,4 @@
 pub mod Places
-pub mod File
+pub mod Bytes
 pub mod Table
 pub mod Laws

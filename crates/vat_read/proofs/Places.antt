@@ -19,18 +19,18 @@ module _ (s left place bytes : ℕ) (l : List Extent) (p : position_of s l left 
 
   module _ (x : Extent) (m : List Extent) (e : l ≡ x ∷ m) where
     -- in the next
-    pub run-here : left < x.size → (2048 * (s + x.block) + left ≡ place) × (x.size - left ≡ bytes)
+    pub run_here : left < x.size → (2048 * (s + x.block) + left ≡ place) × (x.size - left ≡ bytes)
     unfolding position_of left_of
-    run-here lt = (sym (rw (e, lt-ltb _ _ lt)) ∙ p, sym (rw (e, lt-ltb _ _ lt)) ∙ q)
+    run_here lt = (sym (rw (e, lt-ltb _ _ lt)) ∙ p, sym (rw (e, lt-ltb _ _ lt)) ∙ q)
 
     -- in one behind it
-    pub run-later : x.size ≤ left → (position_of s m (left - x.size) ≡ place) × (left_of m (left - x.size) ≡ bytes)
+    pub run_later : x.size ≤ left → (position_of s m (left - x.size) ≡ place) × (left_of m (left - x.size) ≡ bytes)
     unfolding position_of left_of
-    run-later le = (sym (rw (e, le-ltb _ _ le)) ∙ p, sym (rw (e, le-ltb _ _ le)) ∙ q)
+    run_later le = (sym (rw (e, le-ltb _ _ le)) ∙ p, sym (rw (e, le-ltb _ _ le)) ∙ q)
 
 -- the next extent lies on the disc, and so do those behind it
-pub next-on-disc : (n s : ℕ) (l : List Extent) (x : Extent) (m : List Extent) → on_disc n s l ≡ true → l ≡ x ∷ m → (2048 * (s + x.block + blocks_in x.size) ≤ n) × (on_disc n s m ≡ true)
+pub next_on_disc : (n s : ℕ) (l : List Extent) (x : Extent) (m : List Extent) → on_disc n s l ≡ true → l ≡ x ∷ m → (2048 * (s + x.block + blocks_in x.size) ≤ n) × (on_disc n s m ≡ true)
 unfolding on_disc
-next-on-disc n s l x m h e =
+next_on_disc n s l x m h e =
     let p = and-true (leb (2048 * (s + x.block + blocks_in x.size)) n) _ (rw e at h) in
     (leb-true _ _ p.0, p.1)

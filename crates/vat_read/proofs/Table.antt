@@ -6,13 +6,14 @@ use mathlib.Core.Bool.{Bool, true, false, ◌&&◌, and_assoc, and-true as and_r
 use mathlib.Core.List.{List, [], ◌∷◌, ◌++◌, append_assoc}
 use native.Mathlib.Omega.{arith}
 use lib.Dec.{eqb, leb}
-use lib.ListN.{length, drop, length-append}
+use lib.ListN.{length, get_or, drop, length-append}
 use lib.Seq.{take_at, drop-append-add, drop-drop}
 use borrow.Author.Tests.{eq-eqb, ne_eqb, lt-ltb, le-ltb}
 use Rattle.fields.specs.Bytes.{part, splice}
 use Rattle.fields.specs.Number.{field, words}
 use Rattle.fields.specs.Regid.{has_regid}
-use Rattle.fields.proofs.Laws.{field-part}
+use Rattle.std.specs.Simd.{first_chunks}
+use Rattle.fields.proofs.Laws.{field-part, field-take, field-drop}
 use Rattle.model.specs.Vat.{vat_name, none, file_fits, count_of, entries_of, previous_of, below_or_none, all_below, table_fits}
 use Rattle.model.specs.Once.{filled_from}
 use Rattle.vat_read.specs.File.{Together}
@@ -59,6 +60,14 @@ words_inside f at w from (suc n) h =
 -- from its start
 pub words-part : (f : List ℕ) (at w n : ℕ) → 4 * n ≤ w → words (part f at w) 0 n ≡ words f at n
 words-part f at w n h = let e : at + 0 ≡ at = omega arith in words_inside f at w 0 n (omega arith) ∙ ap (λ (x : ℕ). words f x n) e
+
+-- the first four bytes of those from word i on
+pub chunk_word : (b : List ℕ) (n i : ℕ) → i < n → field (get_or (first_chunks 4 n b) i []) 0 4 ≡ field b (4 * i) 4
+chunk_word b zero i h = absurd (omega arith)
+chunk_word b (suc n) zero h = field-take b 4 0 4 (omega arith)
+chunk_word b (suc n) (suc i) h =
+    let e : 4 + 4 * i ≡ 4 * suc i = omega arith in
+    chunk_word (drop 4 b) n i (omega arith) ∙ field-drop b 4 (4 * i) 4 ∙ ap (λ (at : ℕ). field b at 4) e
 
 -- ---- words that stand together
 
@@ -144,25 +153,25 @@ module _ (k : ℕ) (f r : List ℕ) (v n : ℕ) (t : Together f v n r) (fit : Bo
       ∙ sym (ap (all_below k) (run-left f r v n t))
 
   -- one of the next is too high
-  pub run-over : fit ≡ false → false ≡ all_below k (words f (4 * v) (n - v))
-  run-over g = rw g at run-below
+  pub run_over : fit ≡ false → false ≡ all_below k (words f (4 * v) (n - v))
+  run_over g = rw g at run-below
 
   -- the next are all below, or none
-  pub run_fits_law : fit ≡ true → all_below k (words f (4 * (v + length r / 4)) (n - (v + length r / 4))) ≡ all_below k (words f (4 * v) (n - v))
-  run_fits_law g = rw g at run-below
+  pub run_fits : fit ≡ true → all_below k (words f (4 * (v + length r / 4)) (n - (v + length r / 4))) ≡ all_below k (words f (4 * v) (n - v))
+  run_fits g = rw g at run-below
 
 -- ---- the tests of a file of n bytes, in their order
 
-pub table-tests : (k : ℕ) (f : List ℕ) (n : ℕ) → length f ≡ n → table_fits k f ≡ leb 36 n && (eqb ((n - 36) % 4) 0 && (has_regid f (n - 36) vat_name && (below_or_none k (field f (n - 4) 4) && all_below k (words f 0 ((n - 36) / 4)))))
+pub table_tests : (k : ℕ) (f : List ℕ) (n : ℕ) → length f ≡ n → table_fits k f ≡ leb 36 n && (eqb ((n - 36) % 4) 0 && (has_regid f (n - 36) vat_name && (below_or_none k (field f (n - 4) 4) && all_below k (words f 0 ((n - 36) / 4)))))
 unfolding table_fits file_fits previous_of entries_of count_of
-table-tests k f n e =
+table_tests k f n e =
     rw e
     (and_assoc (leb 36 n) _ _ ∙ ap (λ (x : Bool). leb 36 n && x) (and_assoc (eqb ((n - 36) % 4) 0) _ _))
 
 -- the previous ICB is the last word of the file
-pub previous-word : (k : ℕ) (f : List ℕ) (n : ℕ) (r : Bool) → 36 ≤ n → (n - 36) % 4 ≡ 0 → r ≡ all_below k (words f (4 * (n / 4 - 1)) (n / 4 - (n / 4 - 1))) → r ≡ below_or_none k (field f (n - 4) 4)
+pub previous_word : (k : ℕ) (f : List ℕ) (n : ℕ) (r : Bool) → 36 ≤ n → (n - 36) % 4 ≡ 0 → r ≡ all_below k (words f (4 * (n / 4 - 1)) (n / 4 - (n / 4 - 1))) → r ≡ below_or_none k (field f (n - 4) 4)
 unfolding words all_below
-previous-word k f n r h m q =
+previous_word k f n r h m q =
     let e : n / 4 - (n / 4 - 1) ≡ suc zero = omega arith in
     let p : 4 * (n / 4 - 1) ≡ n - 4 = omega arith in
     (rw (e, p) at q) ∙ and_right (below_or_none k (field f (n - 4) 4))
@@ -184,13 +193,8 @@ filled_more l b t =
     ∙ ap (λ (m : ℕ). (l ++ b) ++ drop m t) (sym (length-append l b))
 
 -- the words of a run more
-pub filled-run : (f r t : List ℕ) (v n : ℕ) → Together f v n r → splice (filled_from (words f 0 v) t) v (words r 0 (length r / 4)) ≡ filled_from (words f 0 (v + length r / 4)) t
-filled-run f r t v n g =
+pub filled_run : (f r t : List ℕ) (v n : ℕ) → Together f v n r → splice (filled_from (words f 0 v) t) v (words r 0 (length r / 4)) ≡ filled_from (words f 0 (v + length r / 4)) t
+filled_run f r t v n g =
     ap (λ (m : ℕ). splice (filled_from (words f 0 v) t) m (words r 0 (length r / 4))) (sym (length-words f 0 v))
     ∙ filled_more (words f 0 v) (words r 0 (length r / 4)) t
     ∙ ap (λ (l : List ℕ). filled_from l t) (run-before f r v n g)
-
--- all of them at once
-pub filled-all : (l t : List ℕ) → splice t 0 l ≡ filled_from l t
-unfolding filled_from splice
-filled-all l t = let e : 0 + length l ≡ length l = omega arith in ap (λ (m : ℕ). l ++ drop m t) e

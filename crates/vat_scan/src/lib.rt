@@ -5,25 +5,20 @@
 // `requires` what they take from them.
 #![tactic(auto)]
 
-ghost use Rattle.std.specs.Prelude.{◌≡◌, false, List, ℕ, ◌+◌, ◌≤◌, ◌<◌};
+ghost use Rattle.std.specs.Prelude.{◌≡◌, false, List, ℕ, ◌+◌, ◌≤◌, ◌<◌, length, MatchOption};
 ghost use Rattle.model.specs.Disc.{disc as disc_of};
-ghost use Rattle.model.specs.Vat.{vat_icb, scan as scanned};
+ghost use Rattle.model.specs.Vat.{Found, nowhere, vat_icb, scan as scanned};
 ghost use Rattle.vat_read.specs.File.{Lent};
 ghost use Rattle.vat_scan.specs.Scan.{Within, scan_of};
 
 use address::LogicalAddress;
+use fields::Number;
 use model::{RECORDED, SECTOR};
-use vat_icb::{FILE_ENTRY, SECTOR_BYTES};
+use vat_icb::{FILE_ENTRY, Icb};
+use vat_read::File;
 
 // How many blocks a step of the scan looks at.
 const STEP: u32 = 8;
-
-// Where the scan for a VAT ICB ends: at a logical block, or having found none.
-#[derive(Clone, Copy)]
-pub enum Scanned {
-    At(LogicalAddress),
-    Nowhere,
-}
 
 // Whether logical block `k` can be a VAT ICB: it begins as a File Entry. Inside the layers: its sector is one of
 // the disc's.
@@ -32,7 +27,7 @@ fn can_be_icb(disc: &[u8], s: u32, k: LogicalAddress) -> bool
     ensures { result ≡ false → (marks : List ℕ) → vat_icb (disc_of disc.now marks) s k.0 ≡ false }
 {
     let at = address::sector_of(s, k).0 as usize;
-    fields::read16(disc, SECTOR * at) == FILE_ENTRY
+    u16::read(disc, SECTOR * at) == FILE_ENTRY
 }
 
 // How many of a step's blocks from `k` on can be one. It looks at each, with no early way out. Inside the layers:
@@ -41,14 +36,11 @@ fn count_icbs(disc: &[u8], s: u32, k: LogicalAddress) -> u32
     requires { Within disc.now s (k.0 + 8) }
     ensures { result ≡ 0 → (marks : List ℕ) (i : ℕ) → i < 8 → vat_icb (disc_of disc.now marks) s (k.0 + i) ≡ false }
 {
-    let k = k.0;
     let mut count: u32 = 0;
-    let mut i: u32 = 0;
-    while i < STEP {
-        if can_be_icb(disc, s, LogicalAddress(k + i)) {
+    for i in 0..STEP {
+        if can_be_icb(disc, s, LogicalAddress(k.0 + i)) {
             count += 1;
         }
-        i += 1;
     }
     count
 }
@@ -60,86 +52,63 @@ fn skip_steps(disc: &[u8], s: u32, n: LogicalAddress) -> LogicalAddress
     ensures { (result.0 ≤ n.0) × ((marks : List ℕ) → scanned (disc_of disc.now marks) s result.0 ≡ scanned (disc_of disc.now marks) s n.0) }
 {
     let mut k = n.0;
-    while STEP <= k {
-        let below = k - STEP;
-        if count_icbs(disc, s, LogicalAddress(below)) != 0 {
-            return LogicalAddress(k);
-        }
-        k = below;
+    // The new form is no plainer: it goes down by whole steps from a place that no range begins at.
+    while STEP <= k && count_icbs(disc, s, LogicalAddress(k - STEP)) == 0 {
+        k -= STEP;
     }
     LogicalAddress(k)
 }
 
-// The end of the first `n` blocks without those at their end that cannot be an ICB: one past a block that can be
-// one, or 0. Whole steps pass first, then single blocks. Inside the layers: their sectors are the disc's.
-fn skip_others(disc: &[u8], s: u32, n: LogicalAddress) -> LogicalAddress
+// The last of the first `n` blocks that can be an ICB, if there is one. Whole steps pass first, then single blocks.
+// Inside the layers: their sectors are the disc's.
+fn last_possible(disc: &[u8], s: u32, n: LogicalAddress) -> Option<LogicalAddress>
     requires { Within disc.now s n.0 }
-    ensures { (result.0 ≤ n.0) × ((marks : List ℕ) → scanned (disc_of disc.now marks) s result.0 ≡ scanned (disc_of disc.now marks) s n.0) }
+    ensures { (marks : List ℕ) → MatchOption result (scanned (disc_of disc.now marks) s n.0 ≡ nowhere) (λ k. (k.0 < n.0) × (scanned (disc_of disc.now marks) s (k.0 + 1) ≡ scanned (disc_of disc.now marks) s n.0)) }
 {
-    let mut k = skip_steps(disc, s, n).0;
-    while 0 < k {
-        let below = k - 1;
-        if can_be_icb(disc, s, LogicalAddress(below)) {
-            return LogicalAddress(k);
+    let end = skip_steps(disc, s, n).0;
+    for k in (0..end).rev() {
+        if can_be_icb(disc, s, LogicalAddress(k)) {
+            return Some(LogicalAddress(k));
         }
-        k = below;
     }
-    LogicalAddress(k)
+    None
 }
 
 // The scan down from below logical block `n` to the first VAT ICB. Inside the layers: lines 1 and 2 have been
 // tested, and `n` does not exceed L.
-pub fn scan(disc: &[u8], marks: &[u8], s: u32, n: LogicalAddress) -> Scanned
+pub fn scan(disc: &[u8], marks: &[u8], s: u32, n: LogicalAddress) -> Option<LogicalAddress>
     requires { Lent disc.now marks.now s n.0 }
     ensures { result ≡ scan_of (scanned (disc_of disc.now marks.now) s n.0) }
 {
-    let mut k = n;
+    let mut end = n;
+    // A rule of the project needs the labelled loop: the scan yields the first VAT ICB by break.
     let found = 'scan: loop {
-        k = skip_others(disc, s, k);
-        if k.0 == 0 {
-            break 'scan Scanned::Nowhere;
-        }
-        let below = k.0 - 1;
-        k = LogicalAddress(below);
+        let Some(k) = last_possible(disc, s, end) else {
+            break 'scan None;
+        };
+        end = k;
         let at = address::sector_of(s, k).0 as usize;
         if marks[at] != RECORDED {
             continue 'scan;
         }
         let from = SECTOR * at;
-        let to = from + SECTOR;
-        let icb = &disc[from..to];
-        if !vat_icb::tag_fits(k, icb) {
+        let icb = Icb {
+            bytes: &disc[from..from + SECTOR],
+        };
+        if !icb.tag_fits(k) {
             continue 'scan;
         }
-        if !vat_icb::entry_fits(icb) {
+        let Some(entry) = icb.entry() else {
+            continue 'scan;
+        };
+        if !entry.allocation_fits(marks, s, k) {
             continue 'scan;
         }
-        if !vat_icb::pairs_fit(icb) {
+        let file = File { disc, s, entry };
+        if !file.table_fits(k) {
             continue 'scan;
         }
-        let mut sum = vat_icb::embedded_bytes(icb);
-        let mut whole = true;
-        let mut i: usize = 0;
-        while vat_icb::has_extent(icb, i) {
-            if !whole {
-                continue 'scan;
-            }
-            let size = vat_icb::size_at(icb, i);
-            let block = vat_icb::block_at(icb, i);
-            if !vat_icb::extent_fits(marks, s, k, size, block) {
-                continue 'scan;
-            }
-            whole = size % SECTOR_BYTES == 0;
-            sum += size as u64;
-            i += 1;
-        }
-        if sum != vat_icb::length_of(icb) {
-            continue 'scan;
-        }
-        if !vat_read::table_fits(disc, s, k, icb) {
-            continue 'scan;
-        }
-        break 'scan Scanned::At(k);
+        break 'scan Some(k);
     };
     found
 }

@@ -2,33 +2,31 @@
 // identifier, then checksum and CRC as computed.
 ghost use Rattle.std.specs.Prelude.{◌≤◌, length};
 
+use fields::Number;
 use say::Out;
 use std::io;
+use std::io::Write;
+use tag::{IDENTIFIER_AT, TAG_BYTES};
 
-const IDENTIFIER_AT: usize = 0;
-
-const TAG_LENGTH: usize = 16;
-
-fn tag(out: &mut Out, source: &[u8], whole: &[u8]) -> io::Result<()>
+fn tag(out: &mut Out, source: &str, whole: &[u8]) -> io::Result<()>
     requires { 16 ≤ length whole.now }
 {
-    say::case(out, b"tag", source)?;
-    say::decimal(out, fields::read16(whole, IDENTIFIER_AT) as u64)?;
-    say::decimal(out, tag::checksum(whole) as u64)?;
-    say::hex(out, tag::crc(&whole[TAG_LENGTH..], 0) as u64, 4)?;
-    say::end(out)
+    let identifier = u16::read(whole, IDENTIFIER_AT);
+    let checksum = tag::checksum(whole);
+    let crc = tag::crc(&whole[TAG_BYTES..], 0);
+    writeln!(out, "tag {source}: {identifier} {checksum} {crc:04x}")
 }
 
 fn windows_and_mac(out: &mut Out) -> io::Result<()> {
     tag(
         out,
-        b"hdd-win7",
+        "hdd-win7",
         b"\x08\x01\x03\x00\x3f\x00\x01\x00\x34\xd6\x08\x00\x20\x00\x00\x00\
         \xc0\x4d\x00\x00\xb8\x09\x00\x00",
     )?;
     tag(
         out,
-        b"hdd-win7",
+        "hdd-win7",
         b"\x09\x00\x03\x00\xc3\x00\x01\x00\x1e\xa0\x78\x00\x80\x00\x00\x00\
         \x3c\x10\xdf\x07\x01\x08\x10\x3a\x3b\x3b\x00\x00\x01\x00\x00\x00\
         \x00\x00\x00\x00\x00\x00\x00\x00\x10\x00\x00\x00\x00\x00\x00\x00\
@@ -41,7 +39,7 @@ fn windows_and_mac(out: &mut Out) -> io::Result<()> {
     )?;
     tag(
         out,
-        b"hdd-macosx-2.60-4096",
+        "hdd-macosx-2.60-4096",
         b"\x08\x01\x03\x00\xfa\x00\x01\x00\xe8\xfd\x08\x00\x00\x00\x00\x00\
         \xfe\x07\x00\x00\x00\x01\x00\x00",
     )
@@ -50,14 +48,14 @@ fn windows_and_mac(out: &mut Out) -> io::Result<()> {
 fn nero(out: &mut Out) -> io::Result<()> {
     tag(
         out,
-        b"cd-nero-6",
+        "cd-nero-6",
         b"\x01\x01\x03\x00\xab\x00\x01\x00\xd3\xb8\x18\x00\x02\x00\x00\x00\
         \x01\x00\x0a\x00\x00\x08\x00\x00\x01\x00\x00\x00\x00\x00\x00\x00\
         \x14\x00\x00\x00\x00\x00\x00\x00",
     )?;
     tag(
         out,
-        b"cd-nero-6",
+        "cd-nero-6",
         b"\x09\x00\x03\x00\x87\x00\x01\x00\xb7\x0d\x76\x00\x40\x00\x00\x00\
         \x78\x10\xe1\x07\x05\x01\x0a\x33\x31\x00\x00\x00\x01\x00\x00\x00\
         \x00\x00\x00\x00\x00\x00\x00\x00\x16\x00\x00\x00\x00\x00\x00\x00\
@@ -70,7 +68,7 @@ fn nero(out: &mut Out) -> io::Result<()> {
     )?;
     tag(
         out,
-        b"bdr-2.60-nero",
+        "bdr-2.60-nero",
         b"\x01\x01\x03\x00\xb4\x00\x01\x00\x32\x61\x18\x00\x03\x00\x00\x00\
         \x01\x00\x0a\x00\x00\x08\x00\x00\x02\x00\x00\x00\x01\x00\x00\x00\
         \x00\x00\x00\x00\x00\x00\x00\x00",
@@ -80,13 +78,13 @@ fn nero(out: &mut Out) -> io::Result<()> {
 fn udfclient_and_mkudfiso(out: &mut Out) -> io::Result<()> {
     tag(
         out,
-        b"hdd-udfclient-0.7.5",
+        "hdd-udfclient-0.7.5",
         b"\x08\x01\x03\x00\x1f\x00\x01\x00\x06\x04\x08\x00\x00\x00\x00\x00\
         \x9d\x4d\x00\x00\xb4\x09\x00\x00",
     )?;
     tag(
         out,
-        b"hdd-udfclient-0.7.5",
+        "hdd-udfclient-0.7.5",
         b"\x09\x00\x03\x00\x67\x00\x01\x00\x7a\x28\x76\x00\x41\x01\x00\x00\
         \x00\x10\xdf\x07\x01\x08\x10\x2b\x0b\x59\x40\x55\x01\x00\x00\x00\
         \x00\x00\x00\x00\x00\x00\x00\x00\x10\x00\x00\x00\x00\x00\x00\x00\
@@ -99,13 +97,13 @@ fn udfclient_and_mkudfiso(out: &mut Out) -> io::Result<()> {
     )?;
     tag(
         out,
-        b"cd-mkudfiso-20100208",
+        "cd-mkudfiso-20100208",
         b"\x05\x00\x02\x00\xe8\x00\x01\x00\x62\x66\x02\x00\x16\x00\x00\x00\
         \x02\x00",
     )?;
     tag(
         out,
-        b"cd-mkudfiso-20100208",
+        "cd-mkudfiso-20100208",
         b"\x06\x00\x02\x00\xca\x00\x01\x00\x53\x55\x02\x00\x17\x00\x00\x00\
         \x03\x00",
     )
@@ -114,14 +112,14 @@ fn udfclient_and_mkudfiso(out: &mut Out) -> io::Result<()> {
 fn others(out: &mut Out) -> io::Result<()> {
     tag(
         out,
-        b"udf102",
+        "udf102",
         b"\x01\x01\x02\x00\xc9\x00\x01\x00\x47\x62\x18\x00\x03\x00\x00\x00\
         \x01\x00\x0a\x00\x00\x08\x00\x00\x02\x00\x00\x00\x00\x00\x00\x00\
         \x00\x00\x00\x00\x00\x00\x00\x00",
     )?;
     tag(
         out,
-        b"udf102",
+        "udf102",
         b"\x09\x00\x02\x00\x77\x00\x01\x00\x97\x1e\x76\x00\x40\x00\x00\x00\
         \x00\x10\xde\x07\x02\x14\x01\x1a\x14\x56\x0a\x00\x01\x00\x00\x00\
         \x00\x00\x00\x00\x00\x00\x00\x00\x11\x00\x00\x00\x00\x00\x00\x00\
@@ -134,13 +132,13 @@ fn others(out: &mut Out) -> io::Result<()> {
     )?;
     tag(
         out,
-        b"hdd-mkudffs-2.2",
+        "hdd-mkudffs-2.2",
         b"\x08\x01\x03\x00\x13\x00\x01\x00\x1f\xdf\x08\x00\x00\x00\x00\x00\
         \xf8\x4d\x00\x00\xbf\x09\x00\x00",
     )?;
     tag(
         out,
-        b"hdd-mkudffs-2.2",
+        "hdd-mkudffs-2.2",
         b"\x09\x00\x03\x00\xfb\x00\x01\x00\x82\x76\x76\x00\x80\x00\x00\x00\
         \x78\x10\xe4\x07\x02\x07\x0f\x03\x2b\x24\x2c\x58\x01\x00\x00\x00\
         \x00\x00\x00\x00\x00\x00\x00\x00\x10\x00\x00\x00\x00\x00\x00\x00\
@@ -153,7 +151,7 @@ fn others(out: &mut Out) -> io::Result<()> {
     )?;
     tag(
         out,
-        b"linux",
+        "linux",
         b"\x09\x00\x02\x00\x2f\x00\x00\x00\x3e\x30\x76\x00\x40\x00\x00\x00\
         \x78\x10\xd8\x07\x02\x05\x0c\x1d\x14\x00\x00\x00\x01\x00\x00\x00\
         \x00\x00\x00\x00\x00\x00\x00\x00\x05\x01\x00\x00\x00\x00\x00\x00\

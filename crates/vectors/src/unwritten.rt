@@ -1,38 +1,36 @@
-// Map lists that are not written: the verdict's number, and the CRC of the lent bytes, which came as 0xa5.
+// Map lists that are not written: the answer's number, and the CRC of the lent bytes, which came as 0xa5.
 use crate::lists;
 use maps::Volume;
 use say::Out;
 use std::io;
+use std::io::Write;
 
-fn write(out: &mut Out, name: &[u8], volume: Volume, list: &mut [u8]) -> io::Result<()> {
-    let verdict = maps_written::write_maps(volume, list);
-    say::case(out, b"write", name)?;
-    say::verdict(out, verdict)?;
-    say::hex(out, tag::crc(list, 0) as u64, 4)?;
-    say::end(out)
+fn write(out: &mut Out, name: &str, volume: Volume, list: &mut [u8]) -> io::Result<()> {
+    let number = say::number(maps_written::write_maps(volume, list));
+    writeln!(out, "write {name}: {number} {:04x}", tag::crc(list, 0))
 }
 
 fn write_once_lengths(out: &mut Out) -> io::Result<()> {
     let volume = lists::write_once(7);
-    write(out, b"write-once, no bytes", volume, &mut [])?;
-    write(out, b"write-once, 64 bytes", volume, &mut [0xa5; 64])?;
-    write(out, b"write-once, 69 bytes", volume, &mut [0xa5; 69])?;
-    write(out, b"write-once, 70 bytes", volume, &mut [0xa5; 70])?;
-    write(out, b"write-once, 71 bytes", volume, &mut [0xa5; 71])
+    write(out, "write-once, no bytes", volume, &mut [])?;
+    write(out, "write-once, 64 bytes", volume, &mut [0xa5; 64])?;
+    write(out, "write-once, 69 bytes", volume, &mut [0xa5; 69])?;
+    write(out, "write-once, 70 bytes", volume, &mut [0xa5; 70])?;
+    write(out, "write-once, 71 bytes", volume, &mut [0xa5; 71])
 }
 
 fn rewritable_lengths(out: &mut Out) -> io::Result<()> {
     let volume = lists::rewritable(7, 4, 2048, [64, 96, 128, 160]);
-    write(out, b"rewritable, 63 bytes", volume, &mut [0xa5; 63])?;
-    write(out, b"rewritable, 64 bytes", volume, &mut [0xa5; 64])?;
-    write(out, b"rewritable, 65 bytes", volume, &mut [0xa5; 65])?;
-    write(out, b"rewritable, 70 bytes", volume, &mut [0xa5; 70])
+    write(out, "rewritable, 63 bytes", volume, &mut [0xa5; 63])?;
+    write(out, "rewritable, 64 bytes", volume, &mut [0xa5; 64])?;
+    write(out, "rewritable, 65 bytes", volume, &mut [0xa5; 65])?;
+    write(out, "rewritable, 70 bytes", volume, &mut [0xa5; 70])
 }
 
 // A rewritable volume's list, to bytes of the right length.
 fn rewritable(
     out: &mut Out,
-    name: &[u8],
+    name: &str,
     tables: u8,
     size: u32,
     sectors: [u32; 4],
@@ -42,19 +40,19 @@ fn rewritable(
 }
 
 fn tables(out: &mut Out) -> io::Result<()> {
-    rewritable(out, b"no table", 0, 2048, [64, 96, 128, 160])?;
-    rewritable(out, b"5 tables", 5, 2048, [64, 96, 128, 160])?;
-    rewritable(out, b"table size 55", 4, 55, [64, 96, 128, 160])?;
-    rewritable(out, b"table size 2,049", 4, 2049, [64, 96, 128, 160])?;
-    rewritable(out, b"table sector 33", 4, 2048, [33, 96, 128, 160])?;
-    rewritable(out, b"table sector 64 twice", 4, 2048, [64, 96, 128, 64])
+    rewritable(out, "no table", 0, 2048, [64, 96, 128, 160])?;
+    rewritable(out, "5 tables", 5, 2048, [64, 96, 128, 160])?;
+    rewritable(out, "table size 55", 4, 55, [64, 96, 128, 160])?;
+    rewritable(out, "table size 2,049", 4, 2049, [64, 96, 128, 160])?;
+    rewritable(out, "table sector 33", 4, 2048, [33, 96, 128, 160])?;
+    rewritable(out, "table sector 64 twice", 4, 2048, [64, 96, 128, 64])
 }
 
 // Line 3 is tested before line 5, and that before line 6.
 fn order(out: &mut Out) -> io::Result<()> {
     let volume = lists::rewritable(7, 5, 2048, [33, 96, 128, 160]);
-    write(out, b"lines 3, 5 and 6", volume, &mut [0xa5; 63])?;
-    write(out, b"lines 5 and 6", volume, &mut [0xa5; 64])
+    write(out, "lines 3, 5 and 6", volume, &mut [0xa5; 63])?;
+    write(out, "lines 5 and 6", volume, &mut [0xa5; 64])
 }
 
 pub fn run(out: &mut Out) -> io::Result<()> {

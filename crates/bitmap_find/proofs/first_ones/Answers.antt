@@ -3,4 +3,4 @@ use Rattle.bitmap_find.proofs.Rows.{first-ones}
 use Rattle.bitmap_find.proofs.first_ones.Goals as goal
 
 pub returns : goal.returns
-returns c = first-ones _ _ c.ranges.x.fits c.usize_of_count.ensures.0
+returns c = first-ones _ _ c.ranges.x.fits c.trailing_ones.ensures

@@ -4,4 +4,4 @@ use Rattle.bitmap_find.proofs.Rows.{last-ones}
 use Rattle.bitmap_find.proofs.last_ones.Goals as goal
 
 pub returns : goal.returns
-returns c = last-ones _ _ _ (omega arith) c.usize_of_count.ensures.0
+returns c = last-ones _ _ _ (omega arith) c.leading_ones.ensures

@@ -11,17 +11,3 @@ overflow_sub-result c = let a = c.args in
     let hi = weight a.high (omega arith) in
     let up : 2 ^ a.low ≤ 2 ^ a.high = pow_mono (omega arith) in
     omega (arith, lo, hi, up)
-
-pub overflow_cast-result-3 : goal.overflow_cast-result-3
-overflow_cast-result-3 c = let a = c.args in
-    let lo = weight a.low (omega arith) in
-    let hi = weight a.high (omega arith) in
-    let up : 2 ^ a.low ≤ 2 ^ a.high = pow_mono (omega arith) in
-    record { fits = omega (arith, lo, hi, up) }
-
-pub returns : goal.returns
-returns c = let a = c.args in
-    let lo = weight a.low (omega arith) in
-    let hi = weight a.high (omega arith) in
-    let up : 2 ^ a.low ≤ 2 ^ a.high = pow_mono (omega arith) in
-    omega (arith, lo, hi, up)

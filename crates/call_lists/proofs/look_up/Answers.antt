@@ -3,10 +3,10 @@ use Rattle.call_lists.proofs.Listing.{look-short, look_at, look-refused}
 use Rattle.call_lists.proofs.look_up.Goals as goal
 
 pub returns-then-res-ne-ONE : goal.returns-then-res-ne-ONE
-returns-then-res-ne-ONE c = let told = look-short _ _ _ c.if-res-ne-ONE.true c.number.ensures in record { value = told.0; res_after = told.1 }
+returns-then-res-ne-ONE c = let told = look-short _ _ _ c.if-res-ne-ONE.true c.from.ensures in record { value = told.0; res_after = told.1 }
 
-pub returns-in-At : goal.returns-in-At
-returns-in-At c = let told = look_at _ _ _ c.if-res-ne-ONE.false c.look_up-found.ensures.answer c.in-At.is in record { value = told.0; res_after = told.1 }
+pub returns-in-Ok : goal.returns-in-Ok
+returns-in-Ok c = let told = look_at _ _ _ c.if-res-ne-ONE.false c.look_up.ensures.answer c.in-Ok.is in record { value = told.0; res_after = told.1 }
 
-pub returns-in-Refused : goal.returns-in-Refused
-returns-in-Refused c = let told = look-refused _ _ _ c.if-res-ne-ONE.false c.look_up-found.ensures.answer c.in-Refused.is c.number-in-Refused.ensures in record { value = told.0; res_after = told.1 }
+pub returns-in-Err : goal.returns-in-Err
+returns-in-Err c = let told = look-refused _ _ _ c.if-res-ne-ONE.false c.look_up.ensures.answer c.in-Err.is c.from-in-Err.ensures in record { value = told.0; res_after = told.1 }

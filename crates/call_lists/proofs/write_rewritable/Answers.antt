@@ -5,4 +5,4 @@ use Rattle.call_lists.proofs.write_rewritable.Goals as goal
 
 pub returns : goal.returns
 unfolding volume_with
-returns c = let a = c.args in let told = rewritable-written a.partition a.size a.tables.now a.out.now c.table_count-count.ensures c.number_at-a.ensures c.number_at-b.ensures c.number_at-c.ensures c.number_at-d.ensures c.write_maps.ensures.value c.number_of_verdict.ensures c.write_maps.ensures.out_after in record { value = told.0; out_after = told.1 }
+returns c = let a = c.args in let told = rewritable-written a.partition a.size a.tables.now a.out.now c.table_count-count.ensures c.number_at-a.ensures c.number_at-b.ensures c.number_at-c.ensures c.number_at-d.ensures c.write_maps.ensures.value c.number_of.ensures c.write_maps.ensures.out_after in record { value = told.0; out_after = told.1 }

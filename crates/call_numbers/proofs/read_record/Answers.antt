@@ -1,16 +1,22 @@
--- `call_numbers::read_record` meets its contract: the tests are the definition's. Assumes nothing.
+-- `call_numbers::read_record` meets its contract: the arms are the definition's tests. Assumes nothing.
+use mathlib.Core.Path.{◌≡◌}
+use lib.ListN.{get_or}
+use borrow.Author.Rules.{rules}
 use borrow.Author.Tests.{eq-eqb, ne_eqb}
 use Rattle.call_numbers.specs.Numbers.{record_of}
 use Rattle.call_numbers.proofs.read_record.Goals as goal
 
-pub returns-then-kind-eq-WRITE_ONCE : goal.returns-then-kind-eq-WRITE_ONCE
+pub returns-in-0 : goal.returns-in-0
 unfolding record_of
-returns-then-kind-eq-WRITE_ONCE c = simp (eq-eqb _ _ c.if-kind-eq-WRITE_ONCE.true)
+returns-in-0 c = simp (eq-eqb _ _ c.in-0.is)
 
-pub returns-then-kind-eq-REWRITABLE : goal.returns-then-kind-eq-REWRITABLE
+pub returns-in-1 : goal.returns-in-1
 unfolding record_of
-returns-then-kind-eq-REWRITABLE c = simp (ne_eqb _ _ c.if-kind-eq-WRITE_ONCE.false, eq-eqb _ _ c.if-kind-eq-REWRITABLE.true)
+returns-in-1 c = simp (c.in-1.is)
 
-pub returns : goal.returns
+pub returns-in_default : goal.returns-in_default
 unfolding record_of
-returns c = simp (ne_eqb _ _ c.if-kind-eq-WRITE_ONCE.false, ne_eqb _ _ c.if-kind-eq-REWRITABLE.false)
+returns-in_default c =
+    let once : get_or c.args.kept.now 0 0 ≡ 0 → ⊥ = search rules in
+    let rewritable : get_or c.args.kept.now 0 0 ≡ 1 → ⊥ = search rules in
+    simp (ne_eqb _ _ once, ne_eqb _ _ rewritable)

@@ -8,8 +8,8 @@ returns-then-kept-ne-RECORD c = let told = full-no-record _ _ _ _ _ c.if-kept-ne
 pub returns-then-res-ne-ONE : goal.returns-then-res-ne-ONE
 returns-then-res-ne-ONE c = let told = full-no-result _ _ _ _ _ c.if-kept-ne-RECORD.false c.if-res-ne-ONE.true c.number_of_lengths-then-res-ne-ONE.ensures in record { value = told.0; res_after = told.1 }
 
-pub returns-in-PerMille : goal.returns-in-PerMille
-returns-in-PerMille c = let told = full-told _ _ _ _ _ c.if-kept-ne-RECORD.false c.if-res-ne-ONE.false c.read_record-held.ensures c.fullness-measured.ensures.answer c.in-PerMille.is in record { value = told.0; res_after = told.1 }
+pub returns-in-Ok : goal.returns-in-Ok
+returns-in-Ok c = let told = full-told _ _ _ _ _ c.if-kept-ne-RECORD.false c.if-res-ne-ONE.false c.read_record-held.ensures c.fullness.ensures.answer c.in-Ok.is in record { value = told.0; res_after = told.1 }
 
-pub returns-in-Refused : goal.returns-in-Refused
-returns-in-Refused c = let told = full-refused _ _ _ _ _ c.if-kept-ne-RECORD.false c.if-res-ne-ONE.false c.read_record-held.ensures c.fullness-measured.ensures.answer c.in-Refused.is c.number.ensures in record { value = told.0; res_after = told.1 }
+pub returns-in-Err : goal.returns-in-Err
+returns-in-Err c = let told = full-refused _ _ _ _ _ c.if-kept-ne-RECORD.false c.if-res-ne-ONE.false c.read_record-held.ensures c.fullness.ensures.answer c.in-Err.is c.from.ensures in record { value = told.0; res_after = told.1 }

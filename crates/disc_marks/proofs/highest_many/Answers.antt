@@ -1,30 +1,20 @@
-use Prim.Native.Nat.{ℕ, ◌+◌, ◌-◌, ◌*◌, ◌/◌}
-use mathlib.Core.Path.{◌≡◌, refl, ap, ◌∙◌}
-use native.Mathlib.Omega.{arith}
-use lib.ListN.{length, take, drop, length-drop}
-use lib.Seq.{take_all, drop-drop}
+use Rattle.std.proofs.Common.{ℕ, ◌≡◌, ◌*◌, ◌/◌, ◌∙◌, List, [], length, get_or, drop, ap, sym, arith}
 use Rattle.disc_marks.specs.Marks.{highest_of}
-use Rattle.disc_marks.proofs.Laws.{highest-split}
+use Rattle.disc_marks.proofs.Laws.{highest_chunk}
 use Rattle.disc_marks.proofs.highest_many.Goals as goal
 
 pub loop-turn-init : goal.loop-turn-init
 unfolding highest_of
-loop-turn-init c = (omega arith, refl, omega arith)
+loop-turn-init c = omega arith
 
 pub loop-turn-preserved : goal.loop-turn-preserved
-loop-turn-preserved c = let l = c.loop-turn in
-    let m = c.args.marks.now in
-    let e : 64 * l.turn + 64 - 64 * l.turn ≡ 64 = omega arith in
-    let f : 64 * l.turn + 64 ≡ 64 * (l.turn + 1) = omega arith in
-    let part = ap (λ (k : ℕ). highest_of (take k (drop (64 * l.turn) m))) e in
-    let rest = ap highest_of (drop-drop 64 (64 * l.turn) m ∙ ap (λ (k : ℕ). drop k m) f) in
-    (omega arith, c.raise.auto.tops ∙ l.invariant.1, omega (arith, c.raise.ensures, highest-split (drop (64 * l.turn) m) 64, part, rest, l.invariant.2))
+loop-turn-preserved c = let m = c.args.marks.now in
+    let turns = c.as_chunks.ensures.front in
+    let this = ap (λ (x : List (List ℕ)). highest_of (get_or x c.loop-turn.turn-index [])) turns in
+    omega (arith, c.loop-turn.invariant, c.raise.ensures, this, highest_chunk 64 (length m / 64) m c.loop-turn.turn-index (omega (arith, c.as_chunks.ensures.front_len)))
 
 pub returns : goal.returns
-returns c = let l = c.loop-turn in
-    let m = c.args.marks.now in
-    let at : ℕ = 64 * (length m / 64) in
-    let e : 64 * l.turn ≡ at = omega arith in
-    let same = ap (λ (k : ℕ). highest_of (drop k m)) e in
-    let rest = ap highest_of (take_all (length m - at) (drop at m) (simp length-drop (omega arith))) in
-    omega (arith, c.highest_few-rest.ensures, c.highest_few.ensures, rest, same, l.invariant.2)
+returns c = let m = c.args.marks.now in
+    let e : c.loop-turn.turn-index ≡ length m / 64 = omega (arith, c.as_chunks.ensures.front_len) in
+    let rest = ap (λ (x : ℕ). highest_of (drop (x * 64) m)) e ∙ ap highest_of (sym c.as_chunks.ensures.back) in
+    omega (arith, c.loop-turn.invariant, rest)

@@ -1,12 +1,9 @@
--- `disc_marks::skip_blank` meets its contract. The loop's invariant: the first k blocks have the NWA of all. Assumes nothing.
-use Prim.Native.Nat.{ℕ, ◌≤◌}
-use mathlib.Core.Path.{◌≡◌}
-use mathlib.Core.List.{List}
-use Rattle.model.specs.Disc.{disc, nwa}
+-- `disc_marks::skip_blank` meets its contract. The loop's invariant: the marks are those left, and blank ones. Assumes nothing.
+use Rattle.std.proofs.Common.{◌≡◌, ◌-◌, ◌++◌, length, replicate}
 use Rattle.disc_marks.proofs.skip_blank.Given as goal
 
-abbrev pub invariant-loop-k : goal.invariant-loop-k
-invariant-loop-k l = (l.k ≤ l.l) × ((bytes : List ℕ) → nwa (disc bytes l.marks) l.s l.k ≡ nwa (disc bytes l.marks) l.s l.l)
+abbrev pub invariant-loop-below : goal.invariant-loop-below
+invariant-loop-below g l = l.left ++ replicate (length l.marks - length l.left) 0 ≡ l.marks
 
-abbrev pub decreases-loop-k : goal.decreases-loop-k
-decreases-loop-k l = l.k
+abbrev pub decreases-loop-below : goal.decreases-loop-below
+decreases-loop-below g l = length l.left

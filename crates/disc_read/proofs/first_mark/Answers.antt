@@ -1,21 +1,17 @@
-use native.Mathlib.Omega.{arith}
-use Rattle.model.specs.Disc.{disc, mark}
+use Rattle.model.specs.Disc.{disc}
 use Rattle.disc_read.proofs.Laws.{first-all, first-here, first_above, first-none}
 use Rattle.disc_read.proofs.first_mark.Goals as goal
 
-pub loop-i-init : goal.loop-i-init
-loop-i-init c = (omega arith, λ bytes. first-all _ _ _)
+pub loop-mark-init : goal.loop-mark-init
+loop-mark-init c bytes = first-all _ _ _
 
-pub returns-then-m-ne-RECORDED : goal.returns-then-m-ne-RECORDED
-unfolding mark
-returns-then-m-ne-RECORDED c bytes = let l = c.loop-i in
-    first-here (disc bytes _) _ _ l.i c.loop-i-test.true (l.invariant.1 bytes) c.if-m-ne-RECORDED.true
+pub returns-then-mark-ne-RECORDED : goal.returns-then-mark-ne-RECORDED
+returns-then-mark-ne-RECORDED c bytes = let l = c.loop-mark in
+    first-here (disc bytes _) _ _ l.mark-index c.loop-mark-test.true c.requires (l.invariant bytes) c.if-mark-ne-RECORDED.true
 
-pub loop-i-preserved : goal.loop-i-preserved
-unfolding mark
-loop-i-preserved c = let l = c.loop-i in
-    let more = c.loop-i-test.true in
-    (omega arith, λ bytes. first_above (disc bytes _) _ _ l.i more (l.invariant.1 bytes) c.if-m-ne-RECORDED.false)
+pub loop-mark-preserved : goal.loop-mark-preserved
+loop-mark-preserved c bytes = let l = c.loop-mark in
+    first_above (disc bytes _) _ _ l.mark-index c.loop-mark-test.true c.requires (l.invariant bytes) c.if-mark-ne-RECORDED.false
 
 pub returns : goal.returns
-returns c bytes = first-none (disc bytes _) _ _ _ c.loop-i-test.false (c.loop-i.invariant.1 bytes)
+returns c bytes = first-none (disc bytes _) _ _ _ c.loop-mark-test.false c.requires (c.loop-mark.invariant bytes)

@@ -1,11 +1,7 @@
--- `examine::are_below` meets its contract. The loop's invariant: that none was counted and that the entries left are below are together
--- the whole. The measure is the entries left. Assumes nothing.
-use Rattle.std.proofs.Common.{◌≡◌, ◌-◌, ◌≤◌, ◌&&◌, eqb, take, drop}
+-- `examine::are_below` meets its contract. The loop's invariant: none of the entries so far was counted exactly if all are below. Assumes nothing.
+use Rattle.std.proofs.Common.{◌≡◌, ◌≤◌, eqb, take}
 use Rattle.model.specs.Vat.{all_below}
 use Rattle.examine.proofs.are_below.Given as goal
 
-abbrev pub invariant-loop-i : goal.invariant-loop-i
-invariant-loop-i l = (l.over ≤ l.i) × (eqb l.over 0 && all_below l.next (take (l.n - l.i) (drop l.i l.table)) ≡ all_below l.next (take l.n l.table))
-
-abbrev pub decreases-loop-i : goal.decreases-loop-i
-decreases-loop-i l = l.n - l.i
+abbrev pub invariant-loop-entry : goal.invariant-loop-entry
+invariant-loop-entry l = (l.over ≤ l.entry-index) × (eqb l.over 0 ≡ all_below l.next (take l.entry-index l.entry-items))

@@ -1,12 +1,8 @@
--- `examine::are_outside` meets its contract. The loop's invariant: the tables from i on are outside exactly if all are. The measure is the
--- tables left. Assumes nothing.
-use Rattle.std.proofs.Common.{◌≡◌, ◌-◌, [], take, drop}
+-- `examine::are_outside` meets its contract. The loop's invariant: the tables so far are outside. Assumes nothing.
+use Rattle.std.proofs.Common.{◌≡◌, true, [], take}
 use Rattle.model.specs.Sparing.{ground_of}
 use Rattle.model.specs.Examine.{all_outside}
 use Rattle.examine.proofs.are_outside.Given as goal
 
-abbrev pub invariant-loop-i : goal.invariant-loop-i
-invariant-loop-i l = all_outside (ground_of l.s l.l l.sectors [] 0) (take (l.n - l.i) (drop l.i l.tables)) ≡ all_outside (ground_of l.s l.l l.sectors [] 0) (take l.n l.tables)
-
-abbrev pub decreases-loop-i : goal.decreases-loop-i
-decreases-loop-i l = l.n - l.i
+abbrev pub invariant-loop-table : goal.invariant-loop-table
+invariant-loop-table l = all_outside (ground_of l.s l.l l.sectors [] 0) (take l.table-index l.table-items) ≡ true

@@ -1,27 +1,13 @@
+-- `fields_written::write_regid` meets its contract. What a part was copied over is a splice (`lent_back`). Assumes nothing.
+use Prim.Native.Nat.{ℕ}
+use mathlib.Core.Path.{ap, ◌∙◌}
 use native.Mathlib.Omega.{arith}
-use borrow.Author.Rules.{rules}
-use mathlib.Core.Path.{refl}
-use Rattle.fields.proofs.Laws.{copying-first, copying-next, copying-last}
+use mathlib.Core.List.{List}
+use Rattle.fields.specs.Bytes.{splice}
+use Rattle.fields.proofs.Laws.{lent_back}
 use Rattle.fields_written.proofs.write_regid.Goals as goal
 
-pub loop-i-init : goal.loop-i-init
-loop-i-init c = (search rules, copying-first _ _ _)
-
-pub overflow_add-s : goal.overflow_add-s
-overflow_add-s c = omega arith
-
-pub bounds-s-at : goal.bounds-s-at
-bounds-s-at c = omega arith
-
-pub loop-i-preserved : goal.loop-i-preserved
-loop-i-preserved c = let v = c.loop-i in
-    let a = c.args in
-    (search rules, copying-next a.s.now a.at a.regid.now v.s v.i _ (omega arith) (omega arith) refl v.invariant.1)
-
-pub shape_of-s : goal.shape_of-s
-shape_of-s c = c.loop-i.invariant.1.long
-
 pub returns : goal.returns
-returns c = let v = c.loop-i in
-    let a = c.args in
-    copying-last a.s.now a.at a.regid.now v.s v.i (omega arith) v.invariant.1
+returns c = let a = c.args in
+    let e = c.copy_from_slice.ensures.after in
+    lent_back a.s.now c.copy_from_slice.new.self a.at _ (rw e (omega arith)) ∙ ap (λ (x : List ℕ). splice a.s.now a.at x) e

@@ -1,5 +1,4 @@
--- `maps::are_apart` meets its contract. The invariant: what is left answers for the whole. The measure is the places left. Assumes nothing.
-use Prim.Native.Nat.{◌-◌}
+-- `maps::are_apart` meets its contract. The invariant: what is left answers for the whole. Assumes nothing.
 use mathlib.Core.Path.{◌≡◌}
 use lib.ListN.{take, drop}
 use Rattle.maps.specs.Kinds.{tables_apart}
@@ -7,6 +6,3 @@ use Rattle.maps.proofs.are_apart.Given as goal
 
 abbrev pub invariant-loop-i : goal.invariant-loop-i
 invariant-loop-i l = tables_apart (drop l.i (take l.n l.sectors)) ≡ tables_apart (take l.n l.sectors)
-
-abbrev pub decreases-loop-i : goal.decreases-loop-i
-decreases-loop-i l = l.n - l.i

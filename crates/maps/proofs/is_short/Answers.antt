@@ -21,7 +21,7 @@ returns-then-bytes-lt1 c = let at = c.loop-at in
 
 pub returns-then-left-bytes : goal.returns-then-left-bytes
 returns-then-left-bytes c = let at = c.loop-at in
-    let w = c.usize_of_u8-bytes in
+    let w = c.from-bytes in
     cut-tail _ at.at c.if-left-lt-HEAD_BYTES.false (omega arith) (omega arith) ∙ at.invariant.1
 
 pub overflow_add-at-in-loop-at : goal.overflow_add-at-in-loop-at
@@ -32,9 +32,9 @@ loop-at-smaller c = omega arith
 
 pub loop-at-preserved : goal.loop-at-preserved
 loop-at-preserved c = let at = c.loop-at in
-    let w = c.usize_of_u8-bytes in
+    let w = c.from-bytes in
     let maps = c.args.maps.now in
-    (omega arith, ap (λ (k : ℕ). is_short (walk (drop (at.at + k) maps))) w.ensures.0 ∙ cut-next _ at.at c.if-left-lt-HEAD_BYTES.false (omega arith) (omega arith) ∙ at.invariant.1)
+    (omega arith, ap (λ (k : ℕ). is_short (walk (drop (at.at + k) maps))) w.ensures ∙ cut-next _ at.at c.if-left-lt-HEAD_BYTES.false (omega arith) (omega arith) ∙ at.invariant.1)
 
 pub returns : goal.returns
 returns c = uncut-end _ _ c.loop-at-test.false ∙ c.loop-at.invariant.1

@@ -10,7 +10,7 @@ pub loop-i-init : goal.loop-i-init
 loop-i-init c = (search rules, sym (used-none _))
 
 pub loop-i-preserved : goal.loop-i-preserved
-loop-i-preserved c = (omega arith, rw (c.loop-i.invariant.1, c.read32.ensures) (used-next _ _ (omega arith)))
+loop-i-preserved c = (omega arith, rw (c.loop-i.invariant.1, c.read.ensures) (used-next _ _ (omega arith)))
 
 pub returns : goal.returns
 returns c = let e : c.loop-i.i ≡ c.args.n = omega arith in

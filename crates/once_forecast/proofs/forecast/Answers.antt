@@ -1,26 +1,30 @@
 -- `once_forecast::forecast` meets its contract: each return by the law of its line. Assumes nothing.
-use mathlib.Core.Path.{sym, ◌∙◌}
-use native.Mathlib.Omega.{arith}
+use Rattle.std.proofs.Common.{◌≡◌, sym, ap, ◌∙◌, arith}
+use borrow.Author.Rules.{rules}
+use Rattle.std.specs.Prelude.{Err}
+use Rattle.refusal.specs.Verdict.{verdict_of}
 use Rattle.model.specs.Examine.{lent_table}
-use Rattle.examine.proofs.Calls.{going, table-long}
+use Rattle.examine.proofs.Calls.{going, span-length, table-long}
 use Rattle.once_forecast.proofs.Laws.{forecast-stopped, forecast-told}
 use Rattle.once_forecast.proofs.forecast.Goals as goal
 
-pub judge_once-seen-requires : goal.judge_once-seen-requires
-judge_once-seen-requires c = λ h. table-long c.args.table.now (sym c.is_lent-lent.ensures ∙ h)
+pub judge_once-requires : goal.judge_once-requires
+judge_once-requires c = λ h. table-long c.args.table.now (sym c.is_lent-lent.ensures ∙ h)
 
-pub returns-in-Stop : goal.returns-in-Stop
-returns-in-Stop c = forecast-stopped _ _ c.args.table.now c.args.held c.args.items.now c.is_lent-lent.ensures c.judge_once-seen.ensures.verdict c.in-Stop.is
+pub returns-in_err-volume : goal.returns-in_err-volume
+returns-in_err-volume c = let a = c.args in
+    let e : c.from_residual.result ≡ Err c.in_err-volume.field-0.0 = search rules in
+    e ∙ forecast-stopped _ _ a.table.now a.held a.items.now c.is_lent-lent.ensures c.judge_once.ensures.verdict (ap verdict_of c.in_err-volume.was)
 
 pub forecast_items-requires : goal.forecast_items-requires
-forecast_items-requires c = let judged = c.judge_once-seen.ensures in
-    let go = c.in_default.is in
-    let h = going _ _ c.args.table.now (lent_table c.args.table.now) c.args.held c.is_lent-lent.ensures judged.verdict go in
-    (h.entries, omega (arith, h.next, judged.length go), omega (arith, h.span, h.few, judged.length go))
+forecast_items-requires c = let a = c.args in
+    let lent = lent_table a.table.now in
+    let h = going _ _ a.table.now lent a.held c.is_lent-lent.ensures c.judge_once.ensures c.in_ok-volume.was in
+    let l = span-length _ _ a.table.now lent a.held c.is_lent-lent.ensures c.judge_once.ensures c.in_ok-volume.was in
+    (h.entries, omega (arith, h.next, l), omega (arith, h.span, h.few, l))
 
 pub returns : goal.returns
-returns c = let judged = c.judge_once-seen.ensures in
-    let go = c.in_default.is in
-    forecast-told _ _ c.args.table.now c.args.held c.args.items.now c.is_lent-lent.ensures judged.verdict go
-    (judged.length go)
-    (c.forecast_items.ensures c.args.maps.now c.args.s)
+returns c = let a = c.args in
+    forecast-told _ _ a.table.now a.held a.items.now c.is_lent-lent.ensures c.judge_once.ensures.verdict (ap verdict_of c.in_ok-volume.was)
+    (span-length _ _ a.table.now (lent_table a.table.now) a.held c.is_lent-lent.ensures c.judge_once.ensures c.in_ok-volume.was)
+    (c.forecast_items.ensures a.maps.now a.s)

@@ -12,8 +12,8 @@ pub overflow_cast-result : goal.overflow_cast-result
 overflow_cast-result c = let f = c.loop-i.invariant in
     omega (arith, f.index, f.within, c.requires.2)
 
-pub returns-in-Stop : goal.returns-in-Stop
-returns-in-Stop c = foreseen-stop _ _ _ _ _ c.loop-i.invariant c.loop-i-test.true c.judge_item.ensures c.in-Stop.is
+pub returns-in-Err : goal.returns-in-Err
+returns-in-Err c = foreseen-stop _ _ _ _ _ c.loop-i.invariant c.loop-i-test.true c.judge_item.ensures c.in-Err.is
 
 pub after_item-held-requires : goal.after_item-held-requires
 after_item-held-requires c = let f = c.loop-i.invariant in

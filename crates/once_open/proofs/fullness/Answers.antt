@@ -1,24 +1,30 @@
 -- `once_open::fullness` meets its contract: each return by the law of its line. Assumes nothing.
-use mathlib.Core.Path.{sym, ◌∙◌}
-use native.Mathlib.Omega.{arith}
+use Rattle.std.proofs.Common.{◌≡◌, sym, ap, ◌∙◌, arith}
+use borrow.Author.Rules.{rules}
+use Rattle.std.specs.Prelude.{Err}
+use Rattle.refusal.specs.Verdict.{verdict_of}
 use Rattle.model.specs.Examine.{lent_table}
-use Rattle.examine.proofs.Calls.{going, table-long}
+use Rattle.examine.proofs.Calls.{going, span-length, table-long}
 use Rattle.once_open.proofs.Laws.{full-stopped, full-told}
 use Rattle.once_open.proofs.fullness.Goals as goal
 
-pub judge_once-seen-requires : goal.judge_once-seen-requires
-judge_once-seen-requires c = λ h. table-long c.args.table.now (sym c.is_lent-lent.ensures ∙ h)
+pub judge_once-requires : goal.judge_once-requires
+judge_once-requires c = λ h. table-long c.args.table.now (sym c.is_lent-lent.ensures ∙ h)
 
-pub returns-in-Stop : goal.returns-in-Stop
-returns-in-Stop c = full-stopped _ _ c.args.table.now c.args.held c.is_lent-lent.ensures c.judge_once-seen.ensures.verdict c.in-Stop.is
+pub returns-in_err-volume : goal.returns-in_err-volume
+returns-in_err-volume c =
+    let e : c.from_residual.result ≡ Err c.in_err-volume.field-0.0 = search rules in
+    e ∙ full-stopped _ _ c.args.table.now c.args.held c.is_lent-lent.ensures c.judge_once.ensures.verdict (ap verdict_of c.in_err-volume.was)
 
 pub per_mille-requires : goal.per_mille-requires
-per_mille-requires c = let h = going _ _ c.args.table.now (lent_table c.args.table.now) c.args.held c.is_lent-lent.ensures c.judge_once-seen.ensures.verdict c.in_default.is in
-    let l = c.judge_once-seen.ensures.length c.in_default.is in
+per_mille-requires c = let a = c.args in
+    let h = going _ _ a.table.now (lent_table a.table.now) a.held c.is_lent-lent.ensures c.judge_once.ensures c.in_ok-volume.was in
+    let l = span-length _ _ a.table.now (lent_table a.table.now) a.held c.is_lent-lent.ensures c.judge_once.ensures c.in_ok-volume.was in
     (omega (arith, h.next, c.next_held-next.ensures, l), omega (arith, h.some, l))
 
 pub returns : goal.returns
-returns c = full-told _ _ c.args.table.now c.args.held c.is_lent-lent.ensures c.judge_once-seen.ensures.verdict c.in_default.is
+returns c = let a = c.args in
+    full-told _ _ a.table.now a.held c.is_lent-lent.ensures c.judge_once.ensures.verdict (ap verdict_of c.in_ok-volume.was)
     c.next_held-next.ensures
-    (c.judge_once-seen.ensures.length c.in_default.is)
+    (span-length _ _ a.table.now (lent_table a.table.now) a.held c.is_lent-lent.ensures c.judge_once.ensures c.in_ok-volume.was)
     c.per_mille.ensures

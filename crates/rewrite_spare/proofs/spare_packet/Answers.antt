@@ -1,66 +1,44 @@
 -- `rewrite_spare::spare_packet` meets its contract: each return by the law of its way out. Assumes nothing.
-use Prim.Native.Nat.{◌+◌, ◌<◌}
-use mathlib.Core.Path.{refl, sym, ◌∙◌}
+use Prim.Native.Nat.{ℕ, ◌+◌}
+use mathlib.Core.Path.{ap, ◌∙◌}
 use native.Mathlib.Omega.{arith}
-use Rattle.model.specs.Disc.{disc}
-use Rattle.model.specs.Examine.{setting}
-use Rattle.model.specs.Rewrite.{sequence_on, spare_plan}
-use Rattle.model.proofs.Verdicts.{unless-stop}
-use Rattle.model.proofs.Plans.{refused, cut_short, carried}
-use Rattle.rewrite_spare.proofs.Spares.{spares, spare-plan, spare-asks, spare-ordered, spare-sector, spare-room, spare-filled, spare-on, spare-written, spare-struck, spare-record}
+use borrow.Author.Rules.{rules}
+use Rattle.model.specs.Writes.{struck}
+use Rattle.rewrite_spare.proofs.Spares.{spare-refused, spare-disc, spare-place, spare-copy, spare-asks, spare-ordered, spare-room, spare-cut, spare-done}
 use Rattle.rewrite_spare.proofs.spare_packet.Goals as goal
 
-pub returns-in-Stop : goal.returns-in-Stop
-unfolding spare_plan
-returns-in-Stop c =
-    refused _ _ _ _ (unless-stop _ (sym c.judge_spare-judged.ensures.judged.verdict ∙ c.in-Stop.is))
+pub returns-in_err-sparing : goal.returns-in_err-sparing
+returns-in_err-sparing c = spare-refused _ _ _ _ _ _ c.in_err-sparing.ensures (search rules)
 
-pub next_sequence-next-requires : goal.next_sequence-next-requires
-next_sequence-next-requires c =
-    let safe = spares (setting c.args.maps.now c.args.s c.args.l) (disc c.args.disc.now c.args.marks.now) c.args.table.now c.args.held c.args.b c.args.packet.now _ c.judge_spare-judged.ensures c.in_default.is in
-    λ q. safe.last (sym c.sequence_held-sequence.ensures ∙ q)
+pub write_spared-requires-clause-r_bound : goal.write_spared-requires-clause-r_bound
+write_spared-requires-clause-r_bound c = spare-asks _ _ _ _ _ c.in_ok-sparing.ensures (omega arith) c.count_held-entries.ensures
 
-pub free_place-first-requires : goal.free_place-first-requires
-free_place-first-requires c =
-    let safe = spares (setting c.args.maps.now c.args.s c.args.l) (disc c.args.disc.now c.args.marks.now) c.args.table.now c.args.held c.args.b c.args.packet.now _ c.judge_spare-judged.ensures c.in_default.is in
-    safe.room
-
-pub write_spared-requires : goal.write_spared-requires
-write_spared-requires c =
-    let safe = spares (setting c.args.maps.now c.args.s c.args.l) (disc c.args.disc.now c.args.marks.now) c.args.table.now c.args.held c.args.b c.args.packet.now _ c.judge_spare-judged.ensures c.in_default.is in
-    let h = safe in
-    let n = c.count_held-entries.ensures in record { sector_len = refl; r_bound = spare-asks (setting c.args.maps.now c.args.s c.args.l) (disc c.args.disc.now c.args.marks.now) c.args.table.now c.args.held c.args.b c.args.packet.now _ h n; ordered = spare-ordered (setting c.args.maps.now c.args.s c.args.l) (disc c.args.disc.now c.args.marks.now) c.args.table.now c.args.held c.args.b c.args.packet.now _ h n }
+pub write_spared-requires-clause-ordered : goal.write_spared-requires-clause-ordered
+write_spared-requires-clause-ordered c = spare-ordered _ _ _ _ _ c.in_ok-sparing.ensures (omega arith) c.count_held-entries.ensures
 
 pub write_sparing-requires : goal.write_sparing-requires
 write_sparing-requires c =
-    let safe = spares (setting c.args.maps.now c.args.s c.args.l) (disc c.args.disc.now c.args.marks.now) c.args.table.now c.args.held c.args.b c.args.packet.now _ c.judge_spare-judged.ensures c.in_default.is in
-    let h = safe in
-    let x = h.laid in record { count_bound = (x.few, x.size); sectors_value = (x.sectors, x.on); at_in_bounds = (h.place, h.counted); first_in_bounds = (spare-on (setting c.args.maps.now c.args.s c.args.l) (disc c.args.disc.now c.args.marks.now) c.args.table.now c.args.held c.args.b c.args.packet.now _ h c.free_place-first.ensures, h.shape, h.most); packet_len = (h.bytes, c.write_spared.auto.sector) }
+    let disc = spare-disc _ _ _ _ _ c.in_ok-sparing.ensures in
+    let place = spare-place _ _ _ _ _ c.in_ok-sparing.ensures in
+    record {
+      sectors_value = disc.2;
+      at_in_bounds = spare-copy _ _ _ _ _ c.in_ok-sparing.ensures;
+      first_in_bounds = (place.0, disc.1, disc.0);
+      packet_len = (place.1, c.write_spared.auto.sector);
+    }
 
 pub returns-then-is_struck : goal.returns-then-is_struck
 returns-then-is_struck c =
-    let safe = spares (setting c.args.maps.now c.args.s c.args.l) (disc c.args.disc.now c.args.marks.now) c.args.table.now c.args.held c.args.b c.args.packet.now _ c.judge_spare-judged.ensures c.in_default.is in
-    let plan = spare-plan (setting c.args.maps.now c.args.s c.args.l) (disc c.args.disc.now c.args.marks.now) c.args.table.now c.args.held c.args.b c.args.packet.now c.judge_spare-judged.ensures.judged.verdict c.in_default.is in
-    let written = spare-sector (setting c.args.maps.now c.args.s c.args.l) (disc c.args.disc.now c.args.marks.now) c.args.table.now c.args.held c.args.b c.args.packet.now _ safe c.count_held-entries.ensures c.sequence_held-sequence.ensures c.next_sequence-next.ensures.0 c.write_spared.ensures in
-    let h = safe in
-    cut_short _ _ _ _ plan (spare-struck (setting c.args.maps.now c.args.s c.args.l) (disc c.args.disc.now c.args.marks.now) c.args.table.now c.args.held c.args.b c.args.packet.now _ h _ c.is_struck.ensures c.if-is_struck.true)
-    (spare-written (setting c.args.maps.now c.args.s c.args.l) (disc c.args.disc.now c.args.marks.now) c.args.table.now c.args.held c.args.b c.args.packet.now _ h _ c.sequence_held-sequence.ensures c.free_place-first.ensures written c.write_sparing.ensures)
+    spare-cut _ _ _ _ _ c.in_ok-sparing.ensures (omega arith) c.count_held-entries.ensures c.write_spared.ensures _ c.write_sparing.ensures
+    (c.is_struck.ensures ∙ ap (λ (n : ℕ). struck c.args.cut (32 + n)) c.from.ensures)
+    c.if-is_struck.true
 
-pub fill_table-requires : goal.fill_table-requires
-fill_table-requires c =
-    let safe = spares (setting c.args.maps.now c.args.s c.args.l) (disc c.args.disc.now c.args.marks.now) c.args.table.now c.args.held c.args.b c.args.packet.now _ c.judge_spare-judged.ensures c.in_default.is in
-    let written = spare-sector (setting c.args.maps.now c.args.s c.args.l) (disc c.args.disc.now c.args.marks.now) c.args.table.now c.args.held c.args.b c.args.packet.now _ safe c.count_held-entries.ensures c.sequence_held-sequence.ensures c.next_sequence-next.ensures.0 c.write_spared.ensures in
-    let small : sequence_on (setting c.args.maps.now c.args.s c.args.l) (disc c.args.disc.now c.args.marks.now) + 1 < 4294967296 = omega (arith, c.next_sequence-next.ensures.1, c.sequence_held-sequence.ensures, safe.sequence) in
-    record { b_len = c.write_spared.auto.sector; b_bound = spare-room (setting c.args.maps.now c.args.s c.args.l) (disc c.args.disc.now c.args.marks.now) c.args.table.now c.args.held c.args.b c.args.packet.now _ safe written small }
+pub fill_table-requires-clause-b_bound : goal.fill_table-requires-clause-b_bound
+fill_table-requires-clause-b_bound c = spare-room _ _ _ _ _ c.in_ok-sparing.ensures (omega arith) c.count_held-entries.ensures c.write_spared.ensures
 
 pub returns : goal.returns
 returns c =
-    let safe = spares (setting c.args.maps.now c.args.s c.args.l) (disc c.args.disc.now c.args.marks.now) c.args.table.now c.args.held c.args.b c.args.packet.now _ c.judge_spare-judged.ensures c.in_default.is in
-    let plan = spare-plan (setting c.args.maps.now c.args.s c.args.l) (disc c.args.disc.now c.args.marks.now) c.args.table.now c.args.held c.args.b c.args.packet.now c.judge_spare-judged.ensures.judged.verdict c.in_default.is in
-    let written = spare-sector (setting c.args.maps.now c.args.s c.args.l) (disc c.args.disc.now c.args.marks.now) c.args.table.now c.args.held c.args.b c.args.packet.now _ safe c.count_held-entries.ensures c.sequence_held-sequence.ensures c.next_sequence-next.ensures.0 c.write_spared.ensures in
-    let small : sequence_on (setting c.args.maps.now c.args.s c.args.l) (disc c.args.disc.now c.args.marks.now) + 1 < 4294967296 = omega (arith, c.next_sequence-next.ensures.1, c.sequence_held-sequence.ensures, safe.sequence) in
-    let h = safe in
-    carried _ _ _ _ plan (spare-struck (setting c.args.maps.now c.args.s c.args.l) (disc c.args.disc.now c.args.marks.now) c.args.table.now c.args.held c.args.b c.args.packet.now _ h _ c.is_struck.ensures c.if-is_struck.false)
-    (spare-written (setting c.args.maps.now c.args.s c.args.l) (disc c.args.disc.now c.args.marks.now) c.args.table.now c.args.held c.args.b c.args.packet.now _ h _ c.sequence_held-sequence.ensures c.free_place-first.ensures written c.write_sparing.ensures)
-    (spare-record (setting c.args.maps.now c.args.s c.args.l) (disc c.args.disc.now c.args.marks.now) c.args.table.now c.args.held c.args.b c.args.packet.now _ h c.count_held-entries.ensures c.sequence_held-sequence.ensures c.next_sequence-next.ensures.0)
-    (spare-filled (setting c.args.maps.now c.args.s c.args.l) (disc c.args.disc.now c.args.marks.now) c.args.table.now c.args.held c.args.b c.args.packet.now _ h written small c.fill_table.ensures)
+    spare-done _ _ _ _ _ c.in_ok-sparing.ensures (omega arith) c.count_held-entries.ensures c.write_spared.ensures _ c.write_sparing.ensures
+    (c.is_struck.ensures ∙ ap (λ (n : ℕ). struck c.args.cut (32 + n)) c.from.ensures)
+    c.if-is_struck.false
+    c.fill_table.ensures

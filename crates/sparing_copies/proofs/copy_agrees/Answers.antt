@@ -1,6 +1,5 @@
 -- `sparing_copies::copy_agrees` meets its contract, case by case. Assumes nothing.
-use mathlib.Core.Path.{sym, ap, ◌∙◌}
-use native.Mathlib.Omega.{arith}
+use Rattle.std.proofs.Common.{sym, ap, ◌∙◌, arith}
 use Rattle.fields.proofs.Laws.{same_true, same-equal}
 use Rattle.model.specs.Sparing.{table_at}
 use Rattle.model.proofs.Basics.{differ}
@@ -14,10 +13,10 @@ pub returns-then-sequence_at-sequence : goal.returns-then-sequence_at-sequence
 returns-then-sequence_at-sequence c = agrees-other _ _ _ _ _ (λ e. c.if-sequence_at-sequence.true (c.sequence_at.ensures _ ∙ e))
 
 pub same_table-requires : goal.same_table-requires
-same_table-requires c = record { t_in_bounds = (omega arith, omega arith); by_index = counts-short _ _ _ _ c.requires.at_value c.requires.count_bound.1 }
+same_table-requires c = record { t_in_bounds = (omega arith, omega arith); by_index = counts-short _ _ _ _ c.requires.at_value c.args.x.size_bound }
 
 pub returns-then-same_table : goal.returns-then-same_table
-returns-then-same_table c = agrees-same _ _ _ _ _ (same_true _ _ (sym (c.same_table.ensures _) ∙ c.if-same_table.true))
+returns-then-same_table c = c.if-same_table.true ∙ agrees-same _ _ _ _ _ (same_true _ _ (sym (c.same_table.ensures _) ∙ c.if-same_table.true))
 
-pub returns : goal.returns
-returns c = agrees-uncounted _ _ _ _ _ _ (sym (c.sequence_at.ensures _) ∙ c.if-sequence_at-sequence.false) (λ e. differ (same-equal _ _ e) (sym (c.same_table.ensures _) ∙ c.if-same_table.false)) c.copy_counts.ensures
+pub returns-else-same_table : goal.returns-else-same_table
+returns-else-same_table c = agrees-uncounted _ _ _ _ _ _ (sym (c.sequence_at.ensures _) ∙ c.if-sequence_at-sequence.false) (λ e. differ (same-equal _ _ e) (sym (c.same_table.ensures _) ∙ c.if-same_table.false)) c.copy_counts.ensures

@@ -7,6 +7,6 @@ use Rattle.sparing_copies.proofs.count_at.Goals as goal
 
 pub returns : goal.returns
 returns c = let a = c.args in
-    λ m. c.read16.ensures
+    λ m. c.read.ensures
     ∙ ap (λ (k : ℕ). field a.disc.now (k + 48) 2) c.start_of.ensures.0
     ∙ count-read a.disc.now m a.t.0

@@ -1,34 +1,35 @@
 -- `sparing_copies::find_current` meets its contract: by the newest copy, and whether the others of its sequence agree with it. Assumes nothing.
-use Prim.Native.Nat.{◌<◌}
-use mathlib.Core.Path.{refl}
-use native.Mathlib.Omega.{arith}
-use borrow.Author.Tests.{not-true, not-false}
+use Rattle.std.proofs.Common.{◌≡◌, ℕ, ◌+◌, ◌*◌, ◌<◌, ◌≤◌, Some, sym, ◌∙◌, arith}
 use Rattle.sparing_copy.proofs.Places.{tables-below}
 use Rattle.sparing_copies.proofs.Copies.{none_found, found-on, found-counts, differ-found, current-found}
-use Rattle.sparing_copies.proofs.find_current.Tie as tie
-use Rattle.sparing_copies.proofs.find_current.Lts as lts
-use Rattle.sparing_copies.proofs.find_current.Reads as reads
 use Rattle.sparing_copies.proofs.find_current.Goals as goal
 
-abbrev Else1 : Type 0
-Else1 = lts.Else1 tie.the-claims reads.Pre reads.Post tie.handed_clauses
-
-pub returns-then-not-found : goal.returns-then-not-found
-returns-then-not-found c = none_found _ _ _ c.newest_copy-newest.ensures _ c.no_current.ensures (not-true _ c.if-not-found.true-raw)
-
--- the newest copy is on the disc
-on : (c : Else1) → c.newest_copy-newest.result.at.0 < c.args.x.sectors
-on c =
-    found-on _ _ _ _ c.newest_copy-newest.ensures (not-false _ c.if-not-found.false-raw) _ (tables-below c.args.x.volume.tables c.args.x.count c.args.x.sectors c.requires.sectors_value.1)
+pub returns-in_default : goal.returns-in_default
+returns-in_default c = none_found _ _ (sym c.in_default.is ∙ c.newest_copy.ensures)
 
 pub copies_agree-requires : goal.copies_agree-requires
-copies_agree-requires c = record { count_bound = c.requires.count_bound; disc_len = c.requires.disc_len; sectors_value = c.requires.sectors_value; at_in_bounds = omega (arith, on c.before.before); at_value = found-counts _ _ _ _ c.newest_copy-newest.ensures (not-false _ c.if-not-found.false-raw) }
+copies_agree-requires c = let x = c.args.x in
+    let is = sym c.in-Some.is ∙ c.newest_copy.ensures in
+    record {
+      disc_len = c.requires.disc_len;
+      sectors_value = c.requires.sectors_value;
+      at_in_bounds = rw c.requires.sectors_value at (found-on _ _ _ (Some c.in-Some.newest) is _ (tables-below x.volume.tables x.count x.sectors x.tables_on));
+      at_value = found-counts _ _ _ (Some c.in-Some.newest) is;
+    }
 
 pub returns-then-not-copies_agree : goal.returns-then-not-copies_agree
-returns-then-not-copies_agree c = differ-found _ _ _ c.newest_copy-newest.ensures (not-false _ c.if-not-found.false-raw) _ _ c.no_current-then-not-copies_agree.ensures c.copies_agree.ensures (not-true _ c.if-not-copies_agree.true-raw)
+returns-then-not-copies_agree c = differ-found _ _ _ (sym c.in-Some.is ∙ c.newest_copy.ensures) (sym c.copies_agree.ensures ∙ c.if-not-copies_agree.true)
 
-pub count_at-entries-requires : goal.count_at-entries-requires
-count_at-entries-requires c = omega (arith, on c.before.before.before.before)
+-- a sector of the disc lies in its bytes
+whole : (t m d : ℕ) → t < m → d ≡ 2048 * m → 2048 * t + 2048 ≤ d
+whole t m d h e = omega arith
+
+pub count_at-requires : goal.count_at-requires
+count_at-requires c = let x = c.args.x in
+    let is = sym c.in-Some.is ∙ c.newest_copy.ensures in
+    whole _ _ _ (rw c.requires.sectors_value at (found-on _ _ _ (Some c.in-Some.newest) is _ (tables-below x.volume.tables x.count x.sectors x.tables_on))) c.requires.disc_len
 
 pub returns : goal.returns
-returns c = current-found _ _ _ c.newest_copy-newest.ensures (not-false _ c.if-not-found.false-raw) _ _ refl c.copies_agree.ensures (not-false _ c.if-not-copies_agree.false-raw) (on c.before.before.before.before.before) refl refl (c.count_at-entries.ensures _)
+returns c = let x = c.args.x in
+    let is = sym c.in-Some.is ∙ c.newest_copy.ensures in
+    current-found _ _ _ is _ (sym c.copies_agree.ensures ∙ c.if-not-copies_agree.false) (found-on _ _ _ (Some c.in-Some.newest) is _ (tables-below x.volume.tables x.count x.sectors x.tables_on)) (c.from-entries.ensures ∙ c.count_at.ensures _)

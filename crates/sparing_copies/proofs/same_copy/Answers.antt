@@ -15,8 +15,8 @@ slice_bounds-same_bytes-end-2 c = omega (arith, c.count_at.ensures [], c.require
 pub returns : goal.returns
 returns c = let d = c.args.disc.now in
     λ m.
-    let k = c.usize_of_u16.ensures.0 ∙ c.count_at.ensures m in
+    let k = c.from.ensures ∙ c.count_at.ensures m in
     c.same_bytes.ensures
     ∙ ap₂ same
-    (used-read d m c.args.t.0 c.args.other.0 c.usize_of_u16.result _ _ k (omega (arith, k, c.requires.by_index m)) c.start_of-a.ensures.0 refl)
-    (used-read d m c.args.other.0 c.args.other.0 c.usize_of_u16.result _ _ k (omega (arith, k, c.requires.by_index m)) c.start_of-b.ensures.0 refl)
+    (used-read d m c.args.t.0 c.args.other.0 c.from.result _ _ k (omega (arith, k, c.requires.by_index m)) c.start_of-a.ensures.0 refl)
+    (used-read d m c.args.other.0 c.args.other.0 c.from.result _ _ k (omega (arith, k, c.requires.by_index m)) c.start_of-b.ensures.0 refl)

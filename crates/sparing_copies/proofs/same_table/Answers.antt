@@ -2,6 +2,7 @@
 use Prim.Native.Nat.{◌+◌, ◌*◌}
 use mathlib.Core.Path.{refl, sym, ◌∙◌, ap₂}
 use native.Mathlib.Omega.{arith}
+use borrow.Author.Rules.{rules}
 use mathlib.Core.List.{[]}
 use Rattle.sparing_copies.proofs.Copies.{tables-differ, span-part, tables-alike}
 use Rattle.model.specs.Disc.{disc as disc_of}
@@ -21,9 +22,9 @@ slice_bounds-same_bytes-end-2 c = omega (arith, c.count_at-n.ensures [], c.requi
 pub returns : goal.returns
 returns c = let b = c.args in
     λ m.
-    let n = c.usize_of_u16-bytes.ensures.0 ∙ c.count_at-n.ensures m in
+    let n = c.from-bytes.ensures ∙ c.count_at-n.ensures m in
     c.same_bytes.ensures
     ∙ ap₂ same
-    (span-part b.disc.now (c.start_of-a.result + 56) (c.start_of-a.result + 56 + 8 * c.usize_of_u16-bytes.result) (2048 * b.t.0 + 56) (8 * c.usize_of_u16-bytes.result) (omega arith) refl)
-    (span-part b.disc.now (c.start_of-b.result + 56) (c.start_of-b.result + 56 + 8 * c.usize_of_u16-bytes.result) (2048 * b.other.0 + 56) (8 * c.usize_of_u16-bytes.result) (omega arith) refl)
-    ∙ tables-alike b.disc.now m b.t.0 b.other.0 c.usize_of_u16-bytes.result (λ i. omega (arith, c.shared_slice_known-1.given i)) c.requires.t_in_bounds.0 c.requires.t_in_bounds.1 n (c.usize_of_u16-bytes.ensures.0 ∙ c.if-n-count_at.false ∙ c.count_at.ensures m) (omega (arith, c.requires.by_index m))
+    (span-part b.disc.now (c.start_of-a.result + 56) (c.start_of-a.result + 56 + 8 * c.from-bytes.result) (2048 * b.t.0 + 56) (8 * c.from-bytes.result) (omega arith) refl)
+    (span-part b.disc.now (c.start_of-b.result + 56) (c.start_of-b.result + 56 + 8 * c.from-bytes.result) (2048 * b.other.0 + 56) (8 * c.from-bytes.result) (omega arith) refl)
+    ∙ tables-alike b.disc.now m b.t.0 b.other.0 c.from-bytes.result (search rules) c.requires.t_in_bounds.0 c.requires.t_in_bounds.1 n (c.from-bytes.ensures ∙ c.if-n-count_at.false ∙ c.count_at.ensures m) (omega (arith, c.requires.by_index m))

@@ -7,6 +7,6 @@ use Rattle.sparing_copies.proofs.sequence_at.Goals as goal
 
 pub returns : goal.returns
 returns c = let a = c.args in
-    λ m. c.read32.ensures
+    λ m. c.read.ensures
     ∙ ap (λ (k : ℕ). field a.disc.now (k + 52) 4) c.start_of.ensures.0
     ∙ sequence-read a.disc.now m a.t.0

@@ -4,4 +4,4 @@ use Rattle.sparing_copy.proofs.Places.{inside-wraps}
 use Rattle.sparing_copy.proofs.is_inside.Goals as goal
 
 pub returns : goal.returns
-returns c = inside-wraps _ _ _ _ (search rules) (search rules) c.wrapping_sub_u32.ensures.value
+returns c = inside-wraps _ _ _ (search rules)

@@ -1,9 +1,13 @@
 -- `sparing_copy::may_hold` meets its contract. Assumes nothing.
-use Rattle.sparing_copy.proofs.Slots.{holds-several, holds-one}
+use Rattle.std.proofs.Common.{arith}
+use Rattle.std.proofs.lemmas.Bool.Decides.{nat_tests}
+use Rattle.sparing_copy.specs.Slots.{may_hold}
 use Rattle.sparing_copy.proofs.may_hold.Goals as goal
 
 pub returns-then-held-eq-CROWDED : goal.returns-then-held-eq-CROWDED
-returns-then-held-eq-CROWDED c = holds-several _ _ c.if-held-eq-CROWDED.true
+unfolding may_hold
+returns-then-held-eq-CROWDED c = grind (arith, nat_tests)
 
-pub returns : goal.returns
-returns c = holds-one _ _ _ c.if-held-eq-CROWDED.false c.tag_of.ensures
+pub returns-else-held-eq-CROWDED : goal.returns-else-held-eq-CROWDED
+unfolding may_hold
+returns-else-held-eq-CROWDED c = grind (arith, nat_tests)

@@ -1,30 +1,28 @@
 -- `sparing_current::is_current` meets its contract: each test is one of the definition's. Assumes nothing.
-use Prim.Native.Nat.{◌+◌, ◌*◌, ◌≤◌}
 use mathlib.Core.Path.{sym, ap, ◌∙◌}
 use mathlib.Core.List.{[]}
-use lib.ListN.{length}
-use Rattle.fields.proofs.Laws.{length_part}
-use Rattle.model.specs.Disc.{sector}
-use Rattle.model.specs.Sparing.{count_in, table_in, table_at}
+use native.Mathlib.Omega.{arith}
+use Rattle.model.specs.Sparing.{count_in}
 use Rattle.sparing_current.proofs.Laws.{held-other, held-count, held-sequence, held-table, part-sector}
 use Rattle.sparing_current.proofs.is_current.Goals as goal
 
-pub returns-then-n-entries : goal.returns-then-n-entries
-returns-then-n-entries c e marks table sequence count = held-count _ _ _ c.in-Rewritable.is count sequence c.if-n-entries.true
+pub returns-then-entries-current : goal.returns-then-entries-current
+returns-then-entries-current c e marks is = held-count e _ _ c.in-Rewritable.is is c.if-entries-current.true
 
-pub returns-then-q-sequence : goal.returns-then-q-sequence
-returns-then-q-sequence c e marks table sequence count = held-sequence _ _ _ c.in-Rewritable.is count sequence c.if-n-entries.false c.if-q-sequence.true
+pub returns-then-sequence-current : goal.returns-then-sequence-current
+returns-then-sequence-current c e marks is = held-sequence e _ _ c.in-Rewritable.is is c.if-entries-current.false c.if-sequence-current.true
 
-pub is_same-requires : goal.is_same-requires
-unfolding sector
-is_same-requires c = let is = part-sector c.args.disc.now [] c.args.at.0 in
-    let within : 2048 * c.args.at.0 + 2048 ≤ length c.args.disc.now = c.requires.at_in_bounds.0 in record { b_len = ap length is ∙ length_part c.args.disc.now (2048 * c.args.at.0) 2048 within; r_value = (c.requires.by_index [] ∙ sym (ap count_in is), c.requires.entries_bound.0, c.requires.entries_bound.1) }
+pub is_same-requires-clause-r_value : goal.is_same-requires-clause-r_value
+is_same-requires-clause-r_value c =
+    let r = c.requires in
+    let n = c.if-entries-current.false in
+    (n ∙ r.by_index [] ∙ sym (ap count_in (part-sector c.args.disc.now [] c.args.current.at.0)), omega (arith, n, r.entries_bound.0), omega (arith, n, r.entries_bound.1))
 
 pub returns-in-WriteOnce : goal.returns-in-WriteOnce
-returns-in-WriteOnce c e marks table sequence count = held-other _ _ _ c.in-WriteOnce.is
+returns-in-WriteOnce c e marks is = held-other e _ _ c.in-WriteOnce.is
 
-pub returns-else-q-sequence : goal.returns-else-q-sequence
-unfolding table_at
-returns-else-q-sequence c e marks table sequence count = held-table _ _ _ c.in-Rewritable.is count sequence c.if-n-entries.false c.if-q-sequence.false
+pub returns-else-sequence-current : goal.returns-else-sequence-current
+returns-else-sequence-current c e marks is =
+    held-table e _ _ c.in-Rewritable.is is c.if-entries-current.false c.if-sequence-current.false
+    (part-sector c.args.disc.now marks c.args.current.at.0)
     c.is_same.ensures
-    (ap table_in (part-sector c.args.disc.now marks c.args.at.0) ∙ table)

@@ -1,41 +1,13 @@
 -- `sparing_place::place_block` meets its contract: the common tests, and then the translation. Assumes nothing.
-use mathlib.Core.Path.{refl}
-use Rattle.model.specs.Disc.{disc}
-use Rattle.model.specs.Examine.{setting}
-use Rattle.sparing_current.proofs.Laws.{Common, going}
-use Rattle.sparing_place.proofs.Laws.{stops_call, goes-call, translation-asks, translated, translated-at, placed-stop, placed_by}
+use borrow.Author.Rules.{rules}
+use Rattle.sparing_place.proofs.Laws.{stops_call, translation-asks, placed-stop, block-placed}
 use Rattle.sparing_place.proofs.place_block.Goals as goal
 
-pub judge-judged-requires : goal.judge-judged-requires
-judge-judged-requires c = c.requires
+pub returns-in_err-looked : goal.returns-in_err-looked
+returns-in_err-looked c = placed-stop (stops_call _ c.in_err-looked.ensures) (search rules)
 
-pub returns-in-Stop : goal.returns-in-Stop
-returns-in-Stop c =
-    let a = c.args in
-    let e = setting a.maps.now a.s a.l in
-    let d = disc a.disc.now a.marks.now in
-    placed-stop _ c.stopped.ensures
-    (stops_call e d a.table.now a.lent a.held _ refl c.judge-judged.ensures.verdict c.in-Stop.is)
-
-pub packet_to_physical-to-requires : goal.packet_to_physical-to-requires
-packet_to_physical-to-requires c =
-    let a = c.args in
-    let e = setting a.maps.now a.s a.l in
-    let d = disc a.disc.now a.marks.now in
-    let told : Common e d a.table.now a.lent a.held = going e d a.table.now a.lent a.held refl c.judge-judged.ensures.verdict c.in_default.is in
-    let j = c.judge-judged in
-    translation-asks e d a.table.now _ a.held j.result.layout told (j.ensures.layout c.in_default.is)
+pub packet_to_physical-requires : goal.packet_to_physical-requires
+packet_to_physical-requires c = translation-asks c.in_ok-looked.ensures
 
 pub returns : goal.returns
-returns c =
-    let a = c.args in
-    let e = setting a.maps.now a.s a.l in
-    let d = disc a.disc.now a.marks.now in
-    let told : Common e d a.table.now a.lent a.held = going e d a.table.now a.lent a.held refl c.judge-judged.ensures.verdict c.in_default.is in
-    let j = c.judge-judged in
-    let laid = j.ensures.layout c.in_default.is in
-    let is = c.packet_to_physical-to.ensures.value in
-    placed_by _ c.placed_by.ensures
-    (goes-call e d a.table.now a.lent a.held _ refl j.ensures.verdict c.in_default.is
-    (translated e d a.table.now _ a.held j.result.layout told laid a.b is))
-    (translated-at e d a.table.now _ a.held j.result.layout told laid a.b is)
+returns c = block-placed c.in_ok-looked.ensures _ c.packet_to_physical.ensures.value

@@ -1,7 +1,4 @@
-use Prim.Native.Nat.{ℕ, ◌*◌}
-use mathlib.Core.Path.{◌≡◌, sym, ap, ◌∙◌}
-use mathlib.Core.List.{List}
-use native.Mathlib.Omega.{arith}
+use Rattle.std.proofs.Common.{◌≡◌, ℕ, ◌*◌, List, sym, ap, ◌∙◌, arith}
 use Rattle.model.proofs.OnceOpen.{length-words}
 use Rattle.model.specs.Once.{filled_from}
 use Rattle.model.specs.Sparing.{count_in, table_in}
@@ -20,26 +17,23 @@ unfolding count_in
 counted b n m q e = q ∙ e
 
 pub number_at-requires : goal.number_at-requires
-number_at-requires c = omega (arith, counted c.args.b.now _ _ c.usize_of_u16-n.ensures.0 c.read16.ensures)
+number_at-requires c = omega (arith, counted c.args.b.now _ _ c.from-n.ensures c.read.ensures)
 
 pub bounds-table-k : goal.bounds-table-k
-bounds-table-k c = omega (arith, counted c.args.b.now _ _ c.usize_of_u16-n.ensures.0 c.read16.ensures)
+bounds-table-k c = omega (arith, counted c.args.b.now _ _ c.from-n.ensures c.read.ensures)
 
 pub loop-k-preserved : goal.loop-k-preserved
 loop-k-preserved c =
     let a = c.args in
-    let n = c.usize_of_u16-n in
-    let e = counted a.b.now _ _ n.ensures.0 c.read16.ensures in
+    let n = c.from-n in
+    let e = counted a.b.now _ _ n.ensures c.read.ensures in
     let w = length-words a.b.now 56 (2 * n.result) in
     filling-next a.table.now (words a.b.now 56 (2 * n.result)) _ c.loop-k.k _ (omega arith) (omega arith) (c.number_at.ensures ∙ sym (get_or-words a.b.now 56 (2 * n.result) c.loop-k.k (omega arith))) c.loop-k.invariant
-
-pub shape_of-table : goal.shape_of-table
-shape_of-table c = c.loop-k.invariant.long
 
 pub returns : goal.returns
 unfolding table_in
 returns c =
     let a = c.args in
-    let n = c.usize_of_u16-n in
+    let n = c.from-n in
     filling-last a.table.now (words a.b.now 56 (2 * n.result)) _ c.loop-k.k (omega (arith, length-words a.b.now 56 (2 * n.result))) c.loop-k.invariant
-    ∙ ap (λ (m : ℕ). filled_from (words a.b.now 56 (2 * m)) a.table.now) (counted a.b.now _ _ n.ensures.0 c.read16.ensures)
+    ∙ ap (λ (m : ℕ). filled_from (words a.b.now 56 (2 * m)) a.table.now) (counted a.b.now _ _ n.ensures c.read.ensures)

@@ -1,75 +1,55 @@
-use borrow.Author.Rules.{rules}
-use Prim.Native.Nat.{ℕ, ◌≤◌, ◌<◌}
-use mathlib.Core.Path.{◌≡◌, ap, ◌∙◌}
-use native.Mathlib.Omega.{arith}
-use lib.ListN.{length, get_or}
-use mathlib.Core.List.{List}
-use Rattle.model.specs.Disc.{disc as disc_of}
-use Rattle.sparing_copy.specs.Layout.{geometry_in}
-use Rattle.sparing_writes.proofs.Order.{numbers-length, numbers-set, gathering-first, gathering-room, gathering-taken, gathering-left, gathering-last}
-use Rattle.sparing_writes.specs.Order.{as_wanted}
+use Rattle.std.proofs.Common.{◌≡◌, ℕ, ◌+◌, ◌<◌, ◌≤◌, Bool, List, length, sym, ap, ◌∙◌, arith, rules}
+use mathlib.Core.Bool.{beq}
+use Rattle.model.specs.Disc.{Disc}
+use Rattle.model.specs.Sparing.{Geometry}
+use Rattle.sparing_writes.specs.Order.{is_of, as_wanted, chosen}
+use Rattle.sparing_writes.proofs.Order.{numbers-length, numbers-set, wanted-is, gathering-first, gathering-room, gathering-taken, gathering-left, gathering-last}
 use Rattle.sparing_writes.proofs.gather.Goals as goal
-use Rattle.sparing_writes.proofs.gather.Goals.{then-is_wanted, else-is_wanted}
+use Rattle.sparing_writes.proofs.gather.Goals.{then-is_of-wanted, else-is_of-wanted}
 
--- at most four tables are used
-few : (count : ℕ) (tables : List ℕ) → length tables ≡ 4 → count ≤ 4 → count ≤ length tables
-few count tables e h = omega arith
+pub loop-table-init : goal.loop-table-init
+loop-table-init c = gathering-first _ _ _ _ _ _ _ (numbers-length _ ∙ c.told-places)
 
-pub loop-i-init : goal.loop-i-init
-loop-i-init c =
-    let e : length c.args.from ≡ 4 = search rules in
-    gathering-first _ _ _ _ _ _ _ (numbers-length _ ∙ e)
+pub is_of-requires : goal.is_of-requires
+is_of-requires c = let i = c.loop-table.table-index in record {
+  disc_len = c.requires.disc_len;
+  t_in_bounds = (omega (arith, c.tables-tables.ensures.on i c.loop-table-test.true), c.requires.at_in_bounds);
+  at_value = c.requires.at_value;
+}
 
-pub is_wanted-requires : goal.is_wanted-requires
-is_wanted-requires c =
-    let p = c.requires in
-    record {
-      count_bound = p.count_bound;
-      disc_len = p.disc_len;
-      t_in_bounds = (omega (arith, p.sectors_value.0, p.sectors_value.1 c.loop-i.i c.loop-i-test.true), p.at_in_bounds);
-      at_value = p.at_value;
-    }
+-- whether it is as is wanted, of the table that stands there
+wanted : (d : Disc) (g : Geometry) (n t u : ℕ) (w r : Bool) → t ≡ u → r ≡ is_of d g n t → as_wanted d g n w u ≡ beq r w
+wanted d g n t u w r e q = sym (ap (as_wanted d g n w) e) ∙ wanted-is d g n t w r q
 
-pub offset_bounds-places-count : goal.offset_bounds-places-count
-offset_bounds-places-count c =
-    let x = c.args.x in
-    let e : length x.volume.tables ≡ 4 = search rules in
-    let r : c.loop-i.count < 4 = gathering-room _ _ _ _ x.volume.tables x.count c.loop-i.i (few _ _ e c.requires.count_bound.0) _ _ _ _ _ c.loop-i-test.true (c.is_wanted.ensures ∙ ap (as_wanted _ _ _ _) c.media_to_physical-t.ensures) c.if-is_wanted.true c.requires.x_bound c.loop-i.invariant in
-    search rules
+-- there is room for them
+roomy : (d : Disc) (g : Geometry) (n b : ℕ) (w : Bool) (t u : List ℕ) → t ≡ u → b + length (chosen d g n w u) ≤ 4 → b + length (chosen d g n w t) ≤ 4
+roomy d g n b w t u e h = rw e h
 
 pub bounds-places-count : goal.bounds-places-count
-bounds-places-count c =
-    let x = c.args.x in
-    let e : length x.volume.tables ≡ 4 = search rules in
-    let r : c.loop-i.count < 4 = gathering-room _ _ _ _ x.volume.tables x.count c.loop-i.i (few _ _ e c.requires.count_bound.0) _ _ _ _ _ c.loop-i-test.true (c.is_wanted.ensures ∙ ap (as_wanted _ _ _ _) c.media_to_physical-t.ensures) c.if-is_wanted.true c.requires.x_bound c.loop-i.invariant in
-    search rules
+bounds-places-count c = let v = c.loop-table in
+    gathering-room _ _ _ _ c.tables-tables.result.now v.table-index _ _ _ _ c.loop-table-test.true (wanted _ _ _ _ _ _ _ c.media_to_physical-t.ensures c.is_of.ensures ∙ c.if-is_of-wanted.true) (roomy _ _ _ _ _ _ _ c.tables-tables.ensures.value c.requires.room) v.invariant
 
 pub overflow_add-count : goal.overflow_add-count
-overflow_add-count c =
-    let x = c.args.x in
-    let e : length x.volume.tables ≡ 4 = search rules in
-    let r : c.loop-i.count < 4 = gathering-room _ _ _ _ x.volume.tables x.count c.loop-i.i (few _ _ e c.requires.count_bound.0) _ _ _ _ _ c.loop-i-test.true (c.is_wanted.ensures ∙ ap (as_wanted _ _ _ _) c.media_to_physical-t.ensures) c.if-is_wanted.true c.requires.x_bound c.loop-i.invariant in
+overflow_add-count c = let v = c.loop-table in
+    let r : v.count < 4 = gathering-room _ _ _ _ c.tables-tables.result.now v.table-index _ _ _ _ c.loop-table-test.true (wanted _ _ _ _ _ _ _ c.media_to_physical-t.ensures c.is_of.ensures ∙ c.if-is_of-wanted.true) (roomy _ _ _ _ _ _ _ c.tables-tables.ensures.value c.requires.room) v.invariant in
     search rules
 
-pub loop-i-preserved : goal.loop-i-preserved
-loop-i-preserved c =
-    let x = c.args.x in
-    let e : length x.volume.tables ≡ 4 = search rules in
-    let fits = few _ _ e c.requires.count_bound.0 in
-    let wanted : c.is_wanted.result ≡ as_wanted (disc_of c.args.disc.now c.args.marks.now) (geometry_in x) c.args.sequence c.args.wanted (get_or x.volume.tables c.loop-i.i 0) = c.is_wanted.ensures ∙ ap (as_wanted _ _ _ _) c.media_to_physical-t.ensures in
-    elim c.if-is_wanted.branch [
-      | then-is_wanted w ↦
-          let r : c.loop-i.count < 4 = gathering-room _ _ _ _ x.volume.tables x.count c.loop-i.i fits _ _ _ _ _ c.loop-i-test.true wanted w.if-is_wanted.true c.requires.x_bound c.loop-i.invariant in
+pub loop-table-preserved : goal.loop-table-preserved
+loop-table-preserved c =
+    let t = c.tables-tables.result.now in
+    let v = c.loop-table in
+    let q = wanted _ _ _ _ _ c.args.wanted _ c.media_to_physical-t.ensures c.is_of.ensures in
+    elim c.if-is_of-wanted.branch [
+      | then-is_of-wanted w ↦
+          let r : v.count < 4 = gathering-room _ _ _ _ t v.table-index _ _ _ _ c.loop-table-test.true (q ∙ w.if-is_of-wanted.true) (roomy _ _ _ _ _ _ _ c.tables-tables.ensures.value c.requires.room) v.invariant in
           rw (w.places-is, w.count-is, numbers-set, c.media_to_physical-t.ensures)
-          (gathering-taken _ _ _ _ x.volume.tables x.count c.loop-i.i fits _ _ _ _ _ c.loop-i-test.true wanted w.if-is_wanted.true r c.loop-i.invariant)
-      | else-is_wanted w ↦
+          (gathering-taken _ _ _ _ t v.table-index _ _ _ _ c.loop-table-test.true (q ∙ w.if-is_of-wanted.true) r v.invariant)
+      | else-is_of-wanted w ↦
           rw (w.places-is, w.count-is)
-          (gathering-left _ _ _ _ x.volume.tables x.count c.loop-i.i fits _ _ _ _ _ c.loop-i-test.true wanted w.if-is_wanted.false c.loop-i.invariant)
+          (gathering-left _ _ _ _ t v.table-index _ _ _ _ c.loop-table-test.true (q ∙ w.if-is_of-wanted.false) v.invariant)
     ]
 
 pub returns : goal.returns
 returns c =
-    let x = c.args.x in
-    let e : length x.volume.tables ≡ 4 = search rules in
-    let told = gathering-last _ _ _ _ x.volume.tables x.count c.loop-i.i (few _ _ e c.requires.count_bound.0) _ _ _ _ c.loop-i-test.false c.loop-i.invariant in
-    record { count_value = told.0; places_value = told.1 }
+    let told = gathering-last _ _ _ _ c.tables-tables.result.now c.loop-table.table-index _ _ _ _ c.loop-table-test.false c.loop-table.invariant in
+    record { count_value = rw c.tables-tables.ensures.value at told.0; places_value = rw c.tables-tables.ensures.value at told.1 }

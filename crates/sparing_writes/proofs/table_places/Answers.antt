@@ -1,11 +1,11 @@
 -- `sparing_writes::table_places` meets its contract, sector by sector. Assumes nothing.
-use borrow.Author.Rules.{rules}
-use mathlib.Core.Path.{◌≡◌}
-use lib.ListN.{length}
-use Rattle.sparing_writes.proofs.Order.{four-numbers}
+use Rattle.std.proofs.Common.{◌≡◌, length, sym, ◌∙◌, arith, rules}
+use Rattle.sparing_writes.proofs.Order.{numbers-each}
 use Rattle.sparing_writes.proofs.table_places.Goals as goal
 
 pub returns : goal.returns
 returns c =
     let four : length c.args.tables ≡ 4 = search rules in
-    four-numbers _ four _ _ _ _ c.media_to_physical-first.ensures c.media_to_physical-second.ensures c.media_to_physical-third.ensures c.media_to_physical-fourth.ensures
+    numbers-each c.map.result c.args.tables (c.map.ensures.items.long ∙ sym four) (λ i h.
+    let k = c.map.ensures.items.at i 0 (record { 0 = 0 }) (omega arith) in
+    search (rules, k.2))

@@ -9,4 +9,4 @@ use Rattle.sparing_written.proofs.begin_table.Goals as goal
 
 pub returns : goal.returns
 unfolding sparing_name regid identifier
-returns c = begun-written _ _ _ _ _ _ (c.clear.ensures ∙ ap (λ (n : ℕ). replicate n 0) c.requires) c.write_regid.ensures c.write16.ensures c.write32.ensures
+returns c = begun-written _ _ _ _ _ _ (c.clear.ensures ∙ ap (λ (n : ℕ). replicate n 0) c.requires) c.write_regid.ensures c.write.ensures c.write-2.ensures

@@ -5,4 +5,4 @@ use Rattle.sparing_written.proofs.Written.{entry-written}
 use Rattle.sparing_written.proofs.put_entry.Goals as goal
 
 pub returns : goal.returns
-returns c = c.write32-2.ensures ∙ entry-written _ _ _ _ _ (omega arith) c.write32.ensures
+returns c = c.write-2.ensures ∙ entry-written _ _ _ _ _ (omega arith) c.write.ensures

@@ -1,8 +1,4 @@
-use Prim.Native.Nat.{ℕ}
-use mathlib.Core.Path.{refl, ap, ◌∙◌}
-use borrow.Author.Rules.{rules}
-use native.Mathlib.Omega.{arith}
-use mathlib.Core.List.{List}
+use Rattle.std.proofs.Common.{ℕ, List, ap, ◌∙◌, arith}
 use lib.Seq.{take_all}
 use Rattle.fields_written.proofs.Laws.{writing-none}
 use Rattle.sparing_written.proofs.Written.{spares-next}
@@ -14,20 +10,14 @@ use Rattle.sparing_written.proofs.put_free.Goals as goal
 
 pub loop-i-init : goal.loop-i-init
 unfolding flat spare_entries
-loop-i-init c = (search rules, refl, writing-none _ _)
+loop-i-init c = writing-none _ _
 
 pub loop-i-preserved : goal.loop-i-preserved
 loop-i-preserved c = let v = c.loop-i in
-    let a = c.args in (
-      omega arith,
-      c.put_entry.auto.sector ∙ v.invariant.1,
-      c.put_entry.ensures ∙ rw v.invariant.2 (spares-next a.sector.now a.spares.now v.i (omega arith) (omega arith)),
-    )
-
-pub shape_of-sector : goal.shape_of-sector
-shape_of-sector c = c.loop-i.invariant.1
+    let a = c.args in
+    c.put_entry.ensures ∙ rw v.invariant (spares-next a.sector.now a.spares.now v.i (omega arith) (omega arith))
 
 pub returns : goal.returns
 returns c = let v = c.loop-i in
     let a = c.args in
-    v.invariant.2 ∙ ap (λ (l : List ℕ). splice a.sector.now 56 (quads (flat (spare_entries l)))) (take_all v.i a.spares.now (omega arith))
+    v.invariant ∙ ap (λ (l : List ℕ). splice a.sector.now 56 (quads (flat (spare_entries l)))) (take_all v.i a.spares.now (omega arith))

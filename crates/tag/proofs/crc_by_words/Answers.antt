@@ -1,45 +1,41 @@
-use Rattle.std.proofs.Common.{refl, ap, ◌∙◌, arith, rules}
+use Rattle.std.proofs.Common.{◌≡◌, ◌+◌, ◌-◌, ◌*◌, ◌%◌, [], ◌∷◌, ◌++◌, List, ℕ, ap, sym, ◌∙◌, length, drop, arith, length-append, length-drop}
 use Rattle.tag.specs.Crc.{crc_from}
-use Rattle.tag.proofs.Words.{crc-next-four, part_left}
+use Rattle.tag.proofs.Words.{crc-four-off, four-off}
 use Rattle.tag.proofs.crc_by_words.Goals as goal
 
-pub loop-i-init : goal.loop-i-init
-loop-i-init c = (search rules, refl)
+pub loop-w-init : goal.loop-w-init
+loop-w-init c = let words = c.chunks_exact-words.ensures in
+    rw c.into_iter-w-iterator.ensures.into_iter_gives record {
+      by_four = words.size;
+      within = omega arith;
+      left = words.rest;
+      leads = ap (crc_from c.args.start) words.rest;
+    }
 
-pub overflow_sub-bytes : goal.overflow_sub-bytes
-overflow_sub-bytes c = omega arith
-
-pub bounds-bytes-i : goal.bounds-bytes-i
-bounds-bytes-i c = omega arith
-
-pub overflow_add-i : goal.overflow_add-i
-overflow_add-i c = omega arith
-
-pub bounds-bytes-i-in-loop-i : goal.bounds-bytes-i-in-loop-i
-bounds-bytes-i-in-loop-i c = omega arith
-
-pub overflow_add-i-in-loop-i : goal.overflow_add-i-in-loop-i
-overflow_add-i-in-loop-i c = omega arith
-
-pub bounds-bytes-i-in-loop-i-2 : goal.bounds-bytes-i-in-loop-i-2
-bounds-bytes-i-in-loop-i-2 c = omega arith
-
-pub overflow_add-i-in-loop-i-2 : goal.overflow_add-i-in-loop-i-2
-overflow_add-i-in-loop-i-2 c = omega arith
-
-pub bounds-bytes-i-in-loop-i-3 : goal.bounds-bytes-i-in-loop-i-3
-bounds-bytes-i-in-loop-i-3 c = omega arith
-
-pub overflow_add-i-in-loop-i-3 : goal.overflow_add-i-in-loop-i-3
-overflow_add-i-in-loop-i-3 c = omega arith
-
-pub loop-i-smaller : goal.loop-i-smaller
-loop-i-smaller c = omega arith
-
-pub loop-i-preserved : goal.loop-i-preserved
-loop-i-preserved c = let at = c.loop-i in
-    (omega arith, crc-next-four at.so_far _ at.i (omega arith) c.crc_word-so_far.ensures ∙ at.invariant.1)
+pub loop-w-preserved : goal.loop-w-preserved
+loop-w-preserved c = let at = c.loop-w.invariant in
+    let step = c.in-Some.ensures.steps in
+    let w = c.in-Some.w.now in
+    let four : length w ≡ 4 = step.1.1 ∙ at.by_four in
+    let off = four-off c.args.bytes.now _ w _ (4 * length c.loop-w.yielded) at.within at.left four step.1.0 in
+    let more : 4 * length (c.loop-w.yielded ++ c.in-Some.w ∷ []) ≡ 4 * length c.loop-w.yielded + 4 =
+    omega (arith, length-append c.loop-w.yielded (c.in-Some.w ∷ []))
+    in
+    rw more record {
+      by_four = step.0 ∙ at.by_four;
+      within = off.0;
+      left = off.1;
+      leads = crc-four-off c.loop-w.so_far _ w _ _ four step.1.0 c.crc_word-so_far.ensures ∙ at.leads;
+    }
 
 pub returns : goal.returns
-returns c = let at = c.loop-i in
-    c.crc_by_bytes.ensures ∙ ap (crc_from at.so_far) (part_left _ at.i) ∙ at.invariant.1
+returns c = let at = c.loop-w.invariant in
+    let bytes = c.args.bytes.now in
+    let few = c.in-None.ensures.steps.1.0 in
+    let end : 4 * length c.loop-w.yielded ≡ length bytes - length bytes % 4 =
+    omega (arith, few, at.by_four, ap (λ (l : List ℕ). length l) at.left, length-drop (4 * length c.loop-w.yielded) bytes)
+    in
+    let tail = c.remainder-tail.ensures ∙ c.chunks_exact-words.ensures.remainder in
+    c.crc_by_bytes.ensures
+    ∙ ap (crc_from c.loop-w.so_far) (tail ∙ ap (λ (n : ℕ). drop n bytes) (sym end) ∙ sym at.left)
+    ∙ at.leads

@@ -7,9 +7,10 @@ use Rattle.tag.proofs.is_sound.Goals as goal
 
 pub returns-then-b-checksum : goal.returns-then-b-checksum
 unfolding sound
-returns-then-b-checksum c = fails _ (ne_eqb _ _ (λ e. c.if-b-checksum.true (e ∙ sym c.checksum.ensures)))
+returns-then-b-checksum c = holds (eq-eqb _ _ (c.if-b-checksum.true ∙ c.checksum.ensures))
+    (ap₂ eqb c.read.ensures (c.crc.ensures ∙ crc-told _ _ c.end_of.ensures))
 
-pub returns : goal.returns
+pub returns-else-b-checksum : goal.returns-else-b-checksum
 unfolding sound
-returns c = holds (eq-eqb _ _ (c.if-b-checksum.false ∙ c.checksum.ensures))
-    (ap₂ eqb c.read16.ensures (c.crc.ensures ∙ crc-told _ _ c.end_of.ensures))
+returns-else-b-checksum c =
+    ne_eqb _ _ c.if-b-checksum.false ∙ fails _ (ne_eqb _ _ (λ e. c.if-b-checksum.false (e ∙ sym c.checksum.ensures)))

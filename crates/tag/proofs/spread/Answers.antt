@@ -16,4 +16,4 @@ unfolding bit_step bits_of bits_from byte_step
 rule x h = listed-agree (λ (n : ℕ). spread_of (bit_xor n (n / 16))) (byte_step 0) 256 x refl h
 
 pub returns : goal.returns
-returns c = ap spread_of c.u16_of_u8-y.ensures.0 ∙ rule c.args.x c.ranges.x.fits
+returns c = ap spread_of c.from-y.ensures ∙ rule c.args.x c.ranges.x.fits

@@ -6,4 +6,4 @@ use Rattle.vat_file_written.proofs.tail_of.Goals as goal
 
 pub returns : goal.returns
 unfolding vat_name regid identifier
-returns c = tail_written _ _ _ c.write_regid.ensures c.write32.ensures
+returns c = tail_written _ _ _ c.write_regid.ensures c.write.ensures

@@ -8,13 +8,13 @@ pub slice_bounds-write_entry-end-2 : goal.slice_bounds-write_entry-end-2
 slice_bounds-write_entry-end-2 c = simp length-take (omega arith)
 
 pub write_entry-requires : goal.write_entry-requires
-write_entry-requires c = record { front_len = simp length-take (omega arith); n_bound = c.requires.n_bound.0 }
+write_entry-requires c = record { front_len = simp length-take (omega arith); n_bound = omega (arith, c.args.vat.now.few) }
 
 pub slice_bounds-crc-end : goal.slice_bounds-crc-end
-slice_bounds-crc-end c = omega (arith, bytes_most c.args.n)
+slice_bounds-crc-end c = omega (arith, bytes_most c.count-n.result)
 
 pub overflow_cast-covered : goal.overflow_cast-covered
-overflow_cast-covered c = omega (arith, bytes_most c.args.n)
+overflow_cast-covered c = omega (arith, bytes_most c.count-n.result)
 
 pub slice_bounds-write_tag-end-2 : goal.slice_bounds-write_tag-end-2
 slice_bounds-write_tag-end-2 c = simp length-take (omega arith)
@@ -24,8 +24,10 @@ write_tag-requires c = simp length-take (omega arith)
 
 pub returns : goal.returns
 returns c = let a = c.args in
-    icb-written a.k.0 a.t.now _ _ a.n a.previous.0 _ _ c.requires.n_bound.1
-    (body-written a.k.0 a.t.now a.sector.now _ _ a.n a.previous.0 c.write_entry.ensures c.write_allocation.ensures)
+    let t = a.vat.now.entries.now in
+    let previous = a.vat.now.previous.0 in
+    icb-written a.k.0 t _ _ c.count-n.result previous _ _ c.count-n.ensures
+    (body-written a.k.0 t a.sector.now _ _ c.count-n.result previous c.write_entry.ensures c.write_allocation.ensures)
     c.allocation_bytes.ensures
     c.crc-crc.ensures
     c.write_tag.ensures

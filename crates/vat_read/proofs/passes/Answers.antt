@@ -1,56 +1,38 @@
 -- `vat_read::passes` meets its contract, test by test. Assumes nothing.
-use mathlib.Core.Path.{◌≡◌, sym, ap, ◌∙◌}
-use mathlib.Core.Bool.{true}
-use borrow.Author.Tests.{not-true, not-false}
+use Rattle.std.proofs.Common.{sym, ap, ◌∙◌}
 use Rattle.fields.proofs.Tests.{fails, holds}
-use Rattle.model.specs.Vat.{entry_fits, table_fits, passes}
-use Rattle.vat_read.specs.File.{Filed}
-use Rattle.vat_read.proofs.File.{file-in, fits-filed}
-use Rattle.vat_read.proofs.passes.Tie as tie
-use Rattle.vat_read.proofs.passes.Lts as lts
-use Rattle.vat_read.proofs.passes.Reads as reads
+use Rattle.model.specs.Vat.{tag_fits, table_fits, passes}
+use Rattle.vat_read.proofs.Bytes.{file_in_marked, fits_filed}
 use Rattle.vat_read.proofs.passes.Goals as goal
-
-abbrev Else2 : Type 0
-Else2 = lts.Else2 tie.the-claims reads.Pre reads.Post tie.handed_clauses
-
-abbrev Else3 : Type 0
-Else3 = lts.Else3 tie.the-claims reads.Pre reads.Post tie.handed_clauses
 
 pub returns-then-not-tag_fits : goal.returns-then-not-tag_fits
 unfolding passes
-returns-then-not-tag_fits c = fails _ (sym c.tag_fits.ensures ∙ not-true _ c.if-not-tag_fits.true-raw)
+returns-then-not-tag_fits c = fails _ (sym c.tag_fits.ensures ∙ c.if-not-tag_fits.true)
 
-pub returns-then-not-entry_fits : goal.returns-then-not-entry_fits
+pub returns-in_default : goal.returns-in_default
 unfolding passes
-returns-then-not-entry_fits c = holds (sym c.tag_fits.ensures ∙ not-false _ c.if-not-tag_fits.false-raw)
-    (fails _ (sym c.entry_fits.ensures ∙ not-true _ c.if-not-entry_fits.true-raw))
+returns-in_default c = holds (sym c.tag_fits.ensures ∙ c.if-not-tag_fits.false) (fails _ c.in_default.ensures)
 
--- past the tests of the File Entry
-entry : (c : Else2) → entry_fits c.args.icb.now ≡ true
-entry c = sym c.entry_fits.ensures ∙ not-false _ c.if-not-entry_fits.false-raw
+pub invariant_of-table_fits : goal.invariant_of-table_fits
+invariant_of-table_fits c = let a = c.args in
+    let e = c.in-Some.entry in
+    record { filed = fits_filed _ a.marks.now _ a.k.0 _ c.requires.lent e.icb.block e.entry (sym (c.allocation_fits.ensures a.disc.now) ∙ c.if-allocation_fits.true) }
 
-pub allocation_fits-requires : goal.allocation_fits-requires
-allocation_fits-requires c = record { k_in_bounds = (c.requires.lent.inside, c.requires.lent.most); icb_len = (c.requires.icb_len, entry c.before) }
-
-pub returns-then-not-allocation_fits : goal.returns-then-not-allocation_fits
+pub returns-then-allocation_fits : goal.returns-then-allocation_fits
 unfolding passes
-returns-then-not-allocation_fits c = holds (sym c.tag_fits.ensures ∙ not-false _ c.if-not-tag_fits.false-raw)
-    (holds (entry c.before.before.before)
-    (fails _ (sym (c.allocation_fits.ensures _) ∙ not-true _ c.if-not-allocation_fits.true-raw)))
+returns-then-allocation_fits c = let a = c.args in
+    let e = c.in-Some.entry in
+    let same = c.in-Some.ensures in
+    let tag = ap (tag_fits a.k.0) same ∙ sym c.tag_fits.ensures ∙ c.if-not-tag_fits.false in
+    rw (← same)
+    (holds tag
+    (holds e.entry
+    (holds (sym (c.allocation_fits.ensures a.disc.now) ∙ c.if-allocation_fits.true)
+    (c.table_fits.ensures ∙ ap (table_fits a.k.0) (file_in_marked a.disc.now a.marks.now a.s e.icb.bytes.now)))))
 
--- past those of the allocation
-filed : (c : Else3) → let a = c.args in Filed a.disc.now a.s a.icb.now
-filed c =
-    fits-filed _ _ _ _ _ c.requires.lent c.requires.icb_len (entry c.before.before) (sym (c.allocation_fits.ensures c.args.disc.now) ∙ not-false _ c.if-not-allocation_fits.false-raw)
-
-pub table_fits-requires : goal.table_fits-requires
-table_fits-requires c = filed c.before
-
-pub returns : goal.returns
+pub returns-else-allocation_fits : goal.returns-else-allocation_fits
 unfolding passes
-returns c = let a = c.args in
-    holds (sym c.tag_fits.ensures ∙ not-false _ c.if-not-tag_fits.false-raw)
-    (holds (entry c.before.before.before.before)
-    (holds (sym (c.allocation_fits.ensures _) ∙ not-false _ c.if-not-allocation_fits.false-raw)
-    (c.table_fits.ensures ∙ ap (table_fits a.k.0) (file-in a.disc.now a.marks.now a.s a.icb.now))))
+returns-else-allocation_fits c = let a = c.args in
+    let same = c.in-Some.ensures in
+    let tag = ap (tag_fits a.k.0) same ∙ sym c.tag_fits.ensures ∙ c.if-not-tag_fits.false in
+    rw (← same) (holds tag (holds c.in-Some.entry.entry (c.if-allocation_fits.false ∙ fails _ (sym (c.allocation_fits.ensures a.disc.now) ∙ c.if-allocation_fits.false))))

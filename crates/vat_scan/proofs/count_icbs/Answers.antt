@@ -17,18 +17,14 @@ none-next b s k i f g marks j h =
     (λ l. let e : k + j ≡ k + i = omega arith in ap (vat_icb (disc b marks) s) e ∙ g marks)
 
 pub loop-i-init : goal.loop-i-init
-loop-i-init c = (omega arith, omega arith, λ e marks j h. absurd (omega arith))
-
-pub overflow_add-count : goal.overflow_add-count
-overflow_add-count c = omega arith
+loop-i-init c = (omega arith, λ e marks j h. absurd (omega arith))
 
 pub loop-i-preserved : goal.loop-i-preserved
 loop-i-preserved c = let l = c.loop-i in
-    let told = c.can_be_icb.ensures in
     elim c.if-can_be_icb.branch [
-      | then-can_be_icb x ↦ (omega (arith, x.count-is), omega arith, λ e. absurd (omega (arith, e, x.count-is)))
-      | else-can_be_icb x ↦ (omega (arith, x.count-is), omega arith, λ e. none-next _ _ _ l.i (l.invariant.2 (sym x.count-is ∙ e)) (told x.if-can_be_icb.false))
+      | then-can_be_icb x ↦ (omega (arith, x.count-is), λ e. absurd (omega (arith, e, x.count-is)))
+      | else-can_be_icb x ↦ (omega (arith, x.count-is), λ e. none-next _ _ _ l.i (l.invariant.1 (sym x.count-is ∙ e)) (c.can_be_icb.ensures x.if-can_be_icb.false))
     ]
 
 pub returns : goal.returns
-returns c e marks j h = let l = c.loop-i in l.invariant.2 e marks j (omega arith)
+returns c e marks j h = c.loop-i.invariant.1 e marks j (omega arith)

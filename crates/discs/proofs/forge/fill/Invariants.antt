@@ -1,6 +1,0 @@
--- The block keeps its length, and the index goes up to it.
-use Rattle.std.proofs.Common.{length, ◌-◌}
-use Rattle.discs.proofs.forge.fill.Given as goal
-
-abbrev pub decreases-loop-i : goal.decreases-loop-i
-decreases-loop-i l = length l.initial.block - l.i

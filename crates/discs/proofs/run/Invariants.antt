@@ -1,6 +1,0 @@
--- What is left of the script is the measure.
-use Rattle.std.proofs.Common.{length, ◌-◌}
-use Rattle.discs.proofs.run.Given as goal
-
-abbrev pub decreases-loop-at : goal.decreases-loop-at
-decreases-loop-at l = length l.script - l.at
