@@ -53,37 +53,22 @@ unfolding forecast_by
 forecast-number (Ok _) f h = h
 forecast-number (Err why) f h = refl
 
--- ---- which kind it is; r is what reading the map list gave
+-- ---- which kind it is; v is the volume that reading the map list gave
 
-module _ (e : Setting) {r : Result Volume Refusal} (q : r ≡ read_maps e.maps) where
-  kind-is : (volume e).kind ≡ (volume_read r).kind
+module _ (e : Setting) {v : Volume} (q : v ≡ volume_read (read_maps e.maps)) where
+  kind-is : (volume e).kind ≡ v.kind
   unfolding volume
-  kind-is = sym (ap (λ (m : Result Volume Refusal). (volume_read m).kind) q)
+  kind-is = sym (ap (λ (m : Volume). m.kind) q)
 
-  -- a list that is turned down counts as write-once
-  pub kind-refused : {why : Refusal} → r ≡ Err why → true ≡ write_once e
-  unfolding write_once is_once volume_read no_volume volume_with
-  kind-refused is = sym (ap is_once (kind-is ∙ ap (λ (m : Result Volume Refusal). (volume_read m).kind) is))
-
-  module _ {v : Volume} (is : r ≡ Ok v) where
-    kind-read : (volume e).kind ≡ v.kind
-    unfolding volume_read
-    kind-read = kind-is ∙ ap (λ (m : Result Volume Refusal). (volume_read m).kind) is
-
-    -- a write-once volume
-    pub kind-once : {p : ℕ} → v.kind ≡ WriteOnce p → true ≡ write_once e
-    unfolding write_once is_once
-    kind-once k = sym (ap is_once (kind-read ∙ k))
-
-    -- a rewritable one
-    pub kind-rewritable : {p n size : ℕ} → v.kind ≡ Rewritable p n size → false ≡ write_once e
-    unfolding write_once is_once
-    kind-rewritable k = sym (ap is_once (kind-read ∙ k))
-
-  -- a list whose volume, or none, is write-once
-  pub kind-told : {p : ℕ} → (volume_read r).kind ≡ WriteOnce p → true ≡ write_once e
+  -- a write-once volume, as that of a list that is turned down is
+  pub kind-once : {p : ℕ} → v.kind ≡ WriteOnce p → true ≡ write_once e
   unfolding write_once is_once
-  kind-told k = sym (ap is_once (kind-is ∙ k))
+  kind-once k = sym (ap is_once (kind-is ∙ k))
+
+  -- a rewritable one
+  pub kind-rewritable : {p n size : ℕ} → v.kind ≡ Rewritable p n size → false ≡ write_once e
+  unfolding write_once is_once
+  kind-rewritable k = sym (ap is_once (kind-is ∙ k))
 
 -- ---- a write-once list: what is told of the kind is told of both
 

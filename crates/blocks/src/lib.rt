@@ -26,9 +26,7 @@ fn is_write_once(maps: &[u8]) -> bool
     if maps.len() != REWRITABLE {
         return true;
     }
-    let Ok(volume) = maps::read_maps(maps) else {
-        return true;
-    };
+    let volume = maps::volume_read(maps::read_maps(maps));
     match volume.kind {
         Kind::WriteOnce { .. } => true,
         Kind::Rewritable { .. } => false,

@@ -5,6 +5,7 @@ use Rattle.refusal.specs.declared.Refusal.TheVariants.{LentLength, NeitherKind}
 use Rattle.refusal.specs.Verdict.{Verdict, verdict_of}
 use Rattle.refusal.specs.Tests.{test, first, and_then}
 use Rattle.address.specs.declared.LogicalAddress.{LogicalAddress}
+use Rattle.address.specs.Told.{logical_values}
 use Rattle.refusal.specs.declared.Refusal.{Refusal}
 use Rattle.maps.specs.declared.Kind.TheVariants.{WriteOnce, Rewritable}
 use Rattle.maps.specs.declared.Volume.{Volume}
@@ -43,7 +44,7 @@ lent_verdict kind p size tables out =
 
 -- the lent result after it
 abbrev pub logical_after : Result LogicalAddress Refusal → List ℕ → List ℕ
-logical_after (Ok b) result = b.0 ∷ []
+logical_after (Ok b) result = logical_values (Ok b)
 logical_after (Err why) result = result
 
 -- what is answered for virtual v in the file f that is lent the result

@@ -99,6 +99,7 @@ fn skip_blank<const STEP: usize>(marks: &[u8]) -> &[u8]
     ensures used { STEP ≤ length result.now → highest_of (drop (length result.now - STEP) result.now) ≢ 0 }
 {
     let mut left = marks;
+    // The new form is no plainer: a `for` over chunks from the end does not hand back the marks that are left.
     while let Some((below, step)) = left.split_last_chunk::<STEP>() {
         if highest_mark(step) != BLANK {
             return left;

@@ -1,7 +1,7 @@
 -- Laws of the definitions of `specs/`, each stated and proved once. Assumes nothing.
 use Prim.Native.Nat.{ℕ, zero, suc, ◌+◌, ◌-◌, ◌*◌, ◌/◌, ◌%◌, ◌^◌, ◌≤◌, ◌<◌}
 use mathlib.Core.Path.{◌≡◌, refl, sym, ap, ◌∙◌}
-use mathlib.Core.Bool.{Bool, true, false, false≢true, and-eq-true_iff}
+use mathlib.Core.Bool.{Bool, true, false, false≢true, and-eq-true_iff, and_comm, and_assoc}
 use mathlib.Core.Logic.{◌⊎◌, ⊎_elim}
 use mathlib.Core.List.{List, [], ◌∷◌, ◌++◌, append_assoc}
 use native.Mathlib.Omega.{arith}
@@ -500,6 +500,23 @@ same_true (x ∷ a) (y ∷ b) e =
     let head : x ≡ y = eqb-true x y both.0 in
     let tail : a ≡ b = same_true a b both.1 in
     cc
+
+-- one more of each: the same so far, and these two alike
+pub same-next : (a b : List ℕ) (n : ℕ) → n < length a → n < length b → same (take (suc n) a) (take (suc n) b) ≡ (same (take n a) (take n b) && eqb (get_or a n 0) (get_or b n 0))
+unfolding same
+same-next [] b n h k = absurd (omega arith)
+same-next (x ∷ a) [] n h k = absurd (omega arith)
+same-next (x ∷ a) (y ∷ b) zero h k = and_comm (eqb x y) true
+same-next (x ∷ a) (y ∷ b) (suc n) h k =
+    ap (λ (t : Bool). eqb x y && t) (same-next a b n (omega arith) (omega arith)) ∙ sym (and_assoc (eqb x y) (same (take n a) (take n b)) (eqb (get_or a n 0) (get_or b n 0)))
+
+-- the same of a part of s and the front of t
+pub part-same-next : (s t : List ℕ) (at n : ℕ) → at + n < length s → n < length t → same (part s at (n + 1)) (take (n + 1) t) ≡ (same (part s at n) (take n t) && eqb (get_or s (at + n) 0) (get_or t n 0))
+unfolding part
+part-same-next s t at n h k =
+    ap (λ (m : ℕ). same (take m (drop at s)) (take m t)) (add-one n)
+    ∙ same-next (drop at s) t n (simp length-drop (omega arith)) k
+    ∙ ap (λ (x : ℕ). same (take n (drop at s)) (take n t) && eqb x (get_or t n 0)) (get_or-drop at s n 0)
 
 -- lists that differ are not the same
 pub same_false : (a b : List ℕ) → (a ≡ b → ⊥) → same a b ≡ false

