@@ -25,7 +25,6 @@ use Rattle.model.proofs.ReadyLivesMade.{length-spares}
 use Rattle.model.proofs.Verdicts.{then-go}
 use Rattle.sparing_copy.specs.declared.Layout.{Layout}
 use Rattle.sparing_copy.specs.Layout.{geometry_in}
-use Rattle.sparing_copy.specs.Tables.{TablesOn}
 use Rattle.sparing_writes.specs.Order.{numbers_of}
 use Rattle.sparing_writes.proofs.Order.{numbers-take}
 use Rattle.address.specs.declared.PhysicalAddress.{PhysicalAddress}
@@ -50,6 +49,10 @@ module _ (e : Setting) (d : Disc) (spares : List ℕ) {r : Result Layout Refusal
   module _ {x : Layout} (h : r ≡ Ok x) where
     laid-out : LaidOut e d x
     laid-out = rw h at q.layout
+
+    -- what is asked of the layout
+    pub make-asks : (x.count ≤ 4) × (x.size ≤ 2048)
+    make-asks = (laid-out.few, laid-out.short)
 
     goes-on : layout_verdict e d true ≡ Ok tt
     goes-on = sym q.verdict ∙ ap verdict_of h
@@ -103,7 +106,7 @@ makes e d spares j h =
 -- ---- what it leaves
 
 -- the copies are on the disc; t are the volume's tables
-pub copies-on : (ps : List PhysicalAddress) (t : List ℕ) (n sectors : ℕ) → numbers_of ps ≡ t → TablesOn t n sectors → (i : ℕ) → i < length (take n ps) → get_or (numbers_of (take n ps)) i 0 < sectors
+pub copies-on : (ps : List PhysicalAddress) (t : List ℕ) (n sectors : ℕ) → numbers_of ps ≡ t → ((i : ℕ) → i < n → get_or t i 0 < sectors) → (i : ℕ) → i < length (take n ps) → get_or (numbers_of (take n ps)) i 0 < sectors
 copies-on ps t n sectors q on i l =
     let h : i < n = omega (arith, length-take n ps) in
     rw (numbers-take n ps ∙ ap (take n) q, get_or-take n t i 0 h) (on i h)

@@ -10,7 +10,7 @@ ghost use Rattle.model.specs.Examine.{setting};
 ghost use Rattle.make_volume.specs.WriteOnce.{make_once_verdict, made_once, JudgedBlank};
 ghost use Rattle.model.specs.Writes.{no_cut, writes};
 ghost use Rattle.model.specs.VatWritten.{written_icb};
-ghost use Rattle.sparing_copy.specs.Layout.{geometry_in};
+ghost use Rattle.sparing_copy.specs.Layout.{geometry_in, TablesOn};
 ghost use Rattle.make_volume.specs.Rewritable.{make_rewritable_verdict, made_rewritable, making_writes, JudgesMaking};
 ghost use Rattle.model.specs.Lent.{lent};
 
@@ -100,7 +100,7 @@ fn judge_make(
 // Writes packets of zeros to the partition, then a table's sector to each copy, with no cut. Inside the
 // layers: every line of making has been tested.
 fn write_made(disc: &mut [u8], marks: &mut [u8], x: Layout, sector: &[u8])
-    requires sectors_value { x.sectors ≡ length marks.old }
+    requires count_bound { (x.count ≤ 4) × (x.sectors ≡ length marks.old) × TablesOn x }
     requires length_in_bounds { (x.volume.span.start + x.volume.span.length ≤ length marks.old) × (length marks.old ≤ 1048576) }
     requires disc_len { (length disc.old ≡ 2048 * length marks.old) × (length sector.now ≡ 2048) }
     ensures { disc_of disc.new marks.new ≡ writes 1 no_cut (making_writes (geometry_in x) sector.now) (disc_of disc.old marks.old) }

@@ -34,7 +34,7 @@ use Rattle.model.proofs.Ground.{Ground}
 use Rattle.model.proofs.Sectors.{writes-append}
 use Rattle.model.proofs.SectorsRuns.{length-upward}
 use Rattle.model.proofs.SparingLaws.{fits-ascending, three-parts, free_on, written_count, written-table, packet-unmapped, resorted-length, resorted-fits, length-copies, copy-order-length}
-use Rattle.sparing_copy.specs.Layout.{geometry_in}
+use Rattle.sparing_copy.specs.Layout.{geometry_in, TablesOn}
 use Rattle.sparing_table.specs.Table.{free_in}
 use Rattle.sparing_table.proofs.Table.{free-at, free-none}
 use Rattle.sparing_written.specs.Written.{Ordered}
@@ -223,7 +223,10 @@ module _ (x : Lent) (t : List ℕ) (held : Record) (b : ℕ) (packet : List ℕ)
   safe : Sure x.setting x.disc t held b packet
   safe = sure x.setting x.disc t held b packet (sym h.verdict)
 
-  -- what is asked of the disc, of the place and of the copy
+  -- what is asked of the layout, of the disc, of the place and of the copy
+  pub spare-layout : (j.looked.layout.count ≤ 4) × (j.looked.layout.size ≤ 2048) × TablesOn j.looked.layout
+  spare-layout = let x = h.sparing.found.layout in (x.few, x.short, x.on)
+
   pub spare-disc : (length x.disc.marks ≤ 1048576) × (length x.disc.bytes ≡ 2048 * length x.disc.marks) × (j.looked.layout.sectors ≡ length x.disc.marks)
   spare-disc = (safe.most, safe.shape, sectors-are h.sparing.found.layout)
 

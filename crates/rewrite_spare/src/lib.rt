@@ -8,7 +8,7 @@ ghost use Rattle.model.specs.Disc.{disc as disc_of};
 ghost use Rattle.model.specs.Writes.{writes};
 ghost use Rattle.model.specs.Lent.{lent, Spares};
 ghost use Rattle.model.specs.Sparing.{counts};
-ghost use Rattle.sparing_copy.specs.Layout.{geometry_in};
+ghost use Rattle.sparing_copy.specs.Layout.{geometry_in, TablesOn};
 ghost use Rattle.rewrite_spare.specs.Parts.{JudgesSparing, sparing_writes};
 
 use address::{LogicalAddress, PhysicalAddress};
@@ -69,7 +69,8 @@ fn write_sparing(
     sector: &[u8],
     cut: Cut,
 )
-    requires sectors_value { x.looked.layout.sectors ≡ length marks.old }
+    requires count_bound { (x.looked.layout.count ≤ 4) × (x.looked.layout.size ≤ 2048) }
+    requires sectors_value { (x.looked.layout.sectors ≡ length marks.old) × TablesOn x.looked.layout }
     requires at_in_bounds { (x.looked.current.at.0 < length marks.old) × (counts (disc_of disc.old marks.old) (geometry_in x.looked.layout) x.looked.current.at.0 ≡ true) }
     requires first_in_bounds { (x.first.0 + 32 ≤ length marks.old) × (length disc.old ≡ 2048 * length marks.old) × (length marks.old ≤ 1048576) }
     requires packet_len { (length packet.now ≡ 65536) × (length sector.now ≡ 2048) }

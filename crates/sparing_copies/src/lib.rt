@@ -8,7 +8,7 @@ ghost use Rattle.std.specs.Prelude.{◌≡◌, true, List, ℕ, ◌+◌, ◌*◌
 ghost use Rattle.fields.specs.Bytes.{same};
 ghost use Rattle.model.specs.Disc.{disc as disc_of, sector};
 ghost use Rattle.model.specs.Sparing.{count_in, counts, sequence_at, table_at};
-ghost use Rattle.sparing_copy.specs.Layout.{geometry_in};
+ghost use Rattle.sparing_copy.specs.Layout.{geometry_in, TablesOn};
 ghost use Rattle.sparing_copies.specs.Copies.{used_at, newer_of, newest_of, agrees, agreeing, FoundCurrent};
 
 use address::{MediaBlockAddress, PhysicalAddress};
@@ -48,6 +48,7 @@ fn start_of(t: PhysicalAddress) -> usize
 
 // Whether the copy at sector `t` counts.
 fn copy_counts(disc: &[u8], marks: &[u8], x: Layout, t: PhysicalAddress) -> bool
+    requires count_bound { (x.count ≤ 4) × (x.size ≤ 2048) }
     requires disc_len { length disc.now ≡ 2048 * length marks.now }
     requires t_in_bounds { t.0 < length marks.now }
     ensures { result ≡ counts (disc_of disc.now marks.now) (geometry_in x) t.0 }
@@ -97,6 +98,7 @@ pub fn counts_beside(
     t: PhysicalAddress,
     at: PhysicalAddress,
 ) -> bool
+    requires count_bound { (x.count ≤ 4) × (x.size ≤ 2048) }
     requires disc_len { length disc.now ≡ 2048 * length marks.now }
     requires t_in_bounds { (t.0 < length marks.now) × (at.0 < length marks.now) }
     requires at_value { counts (disc_of disc.now marks.now) (geometry_in x) at.0 ≡ true }
@@ -136,6 +138,7 @@ fn newer_copy(
     t: PhysicalAddress,
     newest: Option<Newest>,
 ) -> Option<Newest>
+    requires count_bound { (x.count ≤ 4) × (x.size ≤ 2048) }
     requires disc_len { length disc.now ≡ 2048 * length marks.now }
     requires t_in_bounds { t.0 < length marks.now }
     requires at_in_bounds { IfSome newest (λ n. n.at.0 < length marks.now) }
@@ -156,8 +159,9 @@ fn newer_copy(
 
 // The newest copy. It looks from the last table to the first.
 fn newest_copy(disc: &[u8], marks: &[u8], x: Layout) -> Option<Newest>
+    requires count_bound { (x.count ≤ 4) × (x.size ≤ 2048) }
     requires disc_len { length disc.now ≡ 2048 * length marks.now }
-    requires sectors_value { x.sectors ≡ length marks.now }
+    requires sectors_value { (x.sectors ≡ length marks.now) × TablesOn x }
     ensures { result ≡ newest_of (disc_of disc.now marks.now) (geometry_in x) (geometry_in x).tables }
 {
     let tables = x.tables();
@@ -179,6 +183,7 @@ fn copy_agrees(
     at: PhysicalAddress,
     sequence: u32,
 ) -> bool
+    requires count_bound { (x.count ≤ 4) × (x.size ≤ 2048) }
     requires disc_len { length disc.now ≡ 2048 * length marks.now }
     requires t_in_bounds { (t.0 < length marks.now) × (at.0 < length marks.now) }
     requires at_value { counts (disc_of disc.now marks.now) (geometry_in x) at.0 ≡ true }
@@ -195,8 +200,9 @@ fn copy_agrees(
 
 // Whether every copy that counts and is of this sequence has the table of the copy at `at`, which counts.
 fn copies_agree(disc: &[u8], marks: &[u8], x: Layout, at: PhysicalAddress, sequence: u32) -> bool
+    requires count_bound { (x.count ≤ 4) × (x.size ≤ 2048) }
     requires disc_len { length disc.now ≡ 2048 * length marks.now }
-    requires sectors_value { x.sectors ≡ length marks.now }
+    requires sectors_value { (x.sectors ≡ length marks.now) × TablesOn x }
     requires at_in_bounds { at.0 < length marks.now }
     requires at_value { counts (disc_of disc.now marks.now) (geometry_in x) at.0 ≡ true }
     ensures { result ≡ agreeing (disc_of disc.now marks.now) (geometry_in x) at.0 sequence (geometry_in x).tables }
@@ -214,8 +220,9 @@ fn copies_agree(disc: &[u8], marks: &[u8], x: Layout, at: PhysicalAddress, seque
 // Finds the current table: the highest sequence among copies that count, and whether all copies of that
 // sequence have the same entries (lines 8 and 10 of "Why a call is turned down").
 pub fn find_current(disc: &[u8], marks: &[u8], x: Layout) -> Result<Current, Refusal>
+    requires count_bound { (x.count ≤ 4) × (x.size ≤ 2048) }
     requires disc_len { length disc.now ≡ 2048 * length marks.now }
-    requires sectors_value { x.sectors ≡ length marks.now }
+    requires sectors_value { (x.sectors ≡ length marks.now) × TablesOn x }
     ensures { FoundCurrent (disc_of disc.now marks.now) (geometry_in x) result }
 {
     let Some(newest) = newest_copy(disc, marks, x) else {

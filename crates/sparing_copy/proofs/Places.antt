@@ -5,7 +5,6 @@ use Rattle.std.proofs.lemmas.Bool.Decides.{nat_tests}
 use Rattle.fields.proofs.Tests.{fails, holds}
 use Rattle.model.specs.Sparing.{Geometry, apart, apart_from, whole_packet}
 use Rattle.sparing_copy.specs.Entries.{placed}
-use Rattle.sparing_copy.specs.Tables.{TablesOn}
 use Rattle.sparing_copy.specs.Slots.{inside}
 
 -- ---- two packets
@@ -43,8 +42,8 @@ placed-met g m r e q = holds e q
 
 -- ---- a list of table sectors, from place i on
 
--- each of the first n of four that is on the disc is one of those sectors
-pub tables-below : (t : List ℕ) (n k : ℕ) → TablesOn t n k → (i : ℕ) → i < length (take n t) → get_or (take n t) i 0 < k
+-- what holds of each of the first n places of four, that it is below a number, holds of each of those sectors
+pub tables-below : (t : List ℕ) (n k : ℕ) → ((i : ℕ) → i < n → get_or t i 0 < k) → (i : ℕ) → i < length (take n t) → get_or (take n t) i 0 < k
 tables-below t n k f i l =
     let q : i < n = omega (arith, length-take n t) in
     rw (get_or-take n t i 0 q) (f i q)

@@ -1,6 +1,6 @@
 -- What a rewritable volume lies in, and the entries of a table's sector, as they are handed on (document 01, "The disc and its addresses" and
 -- "The sparing table").
-use Rattle.std.specs.Prelude.{take, List}
+use Rattle.std.specs.Prelude.{ℕ, ◌<◌, take, List, slice_index}
 use Rattle.model.specs.Sparing.{Geometry, Entry}
 use Rattle.sparing_copy.specs.declared.shapes.Layout.{Layout}
 use Rattle.sparing_copy.specs.declared.shapes.Entries.{Entries}
@@ -16,6 +16,10 @@ geometry_in x =
       tables = take x.count x.volume.tables;
       size = x.size;
     }
+
+-- each table sector is on the disc
+abbrev pub TablesOn : Layout → Type 0
+TablesOn x = (i : ℕ) → i < x.count → slice_index x.volume.tables i < x.sectors
 
 -- the entries of a sector
 abbrev pub listed : Entries → List Entry

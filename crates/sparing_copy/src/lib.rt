@@ -8,7 +8,7 @@ ghost use Rattle.std.specs.Prelude.{◌≡◌, ℕ, ◌+◌, ◌*◌, ◌/◌, �
 ghost use Rattle.maps.specs.Kinds.{absent};
 ghost use Rattle.model.specs.Sparing.{apart, apart_from, original_fits, originals_fit, may_follow, ascending, mapped_of, mapped_fit, original_clear, originals_clear, entries_fit, count_in, none_defective, named, copy_fits};
 ghost use Rattle.model.specs.Both.{spare_entries};
-ghost use Rattle.sparing_copy.specs.Layout.{geometry_in, listed};
+ghost use Rattle.sparing_copy.specs.Layout.{geometry_in, TablesOn, listed};
 ghost use Rattle.sparing_copy.specs.Entries.{entry_in, placed, packets_fit};
 ghost use Rattle.sparing_copy.specs.Slots.{tag_of, may_hold, held_with, Told, inside, none_inside};
 
@@ -284,17 +284,19 @@ impl<'a> Entries<'a> {
 }
 
 impl Layout {
-    // The sectors of the tables: four at most, and on the disc.
+    // The sectors of the tables: four at most, and on the disc where the layout's are.
     pub fn tables(&self) -> &[u32]
+        requires { self.now.count ≤ 4 }
         ensures value { result.now ≡ (geometry_in self.now).tables }
         ensures few { length result.now ≤ 4 }
-        ensures on { (i : ℕ) → i < length result.now → slice_index result.now i < self.now.sectors }
+        ensures on { TablesOn self.now → (i : ℕ) → i < length result.now → slice_index result.now i < self.now.sectors }
     {
         &self.volume.tables[..usize::from(self.count)]
     }
 
     // Whether a packet is apart from every table's.
     fn is_apart_from_tables(&self, m: PhysicalAddress) -> bool
+        requires { self.now.count ≤ 4 }
         ensures { result ≡ apart_from m.0 (geometry_in self.now).tables }
     {
         let tables = self.tables();
@@ -309,6 +311,7 @@ impl Layout {
 
     // Whether a packet may be a spare: whole on the disc, and outside every table's packet.
     fn is_placed(&self, m: PhysicalAddress) -> bool
+        requires { self.now.count ≤ 4 }
         ensures { result ≡ placed (geometry_in self.now) m.0 }
     {
         model::is_whole(self.sectors as usize, m) && self.is_apart_from_tables(m)
@@ -317,6 +320,7 @@ impl Layout {
     // Whether the mapped starts of entries may be spares, and none stands twice. It looks from the last entry to the
     // first, and gives each mapped start to its slot once it is found new.
     fn mapped_fit(&self, entries: &Entries, seen: &mut [u8; SLOTS]) -> bool
+        requires { self.now.count ≤ 4 }
         ensures value { result ≡ mapped_fit (geometry_in self.now) (listed entries.now) }
         ensures told { result ≡ true → Told seen.new (listed entries.now) }
     {
@@ -338,7 +342,8 @@ impl Layout {
     // Whether the mapped starts of entries may be spares, none stands twice, and no packet of a used entry is one of
     // them. The originals fit: where no packet of the partition is mapped theirs are not looked at.
     fn packets_fit(&self, entries: &Entries) -> bool
-        requires { originals_fit self.now.volume.span.length (listed entries.now) ≡ true }
+        requires count_bound { self.now.count ≤ 4 }
+        requires originals { originals_fit self.now.volume.span.length (listed entries.now) ≡ true }
         ensures { result ≡ packets_fit (geometry_in self.now) (listed entries.now) }
     {
         let span = self.volume.span;
@@ -350,7 +355,8 @@ impl Layout {
     // Whether a sector's bytes are a table that counts where the sector is recorded. The number of entries is
     // compared with the map's size first, so that no entry past the sector is read.
     pub fn copy_fits(&self, sector: &[u8]) -> bool
-        requires { length sector.now ≡ 2048 }
+        requires count_bound { (self.now.count ≤ 4) × (self.now.size ≤ 2048) }
+        requires sector_len { length sector.now ≡ 2048 }
         ensures { result ≡ copy_fits (geometry_in self.now) sector.now }
     {
         if u16::read(sector, TAG_AT) != 0 {
@@ -368,6 +374,7 @@ impl Layout {
 
     // Whether each of a list of packets may be a spare, and none stands twice.
     fn spares_placed(&self, spares: &[u32]) -> bool
+        requires { self.now.count ≤ 4 }
         ensures { result ≡ mapped_fit (geometry_in self.now) (spare_entries spares.now) }
     {
         for (i, spare) in spares.iter().enumerate() {
@@ -385,6 +392,7 @@ impl Layout {
     // Whether a list of packets can be the free spares of a table that is made. There may be any number of
     // them: it is looked at first.
     pub fn spares_fit(&self, spares: &[u32]) -> bool
+        requires { (self.now.count ≤ 4) × (self.now.size ≤ 2048) }
         ensures { result ≡ entries_fit (geometry_in self.now) (spare_entries spares.now) }
     {
         spares.len() <= MOST_ENTRIES

@@ -1,21 +1,18 @@
 // What the functions of this crate go by: the layout of a volume, and the entries of a table's sector. What always holds
 // of one is a ghost field of it.
 ghost use Rattle.std.specs.Prelude.{ℕ, ◌+◌, ◌*◌, ◌≤◌, ◌<◌, length, slice_index};
-ghost use Rattle.sparing_copy.specs.Tables.{TablesOn};
 
 use maps::Volume;
 
 // What a rewritable volume lies in: the volume, the sectors of the disc, and what its kind holds, taken out
-// once: the number of its tables and the bytes of each. Each table is on the disc.
+// once: the number of its tables and the bytes of each. It has no ghost facts, since one is made of any volume
+// and any numbers: what an examination has found of these is asked by clauses.
 #[derive(Clone, Copy)]
 pub struct Layout {
     pub volume: Volume,
     pub sectors: u32,
     pub count: u8,
     pub size: u32,
-    ghost count_bound: { count ≤ 4 },
-    ghost size_bound: { size ≤ 2048 },
-    ghost tables_on: { TablesOn volume.tables count sectors },
 }
 
 // The first `count` entries of a table's sector, which has room for them. The number is of two bytes as it is in the

@@ -23,8 +23,7 @@ use Rattle.model.proofs.Verdicts.{stop-test, next-test}
 use Rattle.model.proofs.Ground.{Ground, ground}
 use Rattle.model.proofs.SparingLaws.{table-count}
 use Rattle.sparing_copy.specs.declared.shapes.Layout.{Layout}
-use Rattle.sparing_copy.specs.Layout.{geometry_in}
-use Rattle.sparing_copy.specs.Tables.{TablesOn}
+use Rattle.sparing_copy.specs.Layout.{geometry_in, TablesOn}
 use Rattle.sparing_copies.specs.declared.Current.{Current}
 use Rattle.sparing_copies.specs.Copies.{FoundCurrent, copy_verdict}
 use Rattle.sparing_copy.proofs.Laws.{tables-on}
@@ -67,32 +66,38 @@ module _ (e : Setting) (d : Disc) (lent : Bool) {r : Result Volume Refusal} (q :
       few : n ≤ 4
       few = seen_few e d lent q h is
 
-      -- what a layout has to be
-      pub lay-sound : (n ≤ 4) × (size ≤ 2048) × TablesOn v.tables n (length d.marks)
-      lay-sound =
-          let g = seen-geometry e d lent q h is in (
-            few,
-            omega (arith, ap (λ (y : Geometry). y.size) g, lies.size),
-            tables-on (ground_of e.start e.span (length d.marks) (take n v.tables) size) v.tables n (omega (arith, few, four))
-                (ap (λ (y : Geometry). all_outside y y.tables) (sym g) ∙ lies.outside),
-          )
+      -- x is the layout of the volume
+      module _ (x : Layout) (lay : geometry_in x ≡ ground_of v.span.start v.span.length (length d.marks) (take n v.tables) size) (count : x.count ≡ n) where
+        -- it has the geometry of the disc
+        layout_is : geometry_in x ≡ geometry e d
+        layout_is =
+            lay
+            ∙ ap (λ (w : Volume). ground_of w.span.start w.span.length (length d.marks) (take n v.tables) size) (seen-volume e d lent q h)
+            ∙ sym (seen-geometry e d lent q h is)
 
-      -- none of the lines, and x is the layout of the volume
-      pub lay-fits : {x : Layout} → x.volume ≡ v → x.sectors ≡ length d.marks → x.count ≡ n → x.size ≡ size → LaysOut e d lent (Ok x)
-      unfolding layout_verdict
-      lay-fits {x} of on count each =
-          let g = seen-geometry e d lent q h is in
-          let w = of ∙ seen-volume e d lent q h in
-          let is_same : geometry_in x ≡ ground_of e.start e.span (length d.marks) (take n v.tables) size =
-          rw (on, count, each, of, seen-volume e d lent q h) in
-          record {
-            verdict = passed_on _ _ (sym (seen-goes e d lent q h)) (sym (next-test OtherKind [] (ap not (seen-rewritable e d lent q h is))));
-            layout =
-                record {
-                  same = is_same ∙ sym g;
-                  copies = count ∙ omega (arith, length-take n v.tables, few, four, ap (λ (y : Geometry). length y.tables) g);
-                };
-          }
+        names : length (take x.count x.volume.tables) ≡ n
+        names = omega (arith, ap (λ (y : Geometry). length y.tables) lay, length-take n v.tables, four, few)
+
+        on : TablesOn x
+        on =
+            tables-on x (omega (arith, names, count, length-take x.count x.volume.tables))
+            (ap (λ (y : Geometry). all_outside y y.tables) layout_is ∙ lies.outside)
+
+        -- none of the lines
+        pub lay-fits : LaysOut e d lent (Ok x)
+        unfolding layout_verdict
+        lay-fits =
+            record {
+              verdict = passed_on _ _ (sym (seen-goes e d lent q h)) (sym (next-test OtherKind [] (ap not (seen-rewritable e d lent q h is))));
+              layout =
+                  record {
+                    same = layout_is;
+                    copies = count ∙ sym names ∙ ap (λ (y : Geometry). length y.tables) layout_is;
+                    few = omega (arith, few, count);
+                    short = omega (arith, ap (λ (y : Geometry). y.size) layout_is, lies.size);
+                    on = on;
+                  };
+            }
 
 -- ---- a layout that was laid out has the volume's S and L and the sectors of the disc
 
@@ -122,8 +127,8 @@ module _ (e : Setting) (d : Disc) (lent : Bool) where
     look-whole = whole e d lent (sym l.verdict)
 
     -- what is asked of the layout
-    pub look-asks : (length d.bytes ≡ 2048 * length d.marks) × (x.sectors ≡ length d.marks)
-    look-asks = (look-whole.shape, sectors-are l.layout)
+    pub look-asks : (x.count ≤ 4) × (x.size ≤ 2048) × (length d.bytes ≡ 2048 * length d.marks) × (x.sectors ≡ length d.marks) × TablesOn x
+    look-asks = (l.layout.few, l.layout.short, look-whole.shape, sectors-are l.layout, l.layout.on)
 
     -- the current table of the disc is that of its geometry
     found-on : {f : Result Current Refusal} → FoundCurrent d (geometry_in x) f → FoundCurrent d (geometry e d) f

@@ -1,5 +1,5 @@
 -- What the examination of a call on a rewritable disc hands on (document 01, "Why a call is turned down", lines 1 to 8, 10 and 11).
-use Rattle.std.specs.Prelude.{ℕ, ◌≡◌, Bool, not, List, [], ◌∷◌, length, Result, IfOk}
+use Rattle.std.specs.Prelude.{ℕ, ◌≡◌, ◌≤◌, Bool, not, List, [], ◌∷◌, length, Result, IfOk}
 use Rattle.refusal.specs.declared.Refusal.{Refusal}
 use Rattle.refusal.specs.declared.Refusal.TheVariants.{OtherKind}
 use Rattle.refusal.specs.Verdict.{Verdict, verdict_of}
@@ -9,7 +9,7 @@ use Rattle.model.specs.Disc.{Disc}
 use Rattle.model.specs.Examine.{Setting, write_once, geometry, examined}
 use Rattle.model.specs.Rewrite.{copy_tests, rewritable_verdict}
 use Rattle.sparing_copy.specs.declared.shapes.Layout.{Layout}
-use Rattle.sparing_copy.specs.Layout.{geometry_in}
+use Rattle.sparing_copy.specs.Layout.{geometry_in, TablesOn}
 use Rattle.sparing_copies.specs.Copies.{IsCurrent}
 use Rattle.sparing_current.specs.declared.Looked.{Looked}
 
@@ -21,10 +21,13 @@ layout_verdict e d lent = and_then (examined e d lent) (first (test (not (write_
 unfoldable pub look_verdict : Setting → Disc → Bool → Verdict
 look_verdict e d lent = and_then (examined e d lent) (first (test (not (write_once e)) OtherKind ∷ copy_tests e d))
 
--- the layout of the volume, with the number of its tables
+-- the layout of the volume, with the number of its tables: four at most, each of a sector's bytes at most and on the disc
 pub record LaidOut (e : Setting) (d : Disc) (x : Layout) : Type 0 where
   pub same : geometry_in x ≡ geometry e d
   pub copies : x.count ≡ length (geometry e d).tables
+  pub few : x.count ≤ 4
+  pub short : x.size ≤ 2048
+  pub on : TablesOn x
 
 -- the layout, and the current table with the sector of a copy that counts and has it, its sequence and the number of its entries
 pub record Found (e : Setting) (d : Disc) (x : Looked) : Type 0 where

@@ -3,17 +3,18 @@
 // All functions here are inside the layers: where one has a `requires`, the callers have tested it.
 #![tactic(auto)]
 
-ghost use Rattle.std.specs.Prelude.{◌≡◌, true, List, ℕ, ◌+◌, ◌*◌, ◌^◌, ◌≤◌, ◌<◌, length};
+ghost use Rattle.std.specs.Prelude.{◌≡◌, true, List, ℕ, ◌+◌, ◌*◌, ◌^◌, ◌≤◌, ◌<◌, length, take};
 ghost use Rattle.model.specs.Disc.{disc as disc_of, sector};
-ghost use Rattle.model.specs.Sparing.{count_in, packet_of, of_spare, locate};
+ghost use Rattle.model.specs.Sparing.{ground_of, count_in, packet_of, of_spare, locate};
 ghost use Rattle.model.specs.Examine.{Setting, setting, geometry};
 ghost use Rattle.model.specs.Rewrite.{held_current};
+ghost use Rattle.sparing_copy.specs.Layout.{geometry_in};
 ghost use Rattle.sparing_copies.specs.Copies.{IsCurrent};
 ghost use Rattle.sparing_current.specs.Looked.{LaysOut, Sees, Judges};
 ghost use Rattle.sparing_current.specs.Held.{count_held, sequence_held, entries_lent};
 
 use address::{LogicalAddress, PhysicalAddress};
-use maps::{Kind, PACKET};
+use maps::{Kind, PACKET, Volume};
 use model::{Record, SECTOR};
 use refusal::Refusal;
 use sparing_copies::Current;
@@ -24,6 +25,19 @@ use sparing_copy::Layout;
 pub struct Looked {
     pub layout: Layout,
     pub current: Current,
+}
+
+// What a rewritable volume lies in.
+pub fn layout_of(volume: Volume, sectors: usize, n: u8, size: u32) -> Layout
+    requires { sectors ≤ 1048576 }
+    ensures { (geometry_in result ≡ ground_of volume.span.start volume.span.length sectors (take n volume.tables) size) × (result.count ≡ n) }
+{
+    Layout {
+        volume,
+        sectors: sectors as u32,
+        count: n,
+        size,
+    }
 }
 
 // Lines 1 to 7, and the layout of the volume; `lent` says whether the other lent slices have their lengths.
@@ -40,12 +54,9 @@ pub fn lay_out(
     let volume = examine::examine(disc, marks, maps, s, l, lent)?;
     match volume.kind {
         Kind::WriteOnce { .. } => Err(Refusal::OtherKind),
-        Kind::Rewritable { tables, size, .. } => Ok(Layout {
-            volume,
-            sectors: marks.len() as u32,
-            count: tables,
-            size,
-        }),
+        Kind::Rewritable { tables, size, .. } => {
+            Ok(layout_of(volume, marks.len(), tables, size))
+        }
     }
 }
 

@@ -10,7 +10,7 @@ ghost use Rattle.model.specs.Disc.{disc as disc_of, sector};
 ghost use Rattle.model.specs.Writes.{write, writes};
 ghost use Rattle.model.specs.Sparing.{counts};
 ghost use Rattle.model.specs.Rewrite.{packet_writes, replaced, copies_to};
-ghost use Rattle.sparing_copy.specs.Layout.{geometry_in};
+ghost use Rattle.sparing_copy.specs.Layout.{geometry_in, TablesOn};
 ghost use Rattle.sparing_writes.specs.Order.{numbers_of, is_of, chosen, order_of};
 
 use address::{MediaBlockAddress, PhysicalAddress};
@@ -111,6 +111,7 @@ fn is_of(
     sequence: u32,
     at: PhysicalAddress,
 ) -> bool
+    requires count_bound { (x.count ≤ 4) × (x.size ≤ 2048) }
     requires disc_len { length disc.now ≡ 2048 * length marks.now }
     requires t_in_bounds { (t.0 < length marks.now) × (at.0 < length marks.now) }
     requires at_value { counts (disc_of disc.now marks.now) (geometry_in x) at.0 ≡ true }
@@ -133,8 +134,9 @@ fn gather(
     places: &mut [PhysicalAddress; 4],
     before: usize,
 ) -> usize
+    requires count_bound { (x.count ≤ 4) × (x.size ≤ 2048) }
     requires disc_len { length disc.now ≡ 2048 * length marks.now }
-    requires sectors_value { x.sectors ≡ length marks.now }
+    requires sectors_value { (x.sectors ≡ length marks.now) × TablesOn x }
     requires at_in_bounds { at.0 < length marks.now }
     requires at_value { counts (disc_of disc.now marks.now) (geometry_in x) at.0 ≡ true }
     requires room { before + length (chosen (disc_of disc.now marks.now) (geometry_in x) sequence wanted (geometry_in x).tables) ≤ 4 }
@@ -163,8 +165,9 @@ pub fn copy_order(
     sequence: u32,
     at: PhysicalAddress,
 ) -> [PhysicalAddress; 4]
+    requires count_bound { (x.count ≤ 4) × (x.size ≤ 2048) }
     requires disc_len { length disc.now ≡ 2048 * length marks.now }
-    requires sectors_value { x.sectors ≡ length marks.now }
+    requires sectors_value { (x.sectors ≡ length marks.now) × TablesOn x }
     requires at_in_bounds { at.0 < length marks.now }
     requires at_value { counts (disc_of disc.now marks.now) (geometry_in x) at.0 ≡ true }
     ensures result_value { take x.count (numbers_of result) ≡ order_of (disc_of disc.now marks.now) (geometry_in x) sequence }

@@ -26,7 +26,7 @@ pub write_made-requires : goal.write_made-requires
 write_made-requires c =
     let m = makes (setting c.args.maps.now c.args.s c.args.l) (disc c.args.disc.now c.args.marks.now) c.args.spares.now c.judge_make.ensures c.in_ok-layout.was in
     record {
-      sectors_value = sectors-are m.laid;
+      count_bound = (m.laid.few, sectors-are m.laid, m.laid.on);
       length_in_bounds = (omega (arith, m.span, span-start m.laid, span-length m.laid), m.few);
       disc_len = (m.shape, c.write_free.auto.sector);
     }

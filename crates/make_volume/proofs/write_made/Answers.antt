@@ -1,7 +1,7 @@
 -- `make_volume::write_made` meets its contract: the zeros, then the copies. Assumes nothing.
-use Prim.Native.Nat.{ℕ}
-use mathlib.Core.Path.{◌≡◌, sym, ap, ◌∙◌}
-use lib.ListN.{take}
+use Prim.Native.Nat.{ℕ, ◌<◌}
+use mathlib.Core.Path.{◌≡◌, ap, ◌∙◌}
+use lib.ListN.{get_or, take}
 use native.Mathlib.Omega.{arith}
 use Rattle.model.specs.Writes.{no_cut}
 use Rattle.sparing_copy.specs.Layout.{geometry_in}
@@ -12,8 +12,8 @@ use Rattle.make_volume.proofs.write_made.Goals as goal
 pub write_copies-requires-clause-by_index : goal.write_copies-requires-clause-by_index
 write_copies-requires-clause-by_index c i l =
     let x = c.args.x in
-    let on = rw (← c.from.ensures) at x.tables_on in
-    omega (arith, copies-on _ _ _ x.sectors c.table_places-places.ensures on i l, c.requires.sectors_value, c.write_zeros.auto.marks)
+    let on : (k : ℕ) → k < c.from.result → get_or x.volume.tables k 0 < x.sectors = λ k h. c.requires.count_bound.2 k (omega (arith, h, c.from.ensures)) in
+    omega (arith, copies-on _ _ _ x.sectors c.table_places-places.ensures on i l, c.requires.count_bound.1, c.write_zeros.auto.marks)
 
 pub returns : goal.returns
 unfolding no_cut

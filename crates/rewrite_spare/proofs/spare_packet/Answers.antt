@@ -4,7 +4,7 @@ use mathlib.Core.Path.{ap, ◌∙◌}
 use native.Mathlib.Omega.{arith}
 use borrow.Author.Rules.{rules}
 use Rattle.model.specs.Writes.{struck}
-use Rattle.rewrite_spare.proofs.Spares.{spare-refused, spare-disc, spare-place, spare-copy, spare-asks, spare-ordered, spare-room, spare-cut, spare-done}
+use Rattle.rewrite_spare.proofs.Spares.{spare-refused, spare-layout, spare-disc, spare-place, spare-copy, spare-asks, spare-ordered, spare-room, spare-cut, spare-done}
 use Rattle.rewrite_spare.proofs.spare_packet.Goals as goal
 
 pub returns-in_err-sparing : goal.returns-in_err-sparing
@@ -18,10 +18,12 @@ write_spared-requires-clause-ordered c = spare-ordered _ _ _ _ _ c.in_ok-sparing
 
 pub write_sparing-requires : goal.write_sparing-requires
 write_sparing-requires c =
+    let layout = spare-layout _ _ _ _ _ c.in_ok-sparing.ensures in
     let disc = spare-disc _ _ _ _ _ c.in_ok-sparing.ensures in
     let place = spare-place _ _ _ _ _ c.in_ok-sparing.ensures in
     record {
-      sectors_value = disc.2;
+      count_bound = (layout.0, layout.1);
+      sectors_value = (disc.2, layout.2);
       at_in_bounds = spare-copy _ _ _ _ _ c.in_ok-sparing.ensures;
       first_in_bounds = (place.0, disc.1, disc.0);
       packet_len = (place.1, c.write_spared.auto.sector);

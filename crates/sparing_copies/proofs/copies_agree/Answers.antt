@@ -5,8 +5,9 @@ use Rattle.sparing_copies.proofs.copies_agree.Goals as goal
 
 pub copy_agrees-requires : goal.copy_agrees-requires
 copy_agrees-requires c = let i = c.loop-table.table-index in record {
+  count_bound = c.requires.count_bound;
   disc_len = c.requires.disc_len;
-  t_in_bounds = (omega (arith, c.tables-tables.ensures.on i c.loop-table-test.true), c.requires.at_in_bounds);
+  t_in_bounds = (omega (arith, c.tables-tables.ensures.on c.requires.sectors_value.1 i c.loop-table-test.true), c.requires.at_in_bounds);
   at_value = c.requires.at_value;
 }
 

@@ -13,7 +13,7 @@ pub returns-then-sequence_at-sequence : goal.returns-then-sequence_at-sequence
 returns-then-sequence_at-sequence c = agrees-other _ _ _ _ _ (λ e. c.if-sequence_at-sequence.true (c.sequence_at.ensures _ ∙ e))
 
 pub same_table-requires : goal.same_table-requires
-same_table-requires c = record { t_in_bounds = (omega arith, omega arith); by_index = counts-short _ _ _ _ c.requires.at_value c.args.x.size_bound }
+same_table-requires c = record { t_in_bounds = (omega arith, omega arith); by_index = counts-short _ _ _ _ c.requires.at_value c.requires.count_bound.1 }
 
 pub returns-then-same_table : goal.returns-then-same_table
 returns-then-same_table c = c.if-same_table.true ∙ agrees-same _ _ _ _ _ (same_true _ _ (sym (c.same_table.ensures _) ∙ c.if-same_table.true))

@@ -11,9 +11,10 @@ pub copies_agree-requires : goal.copies_agree-requires
 copies_agree-requires c = let x = c.args.x in
     let is = sym c.in-Some.is ∙ c.newest_copy.ensures in
     record {
+      count_bound = c.requires.count_bound;
       disc_len = c.requires.disc_len;
       sectors_value = c.requires.sectors_value;
-      at_in_bounds = rw c.requires.sectors_value at (found-on _ _ _ (Some c.in-Some.newest) is _ (tables-below x.volume.tables x.count x.sectors x.tables_on));
+      at_in_bounds = rw c.requires.sectors_value.0 at (found-on _ _ _ (Some c.in-Some.newest) is _ (tables-below x.volume.tables x.count x.sectors c.requires.sectors_value.1));
       at_value = found-counts _ _ _ (Some c.in-Some.newest) is;
     }
 
@@ -27,9 +28,9 @@ whole t m d h e = omega arith
 pub count_at-requires : goal.count_at-requires
 count_at-requires c = let x = c.args.x in
     let is = sym c.in-Some.is ∙ c.newest_copy.ensures in
-    whole _ _ _ (rw c.requires.sectors_value at (found-on _ _ _ (Some c.in-Some.newest) is _ (tables-below x.volume.tables x.count x.sectors x.tables_on))) c.requires.disc_len
+    whole _ _ _ (rw c.requires.sectors_value.0 at (found-on _ _ _ (Some c.in-Some.newest) is _ (tables-below x.volume.tables x.count x.sectors c.requires.sectors_value.1))) c.requires.disc_len
 
 pub returns : goal.returns
 returns c = let x = c.args.x in
     let is = sym c.in-Some.is ∙ c.newest_copy.ensures in
-    current-found _ _ _ is _ (sym c.copies_agree.ensures ∙ c.if-not-copies_agree.false) (found-on _ _ _ (Some c.in-Some.newest) is _ (tables-below x.volume.tables x.count x.sectors x.tables_on)) (c.from-entries.ensures ∙ c.count_at.ensures _)
+    current-found _ _ _ is _ (sym c.copies_agree.ensures ∙ c.if-not-copies_agree.false) (found-on _ _ _ (Some c.in-Some.newest) is _ (tables-below x.volume.tables x.count x.sectors c.requires.sectors_value.1)) (c.from-entries.ensures ∙ c.count_at.ensures _)

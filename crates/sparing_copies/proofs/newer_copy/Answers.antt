@@ -11,6 +11,7 @@ use Rattle.sparing_copies.proofs.newer_copy.Goals.{in-Some+then-other-sequence, 
 
 pub counts_beside-requires : goal.counts_beside-requires
 counts_beside-requires c = record {
+  count_bound = c.requires.count_bound;
   disc_len = c.requires.disc_len;
   t_in_bounds = (c.requires.t_in_bounds, rw c.in-Some.is at c.requires.at_in_bounds);
   at_value = rw c.in-Some.is at c.requires.at_value;

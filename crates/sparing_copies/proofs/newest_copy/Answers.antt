@@ -11,8 +11,9 @@ loop-i-init c = let t = c.tables-tables.result.now in newest-none _ _ t (length 
 pub newer_copy-newest-requires : goal.newer_copy-newest-requires
 newer_copy-newest-requires c = let v = c.loop-i in
     let t = c.tables-tables.result.now in
-    let on = rw c.requires.sectors_value at c.tables-tables.ensures.on in
+    let on = rw c.requires.sectors_value.0 at (c.tables-tables.ensures.on c.requires.sectors_value.1) in
     record {
+      count_bound = c.requires.count_bound;
       disc_len = c.requires.disc_len;
       t_in_bounds = omega (arith, on (v.i - 1) (omega arith));
       at_in_bounds = found-on _ _ _ v.newest v.invariant _ (later-below t v.i _ on);

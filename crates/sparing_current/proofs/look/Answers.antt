@@ -6,11 +6,10 @@ use Rattle.sparing_current.proofs.look.Goals as goal
 pub returns-in_err-layout : goal.returns-in_err-layout
 returns-in_err-layout c = look-stopped _ _ _ c.in_err-layout.ensures (search rules)
 
-pub find_current-requires-clause-disc_len : goal.find_current-requires-clause-disc_len
-find_current-requires-clause-disc_len c = (look-asks _ _ _ c.in_ok-layout.ensures).0
-
-pub find_current-requires-clause-sectors_value : goal.find_current-requires-clause-sectors_value
-find_current-requires-clause-sectors_value c = (look-asks _ _ _ c.in_ok-layout.ensures).1
+pub find_current-requires : goal.find_current-requires
+find_current-requires c =
+    let n = look-asks _ _ _ c.in_ok-layout.ensures in
+    record { count_bound = (n.0, n.1); disc_len = n.2; sectors_value = (n.3, n.4) }
 
 pub returns-in_err-current : goal.returns-in_err-current
 returns-in_err-current c = look-copies _ _ _ c.in_ok-layout.ensures c.in_err-current.ensures (search rules)

@@ -12,8 +12,9 @@ loop-table-init c = gathering-first _ _ _ _ _ _ _ (numbers-length _ ∙ c.told-p
 
 pub is_of-requires : goal.is_of-requires
 is_of-requires c = let i = c.loop-table.table-index in record {
+  count_bound = c.requires.count_bound;
   disc_len = c.requires.disc_len;
-  t_in_bounds = (omega (arith, c.tables-tables.ensures.on i c.loop-table-test.true), c.requires.at_in_bounds);
+  t_in_bounds = (omega (arith, c.tables-tables.ensures.on c.requires.sectors_value.1 i c.loop-table-test.true), c.requires.at_in_bounds);
   at_value = c.requires.at_value;
 }
 

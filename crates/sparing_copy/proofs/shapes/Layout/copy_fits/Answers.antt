@@ -27,8 +27,8 @@ pub returns-else-is_ascending : goal.returns-else-is_ascending
 unfolding count_in
 returns-else-is_ascending c = c.if-is_ascending.false ∙ copy-ascending _ _ (sym c.read.ensures ∙ c.if-read-ne0.false) _ c.read-count.ensures (omega arith) (sym c.is_named.ensures ∙ c.if-is_named.true) (sym c.originals_fit.ensures ∙ c.if-originals_fit.true) (sym c.is_ascending.ensures ∙ c.if-is_ascending.false)
 
-pub packets_fit-requires : goal.packets_fit-requires
-packets_fit-requires c = sym c.originals_fit.ensures ∙ c.if-originals_fit.true
+pub packets_fit-requires-clause-originals : goal.packets_fit-requires-clause-originals
+packets_fit-requires-clause-originals c = sym c.originals_fit.ensures ∙ c.if-originals_fit.true
 
 pub returns-then-is_ascending : goal.returns-then-is_ascending
 unfolding count_in
