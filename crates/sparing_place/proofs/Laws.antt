@@ -1,6 +1,6 @@
 -- Laws of where a block is: how a call's own tests follow lines 1 to 8, 10 to 12 and 30, and what these tell of a call that goes on. Assumes
 -- nothing.
-use Prim.Native.Nat.{ℕ, ◌+◌, ◌*◌, ◌≤◌, ◌<◌}
+use Prim.Native.Nat.{ℕ, ◌+◌, ◌*◌, ◌%◌, ◌≤◌, ◌<◌}
 use mathlib.Core.Bool.{Bool, true, false, not, ◌&&◌}
 use mathlib.Core.Path.{◌≡◌, refl, sym, ap, ◌∙◌}
 use mathlib.Core.List.{List, [], ◌∷◌}
@@ -33,8 +33,8 @@ use Rattle.sparing_current.specs.Held.{count_held, entries_lent}
 use Rattle.sparing_current.proofs.Laws.{Common, common, rewritable-own, rewritable-stops, rewritable-goes}
 use Rattle.sparing_current.proofs.Looks.{span-start, span-length}
 use Rattle.sparing_current.proofs.Held.{room-held, entries-lent, place-lent, place-on}
-use Rattle.sparing_place.specs.Placed.{PlacedAs, Places, PlacesPacket, JudgesStart}
-use Rattle.sparing_place.proofs.Packets.{as_lines, packet-tells}
+use Rattle.sparing_place.specs.Placed.{PlacedAs, Places, PlacesPacket}
+use Rattle.sparing_place.proofs.Packets.{packet-off, as_lines, packet-as-block}
 
 -- ---- the lent table
 
@@ -148,28 +148,17 @@ module _ {e : Setting} {d : Disc} {t : List ℕ} {lent : Bool} {held : Record} {
       let v = goes-call j (block_test e b.0 ∷ spare_test e d b.0 ∷ []) lines_are in
       rw (q, sym v, sym place_is) (as_place (packet_verdict span (entries_lent t held) b) _)
 
-  -- the lines of a packet's start
-  module _ {w : Verdict} (judged : JudgesStart span t held b.0 w) where
-    start_is : w ≡ first (packet_tests e d b.0)
-    start_is = judged e d (sym start) (sym (span-length j.found.layout)) (sym (entries-lent (going j)))
+  -- b is no packet's start, and line 12 turns the call down
+  pub packet-stopped : (b.0 % 32 ≡ 0 → ⊥) → PlacesPacket e d t lent held b.0 (Err NumberOutside)
+  packet-stopped h = placed-stop (goes-call j (packet_tests e d b.0) (packet-off e d b.0 h)) refl
 
-    -- one of them turns it down
-    pub packet-stopped : {why : Refusal} {r : Result PhysicalAddress Refusal} → w ≡ Err why → r ≡ Err why → PlacesPacket e d t lent held b.0 r
-    packet-stopped h = placed-stop (goes-call j (packet_tests e d b.0) (sym h ∙ start_is))
-
-    -- none does, and S and the number have a small sum
-    pub packet-sum : w ≡ Ok tt → span.start + b.0 < 4294967296
-    packet-sum h =
-        let low = (packet-tells e d b.0 (sym start_is ∙ h)).low in
-        omega (arith, low, (translation-asks j).1, span-length j.found.layout)
-
-    -- and the packet is at p
-    pub packet-placed : {p : PhysicalAddress} → w ≡ Ok tt → p.0 ≡ locate span.start (entries_lent t held) (packet_of b.0) → PlacesPacket e d t lent held b.0 (Ok p)
-    packet-placed h at =
-        record {
-          verdict = goes-call j (packet_tests e d b.0) (sym h ∙ start_is);
-          place = at ∙ place_is ∙ ap (place_of e d) (packet-own b.0 (packet-tells e d b.0 (sym start_is ∙ h)).start);
-        }
+  -- it is one, and the packet is where it is translated to
+  pub packet-placed : b.0 % 32 ≡ 0 → {to : Result PhysicalAddress Refusal} → to ≡ packet_physical span (entries_lent t held) b → PlacesPacket e d t lent held b.0 to
+  unfolding packet_physical
+  packet-placed h q =
+      let v = goes-call j (packet_tests e d b.0) (lines_are ∙ packet-as-block e d b.0 h) in
+      let at = place_is ∙ ap (place_of e d) (packet-own b.0 h) in
+      rw (q, sym v, sym at) (as_place (packet_verdict span (entries_lent t held) b) _)
 
 -- ---- what a call that goes on may rely on; p is where the packet of block b begins
 

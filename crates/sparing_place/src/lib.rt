@@ -3,7 +3,7 @@
 // All functions here are inside the layers: where one has a `requires`, the callers have tested it.
 #![tactic(auto)]
 
-ghost use Rattle.std.specs.Prelude.{◌≡◌, true, ◌+◌, ◌*◌, ◌^◌, ◌≤◌, ◌<◌, length};
+ghost use Rattle.std.specs.Prelude.{◌≡◌, true, ◌+◌, ◌*◌, ◌%◌, ◌^◌, ◌≤◌, ◌<◌, eqb, length};
 ghost use Rattle.refusal.specs.Number.{answer_number};
 ghost use Rattle.model.specs.Disc.{disc as disc_of};
 ghost use Rattle.model.specs.Examine.{setting};
@@ -15,6 +15,13 @@ use address::{LogicalAddress, PhysicalAddress, Span};
 use maps::PACKET;
 use model::Record;
 use refusal::Refusal;
+
+// Whether block b is a packet's start.
+fn is_start(b: LogicalAddress) -> bool
+    ensures { result ≡ eqb (b.0 % 32) 0 }
+{
+    b.0 % PACKET == 0
+}
 
 // Lines 12 and 30 of a block: it is below L, and no spare's. Inside the layers: lines 2 and 11 have been tested.
 fn judge_number(span: Span, table: &[u32], held: Record, b: LogicalAddress) -> Result<(), Refusal>
@@ -40,7 +47,7 @@ pub fn judge_start(
     requires { (2 * count_held held ≤ length table.now) × (span.start + span.length < 2 ^ 32) }
     ensures { JudgesStart span table.now held b.0 result }
 {
-    if b.0 % PACKET != 0 {
+    if !is_start(b) {
         return Err(Refusal::NumberOutside);
     }
     judge_number(span, table, held, b)
@@ -100,6 +107,8 @@ pub fn place_packet(
 {
     let looked = sparing_current::judge(disc, marks, maps, s, l, table, lent, held)?;
     let span = looked.layout.volume.span;
-    judge_start(span, table, held, b)?;
-    Ok(sparing_current::packet_place(table, held, span.start, b))
+    if !is_start(b) {
+        return Err(Refusal::NumberOutside);
+    }
+    packet_to_physical(span, table, held, b)
 }

@@ -1,21 +1,18 @@
--- `sparing_place::place_packet` meets its contract: the common tests, the lines of a packet's start, and then its place. Assumes nothing.
+-- `sparing_place::place_packet` meets its contract: the common tests, line 12 of a packet, and then the translation. Assumes nothing.
+use mathlib.Core.Path.{sym, ◌∙◌}
 use borrow.Author.Rules.{rules}
-use Rattle.sparing_place.proofs.Laws.{stops_call, translation-asks, placed-stop, packet-stopped, packet-sum, packet-placed}
+use borrow.Author.Tests.{eqb-true, eqb-false}
+use Rattle.sparing_place.proofs.Laws.{stops_call, translation-asks, placed-stop, packet-stopped, packet-placed}
 use Rattle.sparing_place.proofs.place_packet.Goals as goal
 
 pub returns-in_err-looked : goal.returns-in_err-looked
 returns-in_err-looked c = placed-stop (stops_call _ c.in_err-looked.ensures) (search rules)
 
-pub judge_start-requires : goal.judge_start-requires
-judge_start-requires c = translation-asks c.in_ok-looked.ensures
+pub returns-then-not-is_start : goal.returns-then-not-is_start
+returns-then-not-is_start c = packet-stopped c.in_ok-looked.ensures _ (eqb-false _ _ (sym c.is_start.ensures ∙ c.if-not-is_start.true))
 
-pub returns-in_err-judge_start : goal.returns-in_err-judge_start
-returns-in_err-judge_start c = packet-stopped c.in_ok-looked.ensures _ c.judge_start.ensures c.in_err-judge_start.was (search rules)
-
-pub packet_place-requires : goal.packet_place-requires
-packet_place-requires c =
-    let j = c.in_ok-looked.ensures in
-    ((translation-asks j).0, packet-sum j _ c.judge_start.ensures c.in_ok-judge_start.was)
+pub packet_to_physical-requires : goal.packet_to_physical-requires
+packet_to_physical-requires c = translation-asks c.in_ok-looked.ensures
 
 pub returns : goal.returns
-returns c = packet-placed c.in_ok-looked.ensures _ c.judge_start.ensures c.in_ok-judge_start.was c.packet_place.ensures
+returns c = packet-placed c.in_ok-looked.ensures _ (eqb-true _ _ (sym c.is_start.ensures ∙ c.if-not-is_start.false)) c.packet_to_physical.ensures.value
