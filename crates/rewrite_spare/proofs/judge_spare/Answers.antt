@@ -1,6 +1,7 @@
 -- `rewrite_spare::judge_spare` meets its contract: the common tests, and then its own. Assumes nothing.
 use native.Mathlib.Omega.{arith}
 use borrow.Author.Rules.{rules}
+use Rattle.sparing_current.specs.Held.{count_held}
 use Rattle.sparing_place.proofs.Laws.{table-lent, translation-asks}
 use Rattle.rewrite_spare.proofs.Spares.{spare-stops, spare-number, spare-one, spare-none, spare-last, spare-fits}
 use Rattle.rewrite_spare.proofs.judge_spare.Goals as goal
@@ -12,7 +13,10 @@ pub returns-in_err-looked : goal.returns-in_err-looked
 returns-in_err-looked c = spare-stops _ _ _ _ _ c.are_lent-lent.ensures c.in_err-looked.ensures (search rules)
 
 pub judge_start-requires : goal.judge_start-requires
-judge_start-requires c = translation-asks c.in_ok-looked.ensures
+unfolding count_held
+judge_start-requires c =
+    let asks = translation-asks c.in_ok-looked.ensures in
+    (omega (arith, asks.0), asks.1)
 
 pub returns-in_err-judge_start : goal.returns-in_err-judge_start
 returns-in_err-judge_start c = spare-number _ _ _ _ _ c.are_lent-lent.ensures c.in_ok-looked.ensures c.judge_start.ensures c.in_err-judge_start.was (search rules)
