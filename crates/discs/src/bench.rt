@@ -9,13 +9,12 @@ use maps::{Kind, Volume};
 use model::{Cut, Effect, PACKET_BYTES, Record, SECTOR, VAT_REGID};
 use refusal::Refusal;
 use say::{Answer, Out};
-use std::alloc::{AllocError, Global};
 use std::io;
 use std::io::Write;
 use tag::{CHECKSUM_AT, CRC_AT, CRC_LENGTH_AT, IDENTIFIER_AT, LOCATION_AT, TAG_BYTES, VERSION_AT};
 
 // How many sectors the disc has, and how many entries the table.
-const SECTORS: usize = 2144;
+pub const SECTORS: usize = 2144;
 
 const ENTRIES: usize = 4096;
 
@@ -34,10 +33,12 @@ const FILE_ENTRY: u16 = 261;
 
 const VERSION: u16 = 2;
 
+// The disc is lent beside the bench: inside it, it would stand in memory twice while a bench is made.
+pub type Disc = [[u8; SECTOR]; SECTORS];
+
 #[derive(Drop)]
 pub struct Bench {
-    // lent, as much of each as `lent` says
-    disc: Vec<[u8; SECTOR]>,
+    // lent, as the disc is: as much of each as `lent` says
     marks: [u8; SECTORS],
     table: [u32; ENTRIES],
     list: [u8; WRITE_ONCE],
@@ -106,10 +107,16 @@ fn put(bytes: &mut [u8], at: usize, part: &[u8]) {
     }
 }
 
+// Sets a number of 4 bytes in a sector, if all are there.
+fn poke(disc: &mut Disc, at: usize, place: usize, number: u32) {
+    if let Some(sector) = disc.get_mut(at) {
+        put(sector, place, &number.to_le_bytes());
+    }
+}
+
 impl Bench {
-    pub fn new(alloc: Global) -> Result<Bench, AllocError> {
-        Ok(Bench {
-            disc: vec![in alloc; [0; SECTOR]; SECTORS]?,
+    pub fn new() -> Bench {
+        Bench {
             marks: [0; SECTORS],
             table: [0; ENTRIES],
             list: [0; WRITE_ONCE],
@@ -119,24 +126,24 @@ impl Bench {
             span: FRESH_SPAN,
             held: FRESH_RECORD,
             cut: FRESH_CUT,
-        })
+        }
     }
 
     // Does what a line asks for, and prints what came of it.
-    pub fn run(&mut self, out: &mut Out, command: Command) -> io::Result<()> {
+    pub fn run(&mut self, out: &mut Out, disc: &mut Disc, command: Command<'_>) -> io::Result<()> {
         match command {
-            Command::Clear => self.clear(),
+            Command::Clear => self.clear(disc),
             Command::Span(span) => self.span = span,
             Command::Held(held) => self.held = held,
             Command::Cut(cut) => self.cut = cut,
             Command::Lend(lent) => self.lent = lent,
             Command::Mark { sector, mark } => set(&mut self.marks, sector, mark),
             Command::Put { sector, mark } => {
-                self.record(sector);
+                self.record(disc, sector);
                 set(&mut self.marks, sector, mark);
             }
-            Command::Poke { sector, at, number } => self.poke(sector, at, number),
-            Command::Show { sector } => self.show(out, sector)?,
+            Command::Poke { sector, at, number } => poke(disc, sector, at, number),
+            Command::Show { sector } => self.show(out, disc, sector)?,
             Command::Entry { number, block } => set(&mut self.table, number, block),
             Command::Fill(numbers) => self.fill(numbers),
             Command::Table => self.show_table(out)?,
@@ -151,13 +158,13 @@ impl Bench {
             Command::Regid { at } => put(&mut self.block, at, &VAT_REGID),
             Command::Tagged { block, covered } => self.set_tag(block, covered),
             Command::Sum => self.set_sum(),
-            Command::Call(call) => self.call(out, call)?,
+            Command::Call(call) => self.call(out, disc, call)?,
         }
         Ok(())
     }
 
-    fn clear(&mut self) {
-        for sector in self.disc.iter_mut() {
+    fn clear(&mut self, disc: &mut Disc) {
+        for sector in disc.iter_mut() {
             *sector = [0; SECTOR];
         }
         self.marks.fill(0);
@@ -179,20 +186,14 @@ impl Bench {
     }
 
     // Writes the block to a sector.
-    fn record(&mut self, at: usize) {
-        if let Some(sector) = self.disc.get_mut(at) {
+    fn record(&self, disc: &mut Disc, at: usize) {
+        if let Some(sector) = disc.get_mut(at) {
             sector.copy_from_slice(&self.block[..SECTOR]);
         }
     }
 
-    fn poke(&mut self, at: usize, place: usize, number: u32) {
-        if let Some(sector) = self.disc.get_mut(at) {
-            put(sector, place, &number.to_le_bytes());
-        }
-    }
-
-    fn show(&self, out: &mut Out, at: usize) -> io::Result<()> {
-        if let Some(sector) = self.disc.get(at)
+    fn show(&self, out: &mut Out, disc: &Disc, at: usize) -> io::Result<()> {
+        if let Some(sector) = disc.get(at)
             && let Some(mark) = self.marks.get(at)
         {
             return write!(out, ": mark {mark:02x}, crc {:04x}", tag::crc(sector, 0));
@@ -251,8 +252,8 @@ impl Bench {
     }
 
     // Calls, prints the answer, and keeps the record that it hands on.
-    fn call(&mut self, out: &mut Out, call: Call) -> io::Result<()> {
-        let answer = self.answer(call);
+    fn call(&mut self, out: &mut Out, disc: &mut Disc, call: Call<'_>) -> io::Result<()> {
+        let answer = self.answer(disc, call);
         if let Ok(outcome) = answer
             && let Some(record) = outcome.handed()
         {
@@ -261,8 +262,8 @@ impl Bench {
         write!(out, ": {}", Answer(answer))
     }
 
-    fn answer(&mut self, call: Call) -> Result<Outcome, Refusal> {
-        let disc = first_mut(self.disc.as_flattened_mut(), self.lent.disc);
+    fn answer(&mut self, disc: &mut Disc, call: Call<'_>) -> Result<Outcome, Refusal> {
+        let disc = first_mut(disc.as_flattened_mut(), self.lent.disc);
         let marks = first_mut(&mut self.marks, self.lent.marks);
         let table = first_mut(&mut self.table, self.lent.table);
         let maps = first(&self.list, self.lent.list);
@@ -275,8 +276,8 @@ impl Bench {
         let held = self.held;
         let cut = self.cut;
         match call {
-            Call::Make(spares) => {
-                blocks::make(disc, marks, maps, s, l, &spares)?;
+            Call::Make { spares, count } => {
+                blocks::make(disc, marks, maps, s, l, first(&spares, count))?;
                 Ok(Outcome::Made)
             }
             Call::Open => {
@@ -292,7 +293,7 @@ impl Bench {
                 Ok(Outcome::PerMille(n))
             }
             Call::Forecast(items) => {
-                let forecast = blocks::forecast(disc, marks, maps, s, l, table, held, &items)?;
+                let forecast = blocks::forecast(disc, marks, maps, s, l, table, held, items)?;
                 Ok(Outcome::Forecast(forecast))
             }
             Call::Save(v) => {

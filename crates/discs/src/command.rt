@@ -4,7 +4,6 @@ use crate::line::Line;
 use address::Span;
 use maps::{Kind, Volume};
 use model::{Cut, Effect, Record};
-use std::alloc::{AllocError, Global};
 
 // How many elements of each part are lent.
 #[derive(Clone, Copy)]
@@ -18,10 +17,10 @@ pub struct Lengths {
 }
 
 // The calls.
-#[derive(Drop)]
-pub enum Call {
-    // make, with the spares
-    Make(Vec<u32>),
+#[derive(Clone, Copy)]
+pub enum Call<'a> {
+    // make, with the first so many of these spares
+    Make { spares: [u32; 4], count: usize },
     // open
     Open,
     // read V
@@ -29,7 +28,7 @@ pub enum Call {
     // fullness
     Fullness,
     // forecast, with its items
-    Forecast(Vec<u32>),
+    Forecast(&'a [u32]),
     // on a write-once disc: save V; free V; commit
     Save(u32),
     Free(u32),
@@ -40,8 +39,8 @@ pub enum Call {
     Spare(u32),
 }
 
-#[derive(Drop)]
-pub enum Command {
+#[derive(Clone, Copy)]
+pub enum Command<'a> {
     // clear: the disc blank, and what is handed and lent as it was at first
     Clear,
 
@@ -116,7 +115,7 @@ pub enum Command {
     },
     Sum,
 
-    Call(Call),
+    Call(Call<'a>),
 }
 
 // How a write is cut: unreadable or whole by the first letter, else the sector is as it was.
@@ -145,9 +144,9 @@ pub fn write_once() -> Volume {
     volume(Kind::WriteOnce { partition: 7 }, [0; 4])
 }
 
-impl Command {
-    // None where the name is none of these.
-    pub fn read(alloc: Global, line: Line<'_>) -> Result<Option<Command>, AllocError> {
+impl<'a> Command<'a> {
+    // None where the name is none of these. The items of a forecast are written to the places.
+    pub fn read(line: Line<'_>, places: &'a mut [u32]) -> Option<Command<'a>> {
         let command = match &line.name() {
             b"clea" => Command::Clear,
             b"span" => Command::Span(Span {
@@ -195,12 +194,7 @@ impl Command {
                 number: line.size(1),
                 block: line.number(2),
             },
-            b"fill" => Command::Fill([
-                line.number(1),
-                line.number(2),
-                line.number(3),
-                line.number(4),
-            ]),
+            b"fill" => Command::Fill(line.numbers()),
             b"tabl" => Command::Table,
             b"numb" => Command::Numbers {
                 count: line.size(1),
@@ -243,7 +237,10 @@ impl Command {
                 covered: line.number(2),
             },
             b"sum " => Command::Sum,
-            b"make" => Command::Call(Call::Make(line.numbers(alloc)?)),
+            b"make" => Command::Call(Call::Make {
+                spares: line.numbers(),
+                count: line.count(),
+            }),
             b"open" => Command::Call(Call::Open),
             b"read" => Command::Call(Call::Read(line.number(1))),
             b"full" => Command::Call(Call::Fullness),
@@ -254,10 +251,7 @@ impl Command {
                     count: line.number(3),
                     saves: line.number(4),
                 };
-                let Some(list) = items.list(alloc)? else {
-                    return Ok(None);
-                };
-                Command::Call(Call::Forecast(list))
+                Command::Call(Call::Forecast(items.list(places)?))
             }
             b"save" => Command::Call(Call::Save(line.number(1))),
             b"free" => Command::Call(Call::Free(line.number(1))),
@@ -265,8 +259,8 @@ impl Command {
             b"chan" => Command::Call(Call::Change(line.number(1))),
             b"pack" => Command::Call(Call::Packet(line.number(1))),
             b"spar" => Command::Call(Call::Spare(line.number(1))),
-            _ => return Ok(None),
+            _ => return None,
         };
-        Ok(Some(command))
+        Some(command)
     }
 }

@@ -1,12 +1,11 @@
 // forecast V STEP COUNT SAVES: the forecast of COUNT items, of which the one behind every SAVES others stands for a commit;
 // the others are V again and again if STEP is 0, else V, V + 1 and so on.
-ghost use Rattle.std.specs.Prelude.{◌≡◌, vec_len, IfOk, IfSome};
+ghost use Rattle.std.specs.Prelude.{◌≡◌, length, IfSome};
 
 use once_forecast::COMMIT;
-use std::alloc::{AllocError, Global};
 
 // The most items.
-const MOST: u32 = 4352;
+pub const MOST: usize = 4352;
 
 #[derive(Clone, Copy)]
 pub struct Items {
@@ -30,14 +29,14 @@ impl Items {
         self.first.wrapping_add(i - commits)
     }
 
-    // The items, from the first on; none where there are too many.
-    pub fn list(self, alloc: Global) -> Result<Option<Vec<u32>>, AllocError>
-        ensures { IfOk result (λ list. IfSome list (λ v. vec_len v ≡ self.count)) }
+    // The items, from the first on, in the first of these places; none where there are too few places.
+    pub fn list(self, places: &mut [u32]) -> Option<&[u32]>
+        ensures { IfSome result (λ items. length items.now ≡ self.count) }
     {
-        if MOST < self.count {
-            return Ok(None);
+        let items = places.get_mut(..self.count as usize)?;
+        for (item, i) in items.iter_mut().zip(0..self.count) {
+            *item = self.item(i);
         }
-        let items = (0..self.count).map(|i| self.item(i)).collect(alloc)?;
-        Ok(Some(items))
+        Some(items)
     }
 }

@@ -1,7 +1,5 @@
 // A line of the file stdin: a name, of which the first four letters count, and numbers, each behind a blank.
-ghost use Rattle.std.specs.Prelude.{◌≤◌, length, vec_len, IfOk};
-
-use std::alloc::{AllocError, Global};
+ghost use Rattle.std.specs.Prelude.{◌≤◌, length};
 
 // An unused entry, written as none.
 const NONE: u32 = 0xffffffff;
@@ -65,9 +63,19 @@ impl<'a> Line<'a> {
         self.word(n).first().copied()
     }
 
-    // The numbers behind the name, the first few at most. A blank at the line's end has none behind it.
-    pub fn numbers(self, alloc: Global) -> Result<Vec<u32>, AllocError>
-        ensures { IfOk result (λ v. vec_len v ≤ 4) }
+    // The first numbers behind the name.
+    pub fn numbers(self) -> [u32; MOST] {
+        [
+            self.number(1),
+            self.number(2),
+            self.number(3),
+            self.number(4),
+        ]
+    }
+
+    // How many of these there are. A blank at the line's end has none behind it.
+    pub fn count(self) -> usize
+        ensures { result ≤ 4 }
     {
         self.text
             .strip_suffix(b" ")
@@ -75,7 +83,6 @@ impl<'a> Line<'a> {
             .split(|byte| *byte == b' ')
             .skip(1)
             .take(MOST)
-            .map(|word| number(word))
-            .collect(alloc)
+            .count()
     }
 }

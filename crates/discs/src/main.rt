@@ -9,11 +9,11 @@ mod forecast;
 mod line;
 mod outcome;
 
-use bench::Bench;
+use bench::{Bench, Disc, SECTORS};
 use command::Command;
 use line::Line;
+use model::SECTOR;
 use say::Out;
-use std::alloc::Global;
 use std::io;
 use std::io::{Read, Write};
 
@@ -21,20 +21,28 @@ use std::io::{Read, Write};
 const MOST_SCRIPT: u64 = 131072;
 
 // A line is printed, and then what comes of it.
-fn step(alloc: Global, out: &mut Out, bench: &mut Bench, text: &[u8]) -> io::Result<()> {
+fn step(
+    out: &mut Out,
+    bench: &mut Bench,
+    disc: &mut Disc,
+    places: &mut [u32],
+    text: &[u8],
+) -> io::Result<()> {
     out.write_all(text)?;
-    if let Some(command) = Command::read(alloc, Line { text })? {
-        bench.run(out, command)?;
+    if let Some(command) = Command::read(Line { text }, places) {
+        bench.run(out, disc, command)?;
     }
     out.write_all(b"\n")
 }
 
 // Each line ends with a newline; the last byte of all ends the last one, whatever it is.
-fn run(alloc: Global, out: &mut Out, script: &[u8]) -> io::Result<()> {
-    let mut bench = Bench::new(alloc)?;
+fn run(out: &mut Out, script: &[u8]) -> io::Result<()> {
+    let mut disc = [[0; SECTOR]; SECTORS];
+    let mut bench = Bench::new();
+    let mut places = [0; forecast::MOST];
     if let Some((_, lines)) = script.split_last() {
         for line in lines.split(|byte| *byte == b'\n') {
-            step(alloc, out, &mut bench, line)?;
+            step(out, &mut bench, &mut disc, &mut places, line)?;
         }
     }
     Ok(())
@@ -44,6 +52,6 @@ fn main(rt: HostRuntime) -> io::Result<()> {
     let mut script = Vec::new(rt.alloc());
     rt.stdin().take(MOST_SCRIPT).read_to_end(&mut script)?;
     let mut out = say::out(&rt)?;
-    run(rt.alloc(), &mut out, &script)?;
+    run(&mut out, &script)?;
     out.flush()
 }
