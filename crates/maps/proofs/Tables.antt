@@ -1,19 +1,17 @@
 -- Laws of the table sectors of a rewritable volume: four places, of which up to four are used. Assumes nothing.
-use Prim.Native.Nat.{ℕ, zero, suc, ◌+◌, ◌-◌, ◌*◌, ◌%◌, ◌≤◌, ◌<◌}
+use Prim.Native.Nat.{ℕ, zero, suc, ◌+◌, ◌*◌, ◌%◌, ◌≤◌, ◌<◌}
 use mathlib.Core.Path.{◌≡◌, refl, sym, ap, ◌∙◌}
 use mathlib.Core.List.{List, [], ◌∷◌}
-use mathlib.Core.Bool.{Bool, true, false, not, false≢true}
+use mathlib.Core.Bool.{true, false}
 use native.Mathlib.Omega.{arith}
 use native.Mathlib.Numerals.{add-one}
-use borrow.Author.Tests.{eq-eqb, ne_eqb, eqb-true, leb-true}
-use lib.Dec.{eqb, leb}
+use borrow.Author.Tests.{eq-eqb, ne_eqb, leb-true}
+use lib.Dec.{leb}
 use lib.ListN.{length, get_or, take, drop, set, replicate, length-append, length-take, drop_of_length-le}
 use lib.Seq.{get_or-take, drop-cons}
 use Rattle.fields.specs.Number.{field}
 use Rattle.maps.specs.Kinds.{words, tables_in_range, used, absent, tables_apart}
-use Rattle.fields.proofs.Tests.{both, by-test}
-use Rattle.std.specs.List.{list_any}
-use Rattle.std.proofs.lemmas.List.{drop-take}
+use Rattle.fields.proofs.Tests.{both}
 
 -- ---- four places
 
@@ -26,23 +24,6 @@ length-used n t = simp (length-take, length-append) (omega arith)
 pub few-tables : (n size : ℕ) → tables_in_range n size ≡ true → n ≤ 4
 unfolding tables_in_range
 few-tables n size q = leb-true _ _ (both (leb n 4) _ (both (leb 1 n) _ q).1).0
-
--- ---- a sector among others
-
--- none of some sectors is x, as searching them tells
-not-any : (x : ℕ) (l : List ℕ) → not (list_any (λ (y : ℕ). eqb y x) l) ≡ absent x l
-unfolding absent
-not-any x [] = refl
-not-any x (y ∷ l) =
-    by-test (eqb x y)
-    (λ h. let e = eq-eqb y x (sym (eqb-true x y h)) in simp (h, e))
-    (λ h. let e = ne_eqb y x (λ q. false≢true (sym h ∙ eq-eqb x y (sym q))) in simp (h, e, not-any x l))
-
--- the same of those from place i up to n
-pub searched : (x i n : ℕ) (t : List ℕ) {b : Bool} → i ≤ n → b ≡ list_any (λ (y : ℕ). eqb y x) (take (n - i) (drop i t)) → not b ≡ absent x (drop i (take n t))
-searched x i n t h e =
-    let k : i + (n - i) ≡ n = omega arith in
-    ap not e ∙ not-any x (take (n - i) (drop i t)) ∙ ap (absent x) (sym (drop-take i (n - i) t) ∙ ap (λ (m : ℕ). drop i (take m t)) k)
 
 -- ---- the table sectors, one place at a time
 
@@ -73,6 +54,21 @@ module _ (t : List ℕ) (n i : ℕ) (h : n ≤ length t) where
   -- and none past the last
   past-last : n ≤ i → drop i (take n t) ≡ []
   past-last l = drop_of_length-le (take n t) {i = i} (simp length-take (omega arith))
+
+  -- no sector is left
+  pub absent-end : (x : ℕ) → n ≤ i → true ≡ absent x (drop i (take n t))
+  unfolding absent
+  absent-end x l = sym (ap (absent x) (past-last l))
+
+  -- the sector is named here
+  pub absent-found : (x : ℕ) → i < n → x ≡ get_or t i 0 → false ≡ absent x (drop i (take n t))
+  unfolding absent
+  absent-found x l e = sym (ap (absent x) (at_place l) ∙ simp (eq-eqb x (get_or t i 0) e))
+
+  -- it is not
+  pub absent-next : (x : ℕ) → i < n → (x ≡ get_or t i 0 → ⊥) → absent x (drop (i + 1) (take n t)) ≡ absent x (drop i (take n t))
+  unfolding absent
+  absent-next x l e = sym (ap (absent x) (at_place l) ∙ simp (ne_eqb x (get_or t i 0) e))
 
   -- no table is left
   pub apart-end : n ≤ i → true ≡ tables_apart (drop i (take n t))
